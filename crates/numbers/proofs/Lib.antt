@@ -1,0 +1,3 @@
+-- Laws of the definitions, for this crate and those above it.
+pub mod Truth
+pub mod Widths
