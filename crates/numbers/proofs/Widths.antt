@@ -10,7 +10,6 @@ use lib.Dec.{leb}
 use lib.ListN.{length, drop, getD, List·getD-eq-default}
 use borrow.Author.Tests.{le-leb, lt-leb, leb-true, leb-false}
 use Rattle.numbers.specs.Tests.{pick, both, between}
-use Rattle.numbers.specs.Ranges.{firstVlan, lastVlan}
 use Rattle.numbers.specs.Numberings.{vlans, fines, macs, numberOf, atLeast, atMost, startOf, endOf, inBlock, filled, bitOf, bitAt, mapBits, inMap}
 use Rattle.numbers.specs.Claims.{BlockFacts, Blocks, MapFacts, Maps}
 use Rattle.numbers.specs.declared.Numbering.{Numbering}

@@ -6,7 +6,6 @@ use mathlib.Core.List.{List}
 use mathlib.Core.Path.{_≡_}
 use lib.Dec.{leb}
 use lib.ListN.{length, drop}
-use Rattle.numbers.specs.Ranges.{firstVlan, lastVlan}
 use Rattle.numbers.specs.Numberings.{vlans, fines, macs, numberOf, startOf, endOf, inBlock, filled, bitAt, mapBits, inMap}
 use Rattle.numbers.specs.declared.Numbering.{Numbering}
 
@@ -32,8 +31,8 @@ pub record Blocks : Type 0 where
   pub at-24 : (b : List ℕ) → BlockFacts fines b
   pub at-48 : (b : List ℕ) → BlockFacts macs b
   -- VLAN blocks: start 0 reads as 1, end FFF as FFE
-  pub start-0 : (b : List ℕ) → numberOf vlans b ≡ 0 → startOf vlans b ≡ firstVlan
-  pub end-FFF : (b : List ℕ) → numberOf vlans (drop 2 b) ≡ 0xFFF → endOf vlans b ≡ lastVlan
+  pub start-0 : (b : List ℕ) → numberOf vlans b ≡ 0 → startOf vlans b ≡ 1
+  pub end-FFF : (b : List ℕ) → numberOf vlans (drop 2 b) ≡ 0xFFF → endOf vlans b ≡ 0xFFE
 
 pub record MapFacts (w : Numbering) (v : List ℕ) : Type 0 where
   -- membership: the number that a bit stands for is in the map exactly if the bit is set

@@ -1,0 +1,39 @@
+-- A port's settings and their ranges (document 01, "Settings"; refusal 1).
+-- Assumes nothing.
+use Prim.Native.Nat.{ℕ}
+use mathlib.Core.Bool.{Bool, not}
+use lib.Dec.{leb, eqb}
+use Rattle.numbers.specs.Tests.{pick, both, either, between}
+use Rattle.numbers.specs.Ranges.{individual, nicknameGood}
+use Rattle.frame.specs.declared.Settings.{Settings}
+
+-- "Port address and own inner address (individual addresses, different)"
+unfoldable pub addressesGood : Settings → Bool
+addressesGood s = both (individual (s .port)) (both (individual (s .inner)) (not (eqb (s .port) (s .inner))))
+
+-- "learning seconds 10 to 8191, or 0 for the default"
+unfoldable pub secondsGood : ℕ → Bool
+secondsGood n = either (eqb n 0) (between 10 8191 n)
+
+-- "own nickname 0001 to FFBF, Compact on or off, learning confidence 0 to 255"
+unfoldable pub numbersGood : Settings → Bool
+numbersGood s =
+    both (nicknameGood (s .nickname))
+    (both (leb (s .compact) 1)
+    (both (leb (s .confidence) 255)
+    (secondsGood (s .seconds))))
+
+unfoldable pub settingsGood : Settings → Bool
+settingsGood s = both (addressesGood s) (numbersGood s)
+
+-- Compact is on
+abbrev pub compactOn : Settings → Bool
+compactOn s = eqb (s .compact) 1
+
+-- the seconds that a learned record gets, `life` being the default
+abbrev pub lifeOf : ℕ → Settings → ℕ
+lifeOf life s = pick (eqb (s .seconds) 0) life (s .seconds)
+
+-- "the default 300"
+abbrev pub defaultLife : ℕ
+defaultLife = 300

@@ -1,0 +1,2 @@
+-- The promises about the definitions as a whole.
+pub mod Cases

@@ -1,0 +1,90 @@
+-- Reading a frame (document 01, "Numbers a caller can get" and "Address Flush"): one function from the settings, the frame, the
+-- table and the output area to the answer and both areas afterwards.
+-- Assumes nothing.
+use Prim.Native.Nat.{ℕ}
+use mathlib.Core.Bool.{Bool, not}
+use mathlib.Core.List.{List}
+use lib.Dec.{leb, eqb}
+use lib.ListN.{length}
+use Rattle.numbers.specs.Tests.{pick}
+use Rattle.numbers.specs.Result.{Result, got, check, andThen, settled}
+use Rattle.numbers.specs.Refusals.{settings-bad, table-length-bad, hops-spent, nickname-bad, source-group, not-channel, channel-bad, area-short}
+use Rattle.numbers.specs.After.{OnTable, OnBoth, onBoth}
+use Rattle.numbers.specs.Bytes.{num, laid}
+use Rattle.numbers.specs.Ranges.{individual}
+use Rattle.table.specs.Slots.{tableGood}
+use Rattle.table.specs.Learning.{learnt}
+use Rattle.table.specs.declared.Entry.{Entry}
+use Rattle.table.specs.declared.Learning.{Learning}
+use Rattle.flush.specs.Payload.{everyType}
+use Rattle.flush.specs.Flush.{clearing}
+use Rattle.frame.specs.Settings.{settingsGood, lifeOf, defaultLife}
+use Rattle.frame.specs.Front.{trillGroup}
+use Rattle.frame.specs.Header.{field, hopCount, ingressOf}
+use Rattle.frame.specs.Labels.{isChannel, labelRead}
+use Rattle.frame.specs.Fields.{Fields, nativeBytes}
+use Rattle.frame.specs.Formats.{parsed}
+use Rattle.frame.specs.declared.Settings.{Settings}
+use Rattle.receive.specs.Deciding.{nicknamesGood, isOnward, channelBytes, channelProtocol, channelPayload, flushProtocol, channelGood}
+use Rattle.receive.specs.declared.ReadAnswer.{ReadAnswer}
+use Rattle.receive.specs.declared.ReadAnswer.the-variants.{Refused, Onward, Delivered, OtherChannel, Flushed}
+
+-- what a delivered frame teaches: its source is behind its ingress nickname
+unfoldable pub lesson : ℕ → Settings → Fields → Entry
+lesson life s p = record {
+  label = labelRead (p .label);
+  mac = num (p .src);
+  nickname = ingressOf (p .header);
+  confidence = s .confidence;
+  seconds = lifeOf life s;
+}
+
+-- "the answer gives its length, its label, and learned, refreshed, kept or full"
+abbrev pub deliveredWith : Fields → List ℕ → OnTable Learning → OnBoth ReadAnswer
+deliveredWith p o c = onBoth (Delivered (length (nativeBytes p)) (labelRead (p .label)) (c .answer)) (c .table) (laid (nativeBytes p) o)
+
+-- the native frame is delivered and its source learned: 13, 16
+unfoldable pub native : ℕ → Settings → Fields → List ℕ → List ℕ → Result (OnBoth ReadAnswer)
+native life s p t o =
+    check (not (trillGroup (num (p .dst)))) not-channel
+    (check (leb (length (nativeBytes p)) (length o)) area-short
+    (got (deliveredWith p o (learnt (lesson life s p) t))))
+
+abbrev pub flushedWith : List ℕ → OnTable ℕ → OnBoth ReadAnswer
+flushedWith o c = onBoth (Flushed (c .answer)) (c .table) o
+
+-- "Channel frames write no native frame and teach no address": 6, 14, "other channel", 15
+unfoldable pub channel : Settings → Fields → List ℕ → List ℕ → Result (OnBoth ReadAnswer)
+channel s p t o =
+    field channelBytes (p .content)
+    (check (channelGood s p) channel-bad
+    (pick (eqb (channelProtocol (p .content)) flushProtocol)
+    (andThen (clearing everyType (ingressOf (p .header)) (channelPayload (p .content)) t) λ c. got (flushedWith o c))
+    (got (onBoth OtherChannel t o))))
+
+-- on the fields read: 8, 9, 11; onward; the rest
+unfoldable pub acted : ℕ → Settings → Fields → List ℕ → List ℕ → Result (OnBoth ReadAnswer)
+acted life s p t o =
+    check (not (eqb (hopCount (p .header)) 0)) hops-spent
+    (check (nicknamesGood s (p .header)) nickname-bad
+    (check (individual (num (p .src))) source-group
+    (pick (isOnward s (p .header))
+    (got (onBoth Onward t o))
+    (pick (isChannel (p .content))
+    (channel s p t o)
+    (native life s p t o)))))
+
+-- "Order: 1, 2, 3, 5; then the fields from left to right": what is parsed is all that is known of the frame
+unfoldable pub reading : ℕ → Settings → Result Fields → List ℕ → List ℕ → Result (OnBoth ReadAnswer)
+reading life s fields t o =
+    check (settingsGood s) settings-bad
+    (check (tableGood t) table-length-bad
+    (andThen fields λ p.
+    acted life s p t o))
+
+-- the reading call, `life` being the default of the learning seconds. "A refusal returns the number only and changes nothing"
+unfoldable pub receivedWith : ℕ → Settings → List ℕ → List ℕ → List ℕ → OnBoth ReadAnswer
+receivedWith life s f t o = settled (λ n. onBoth (Refused n) t o) (reading life s (parsed s f) t o)
+
+unfoldable pub received : Settings → List ℕ → List ℕ → List ℕ → OnBoth ReadAnswer
+received s f t o = receivedWith defaultLife s f t o

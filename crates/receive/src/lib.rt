@@ -1,0 +1,19 @@
+// Reading a frame. The definitions are in specs/.
+use table::Label;
+use table::Learning;
+
+// The answer of reading. Onward is document 01's own term: the frame is for another switch.
+pub enum ReadAnswer {
+    Refused(u8),
+    Onward,
+    Delivered {
+        length: u16,
+        label: Label,
+        learning: Learning,
+    },
+    OtherChannel,
+    Flushed(u16),
+}
+
+// What holds of the definition of reading.
+pub fn claims() {}
