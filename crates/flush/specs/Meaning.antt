@@ -47,7 +47,7 @@ macIn m k v =
 -- a MAC was gathered: a list entry, or a block that is not empty
 unfoldable pub someMacIn : ℕ → List ℕ → Bool
 someMacIn k v =
-    pick (eqb k 7) (leb 6 (length v))
+    pick (eqb k 7) (leb (macs .size) (length v))
     (pick (eqb k 8) (someFilled macs v)
     false)
 

@@ -1,7 +1,7 @@
 -- The TRILL header: V 2 bits, R 2, M 1, Op-Length 5, Hop Count 6, egress nickname 16, ingress nickname 16; then options.
 -- Assumes nothing.
 use Prim.Native.Nat.{ℕ, _+_, _*_, _/_, _%_, _^_}
-use mathlib.Core.Bool.{Bool, true, false}
+use mathlib.Core.Bool.{Bool, true}
 use mathlib.Core.List.{List}
 use lib.Dec.{leb, eqb}
 use lib.ListN.{length, take, drop}

@@ -1,4 +1,5 @@
 // Frames of both formats: settings, the destination in front, header, label, fields. The definitions are in specs/.
+ghost use Rattle.frame.specs.Claims.{HeaderLocal, LabelLocal, LabelsGood};
 
 // The six numbers of a port's settings, as they arrive.
 pub struct Settings {
@@ -11,4 +12,6 @@ pub struct Settings {
 }
 
 // What holds of the definitions of frames.
-pub fn claims() {}
+pub fn claims()
+    ensures { λ _. ⌜ HeaderLocal × LabelLocal × LabelsGood ⌝ }
+{}

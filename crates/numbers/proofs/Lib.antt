@@ -1,3 +1,6 @@
 -- Laws of the definitions, for this crate and those above it.
 pub mod Truth
+pub mod Answers
+pub mod Lists
+pub mod Bytes
 pub mod Widths

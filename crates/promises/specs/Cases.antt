@@ -102,7 +102,7 @@ meaningCases =
     ∷ means (tlv 5 (0xFF ∷ 0xFF ∷ 0xFE ∷ 0xFF ∷ [])) (finesFrom 0xFFFFFE 0xFFFFFF)
     ∷ []
 
--- P10's frame with the last byte of its inner destination, whose first five are given
+-- P10's frame with this inner destination
 abbrev pub p10 : List ℕ → List ℕ
 p10 dst =
     0x02 ∷ 0x00 ∷ 0x00 ∷ 0x00 ∷ 0x00 ∷ 0xA1 ∷ 0x02 ∷ 0x00 ∷ 0x00 ∷ 0x00 ∷ 0x00 ∷ 0xB2 ∷ 0x22 ∷ 0xF3

@@ -2,7 +2,7 @@
 -- table and the output area to the answer and both areas afterwards.
 -- Assumes nothing.
 use Prim.Native.Nat.{ℕ}
-use mathlib.Core.Bool.{Bool, not}
+use mathlib.Core.Bool.{not}
 use mathlib.Core.List.{List}
 use lib.Dec.{leb, eqb}
 use lib.ListN.{length}
@@ -44,8 +44,8 @@ abbrev pub deliveredWith : Fields → List ℕ → OnTable Learning → OnBoth R
 deliveredWith p o c = onBoth (Delivered (length (nativeBytes p)) (labelRead (p .label)) (c .answer)) (c .table) (laid (nativeBytes p) o)
 
 -- the native frame is delivered and its source learned: 13, 16
-unfoldable pub native : ℕ → Settings → Fields → List ℕ → List ℕ → Result (OnBoth ReadAnswer)
-native life s p t o =
+unfoldable pub delivery : ℕ → Settings → Fields → List ℕ → List ℕ → Result (OnBoth ReadAnswer)
+delivery life s p t o =
     check (not (trillGroup (num (p .dst)))) not-channel
     (check (leb (length (nativeBytes p)) (length o)) area-short
     (got (deliveredWith p o (learnt (lesson life s p) t))))
@@ -72,7 +72,7 @@ acted life s p t o =
     (got (onBoth Onward t o))
     (pick (isChannel (p .content))
     (channel s p t o)
-    (native life s p t o)))))
+    (delivery life s p t o)))))
 
 -- "Order: 1, 2, 3, 5; then the fields from left to right": what is parsed is all that is known of the frame
 unfoldable pub reading : ℕ → Settings → Result Fields → List ℕ → List ℕ → Result (OnBoth ReadAnswer)

@@ -1,4 +1,5 @@
 // Reading a frame. The definitions are in specs/.
+ghost use Rattle.receive.specs.Claims.{ReadRefusal, ReadingKeepsUnique, ReadsParsed};
 use table::Label;
 use table::Learning;
 
@@ -16,4 +17,6 @@ pub enum ReadAnswer {
 }
 
 // What holds of the definition of reading.
-pub fn claims() {}
+pub fn claims()
+    ensures { λ _. ⌜ ReadRefusal × ReadingKeepsUnique × ReadsParsed ⌝ }
+{}

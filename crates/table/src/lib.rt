@@ -1,4 +1,5 @@
 // The address table: records, slots, lookup, ageing, learning. The definitions are in specs/.
+ghost use Rattle.table.specs.Claims.{UnpackPacked, LearningKeepsUnique, AgeingKeepsUnique, KeptWritesNothing, AgeingRefusal};
 
 // A label: VLAN 10 and fine-grained 10 are different labels.
 pub enum Label {
@@ -58,4 +59,6 @@ pub enum SpoiltAnswer {
 }
 
 // What holds of the table's definitions.
-pub fn claims() {}
+pub fn claims()
+    ensures { λ _. ⌜ UnpackPacked × LearningKeepsUnique × AgeingKeepsUnique × KeptWritesNothing × AgeingRefusal ⌝ }
+{}

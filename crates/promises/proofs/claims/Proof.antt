@@ -1,11 +1,34 @@
--- What `promises::claims` ensures is proved in the modules beside.
+-- What `promises::claims` ensures is proved in the modules beside and in the crates below.
 -- Assumes nothing.
+use Rattle.numbers.proofs.Widths.{blocks-hold, maps-hold}
+use Rattle.table.proofs.Packing.{unpack-packed}
+use Rattle.table.proofs.Unique.{learning-unique, ageing-unique}
+use Rattle.table.proofs.Refusals.{kept-writes-nothing, ageing-refusal}
+use Rattle.flush.proofs.Validity.{validity}
+use Rattle.flush.proofs.Flushing.{flush-exact, flushing-keeps-unique, flush-refusal}
+use Rattle.frame.proofs.Local.{header-local, label-local, labels-good}
+use Rattle.convert.proofs.Areas.{convert-refusals}
+use Rattle.convert.proofs.Compacting.{reads-same}
+use Rattle.convert.proofs.Expanding.{expand-compacted, compact-expanded}
+use Rattle.receive.proofs.Outcomes.{read-refusal, reading-unique, reads-parsed}
+use Rattle.promises.specs.Claims.{RefusalChangesNothing, PairsStayUnique}
 use Rattle.promises.proofs.Cases.{cases-hold}
+use Rattle.promises.proofs.Example.{example-holds}
+use Rattle.promises.proofs.Interchange.{interchange}
 use Rattle.promises.proofs.claims.Statement.{statement}
 use Rattle.promises.proofs.claims.Tie as tie
 
+refusals : RefusalChangesNothing
+refusals = record { reading = read-refusal; flushing = flush-refusal; ageing = ageing-refusal; converting = convert-refusals }
+
+pairs : PairsStayUnique
+pairs = record { reading = reading-unique; flushing = flushing-keeps-unique; ageing = ageing-unique }
+
 returns : tie.Need-returns
-returns c = cases-hold
+returns c = (
+  (interchange, example-holds, expand-compacted, compact-expanded, refusals, validity, flush-exact, pairs, cases-hold),
+  (blocks-hold, maps-hold, unpack-packed, learning-unique, kept-writes-nothing, header-local, label-local, labels-good, reads-same, reads-parsed),
+)
 
 pub claims-spec : {M : Type 1} → statement M
 claims-spec = tie.close (tie.spec returns)

@@ -1,0 +1,184 @@
+-- The outcomes of reading: onward and other channels leave everything, a flush clears, a delivery learns a good entry; and what is
+-- refused leaves everything.
+-- Assumes nothing.
+use Prim.Native.Nat.{ℕ, _<_, _^_}
+use native.Mathlib.Omega.{arith}
+use mathlib.Core.Bool.{Bool, true, false}
+use mathlib.Core.List.{List, [], _++_}
+use mathlib.Core.Logic.{⊎-elim}
+use mathlib.Core.Path.{_≡_, refl, subst}
+use lib.Dec.{leb, eqb}
+use lib.ListN.{length}
+use lib.Seq.{take-append-seam}
+use borrow.Author.Tests.{leb-true}
+use Rattle.numbers.specs.Tests.{pick, either}
+use Rattle.numbers.specs.Result.{Result, refused, got, settled}
+use Rattle.numbers.specs.After.{OnTable, OnBoth, onBoth}
+use Rattle.numbers.specs.Bytes.{num}
+use Rattle.numbers.specs.Ranges.{individual, nicknameGood}
+use Rattle.numbers.proofs.Truth.{both-true, both-pass, between-is}
+use Rattle.numbers.proofs.Answers.{refused-got, got-got, check-got, pick-got, then-got}
+use Rattle.table.specs.Record.{labelGood, entryGood}
+use Rattle.table.specs.Learning.{learnt}
+use Rattle.table.specs.declared.Label.{Label}
+use Rattle.table.specs.Claims.{Sound, Unique}
+use Rattle.table.proofs.Unique.{learning-unique}
+use Rattle.flush.specs.Payload.{everyType}
+use Rattle.flush.specs.Flush.{clearing}
+use Rattle.flush.proofs.Flushing.{clearing-unique}
+use Rattle.frame.specs.Settings.{addressesGood, secondsGood, numbersGood, settingsGood, lifeOf, defaultLife, compactOn}
+use Rattle.frame.specs.Front.{addressIn, Front, unicast, multicast, refusedFront, inner, frontOf}
+use Rattle.frame.specs.Header.{ingressOf, egressOf}
+use Rattle.frame.specs.Labels.{labelRead}
+use Rattle.frame.specs.Fields.{Fields}
+use Rattle.frame.specs.Formats.{byFront, parsed}
+use Rattle.frame.specs.declared.Settings.{Settings}
+use Rattle.frame.proofs.Local.{labels-good}
+use Rattle.frame.proofs.Parts.{Good, general-is, compact-is}
+use Rattle.receive.specs.Deciding.{ingressAllowed, nicknamesGood, channelPayload}
+use Rattle.receive.specs.Receive.{lesson, deliveredWith, delivery, flushedWith, channel, acted, reading, receivedWith, received}
+use Rattle.receive.specs.Claims.{ReadRefusal, ReadingKeepsUnique, ReadsParsed}
+use Rattle.receive.specs.declared.ReadAnswer.{ReadAnswer}
+use Rattle.receive.specs.declared.ReadAnswer.the-variants.{Refused, Onward, OtherChannel}
+
+pub reads-parsed : ReadsParsed
+unfolding received receivedWith
+reads-parsed s f g t o e = rw e
+
+-- ---- what an accepted reading left
+
+-- a property of outcomes that holds of each that is not refused
+record Holds (life : ℕ) (s : Settings) (p : Fields) (t o : List ℕ) (P : OnBoth ReadAnswer → Type 0) : Type 0 where
+  onward : P (onBoth Onward t o)
+  other : P (onBoth OtherChannel t o)
+  flushes : (c : OnTable ℕ) → clearing everyType (ingressOf (p .header)) (channelPayload (p .content)) t ≡ got c → P (flushedWith o c)
+  delivers : nicknamesGood s (p .header) ≡ true → individual (num (p .src)) ≡ true → P (deliveredWith p o (learnt (lesson life s p) t))
+
+module _ (life : ℕ) (s : Settings) (p : Fields) (t o : List ℕ) (P : OnBoth ReadAnswer → Type 0) (h : Holds life s p t o P) where
+  channel-left : (a : OnBoth ReadAnswer) → channel s p t o ≡ got a → P a
+  unfolding channel
+  channel-left a q =
+      let c = check-got _ _ _ _ q in
+      let g = check-got _ _ _ _ (c .1) in
+      ⊎-elim
+      (λ v. let (x, r, e) = then-got _ _ _ (v .1) in subst P (got-got _ _ e) (h .flushes x r))
+      (λ v. subst P (got-got _ _ (v .1)) (h .other))
+      (pick-got _ _ _ _ (g .1))
+
+  delivery-left : nicknamesGood s (p .header) ≡ true → individual (num (p .src)) ≡ true → (a : OnBoth ReadAnswer) → delivery life s p t o ≡ got a → P a
+  unfolding delivery
+  delivery-left n i a q =
+      let c = check-got _ _ _ _ q in
+      let r = check-got _ _ _ _ (c .1) in
+      subst P (got-got _ _ (r .1)) (h .delivers n i)
+
+  acted-left : (a : OnBoth ReadAnswer) → acted life s p t o ≡ got a → P a
+  unfolding acted
+  acted-left a q =
+      let c = check-got _ _ _ _ q in
+      let n = check-got _ _ _ _ (c .1) in
+      let i = check-got _ _ _ _ (n .1) in
+      ⊎-elim
+      (λ v. subst P (got-got _ _ (v .1)) (h .onward))
+      (λ v.
+      ⊎-elim
+      (λ w. channel-left a (w .1))
+      (λ w. delivery-left (n .0) (i .0) a (w .1))
+      (pick-got _ _ _ _ (v .1)))
+      (pick-got _ _ _ _ (i .1))
+
+-- the outcome of the call: refused, or one of those
+module _ (life : ℕ) (s : Settings) (fields : Result Fields) (t o : List ℕ) (P : OnBoth ReadAnswer → Type 0)
+    (h : (p : Fields) → settingsGood s ≡ true → fields ≡ got p → Holds life s p t o P) where
+  reading-left : (a : OnBoth ReadAnswer) → reading life s fields t o ≡ got a → P a
+  unfolding reading
+  reading-left a q =
+      let c = check-got _ _ _ _ q in
+      let d = check-got _ _ _ _ (c .1) in
+      let (p, r, k) = then-got _ _ _ (d .1) in
+      acted-left life s p t o P (h p (c .0) r) a k
+
+settled-left : {A : Type 0} (P : A → Type 0) (leave : ℕ → A) (r : Result A) → ((n : ℕ) → P (leave n)) → ((a : A) → r ≡ got a → P a) → P (settled leave r)
+unfolding settled
+settled-left P leave (refused n) f g = f n
+settled-left P leave (got a) f g = g a refl
+
+-- ---- refusals
+
+not-refused : (life : ℕ) (s : Settings) (p : Fields) (t o : List ℕ) (n : ℕ) → Holds life s p t o (λ a. a .answer ≡ Refused n → (a .table ≡ t) × (a .out ≡ o))
+not-refused life s p t o n = record {
+  onward = λ e. (refl, refl);
+  other = λ e. (refl, refl);
+  flushes = λ c q e. let z : _≡_ {A = ℕ} 0 1 = cc in absurd (omega arith);
+  delivers = λ a b e. let z : _≡_ {A = ℕ} 0 1 = cc in absurd (omega arith);
+}
+
+pub read-refusal : ReadRefusal
+unfolding received receivedWith
+read-refusal s f t o n =
+    settled-left (λ (a : OnBoth ReadAnswer). a .answer ≡ Refused n → (a .table ≡ t) × (a .out ≡ o)) (λ k. onBoth (Refused k) t o) (reading defaultLife s (parsed s f) t o)
+    (λ k e. (refl, refl))
+    (reading-left defaultLife s (parsed s f) t o _ (λ p g q. not-refused defaultLife s p t o n))
+
+-- ---- no pair twice
+
+-- the label of an accepted frame is good
+parts-label : (p : Fields) → Good p → labelGood (labelRead (p .label)) ≡ true
+parts-label p g =
+    rw (take-append-seam (p .label) []) at (labels-good (p .label ++ []) (length (p .label)) (g .label []))
+
+fronts-good : (on : Bool) (d : Front) (f : List ℕ) (p : Fields) → byFront on d f ≡ got p → Good p
+unfolding byFront
+fronts-good on unicast f p q = general-is unicast f p q .good
+fronts-good on multicast f p q = general-is multicast f p q .good
+fronts-good on refusedFront f p q = refused-got _ p q
+fronts-good on inner f p q =
+    ⊎-elim
+    (λ v. compact-is f p (v .1) .good)
+    (λ v. refused-got _ p (v .1))
+    (pick-got _ _ _ _ q)
+
+parsed-good : (s : Settings) (f : List ℕ) (p : Fields) → parsed s f ≡ got p → Good p
+unfolding parsed
+parsed-good s f p q = fronts-good (compactOn s) (frontOf s (addressIn f)) f p (check-got _ _ _ _ q .1)
+
+-- the seconds that a good setting gives fit their bits
+life-fits : (n life : ℕ) (b : Bool) → eqb n 0 ≡ b → life < 2 ^ 13 → secondsGood n ≡ true → pick b life n < 2 ^ 13
+unfolding secondsGood either pick
+life-fits n life true e h g = h
+life-fits n life false e h g = let k = between-is 10 8191 n (rw e at g) in omega arith
+
+entry-good : (l : Label) (m n c k : ℕ) → labelGood l ≡ true → individual m ≡ true → nicknameGood n ≡ true → entryGood (record { label = l; mac = m; nickname = n; confidence = c; seconds = k }) ≡ true
+unfolding entryGood
+entry-good l m n c k a b d = both-pass _ _ a (both-pass _ _ b d)
+
+lesson-sound : (life : ℕ) (s : Settings) (p : Fields) → life < 2 ^ 13 → settingsGood s ≡ true → Good p → nicknamesGood s (p .header) ≡ true → individual (num (p .src)) ≡ true → Sound (lesson life s p)
+unfolding lesson settingsGood numbersGood nicknamesGood
+lesson-sound life s p small set g n i =
+    let a = both-true (addressesGood s) _ set in
+    let b = both-true (nicknameGood (s .nickname)) _ (a .1) in
+    let c = both-true (leb (s .compact) 1) _ (b .1) in
+    let d = both-true (leb (s .confidence) 255) (secondsGood (s .seconds)) (c .1) in
+    let e = both-true (nicknameGood (egressOf (p .header))) _ n in
+    let k = both-true (nicknameGood (ingressOf (p .header))) (ingressAllowed s (ingressOf (p .header))) (e .1) in
+    let m = leb-true (s .confidence) 255 (d .0) in
+    record {
+      good = entry-good (labelRead (p .label)) (num (p .src)) (ingressOf (p .header)) (s .confidence) (lifeOf life s) (parts-label p g) i (k .0);
+      confidence-fits = omega arith;
+      seconds-fit = life-fits (s .seconds) life (eqb (s .seconds) 0) refl small (d .1);
+    }
+
+keeps-unique : (life : ℕ) (s : Settings) (p : Fields) (t o : List ℕ) → life < 2 ^ 13 → settingsGood s ≡ true → Good p → Unique t → Holds life s p t o (λ a. Unique (a .table))
+keeps-unique life s p t o small set g u = record {
+  onward = u;
+  other = u;
+  flushes = λ c q. clearing-unique (ingressOf (p .header)) (channelPayload (p .content)) t c q u;
+  delivers = λ n i. learning-unique (lesson life s p) (lesson-sound life s p small set g n i) t u;
+}
+
+pub reading-unique : ReadingKeepsUnique
+unfolding received receivedWith
+reading-unique s f t o u =
+    settled-left (λ (a : OnBoth ReadAnswer). Unique (a .table)) (λ k. onBoth (Refused k) t o) (reading defaultLife s (parsed s f) t o)
+    (λ k. u)
+    (reading-left defaultLife s (parsed s f) t o _ (λ p set q. keeps-unique defaultLife s p t o (omega arith) set (parsed-good s f p q) u))
