@@ -1,9 +1,18 @@
 # Shinglebar. `make test` is the gate that every change passes.
-.PHONY: test fmt
+.PHONY: test fuzz archive fmt
 
 # Proves every crate from nothing, tries every must-fail edit and runs the tests.
 test:
 	@.ci/run
+
+# Proves the crates and writes the static library target/staticlib/libshinglebar.a.
+archive:
+	rt staticlib shinglebar
+
+# Compares the library with the second implementation on a million random inputs for each call. SHINGLEBAR_SEED and SHINGLEBAR_CASES
+# set the seed and the count.
+fuzz: archive
+	cd tests && SHINGLEBAR_CASES=$${SHINGLEBAR_CASES:-1000000} cargo test --offline --locked -- --nocapture
 
 # Lays out the Rattle and antt files.
 fmt:

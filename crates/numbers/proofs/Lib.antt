@@ -4,3 +4,4 @@ pub mod Answers
 pub mod Lists
 pub mod Bytes
 pub mod Widths
+pub mod Steps

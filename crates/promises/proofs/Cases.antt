@@ -6,7 +6,7 @@ use mathlib.Core.List.{List, [], _∷_, _++_}
 use mathlib.Core.Path.{_≡_, refl, sym, ap, _∙_}
 use native.Mathlib.Decide.{ℕ-discrete, decLt}
 use native.Mathlib.Omega.{arith}
-use Rattle.numbers.specs.Tests.{pick, both, either, any, between}
+use Rattle.numbers.specs.Tests.{pick, both, either, anyOf, between}
 use Rattle.numbers.specs.Result.{check, andThen, settled}
 use Rattle.numbers.specs.Bytes.{num, bytesOf, startsWith, laid, partsFrom, parts}
 use Rattle.numbers.specs.Ranges.{individual, nicknameGood, vlanGood}
@@ -33,7 +33,7 @@ unfolding pick both between num bytesOf individual nicknameGood vlanGood labelFr
 p1-holds = (refl, refl)
 
 flushes-hold : AllHold flushCases
-unfolding pick both either any between check andThen settled num bytesOf partsFrom parts individual nicknameGood vlanGood numberOf atLeast atMost startOf endOf inBlock filled inBlocks someFilled inList bitOf bitAt inMap labelFrom entryOf entryGood held slotOf unpacked tableGood onSlots countSlots tlvsFrom tlvs lengthGood corrupt piecesOf payloadOf nicknameMeant vlanIn fineIn macIn someMacIn bringsLabel bringsMac gathersMac labelMeant macMeant entryMeant slotMeant clearedSlot clearedBy clearing flushed
+unfolding pick both either anyOf between check andThen settled num bytesOf partsFrom parts individual nicknameGood vlanGood numberOf atLeast atMost startOf endOf inBlock filled inBlocks someFilled inList bitOf bitAt inMap labelFrom entryOf entryGood held slotOf unpacked tableGood onSlots countSlots tlvsFrom tlvs lengthGood corrupt piecesOf payloadOf nicknameMeant vlanIn fineIn macIn someMacIn bringsLabel bringsMac gathersMac labelMeant macMeant entryMeant slotMeant clearedSlot clearedBy clearing flushed
 flushes-hold = (refl, (refl, (refl, (refl, (refl, (refl, (refl, tt)))))))
 
 either-none : (b : Bool) → either b false ≡ b
@@ -48,7 +48,7 @@ block-means b low high s e (Vlan x) = rw (s, e)
 block-means b low high s e (Fine x) = refl
 
 type-1-means : (b : List ℕ) (low high : ℕ) → parts 4 b ≡ b ∷ [] → startOf vlans b ≡ low → endOf vlans b ≡ high → (l : Label) → bringsLabel everyType l (tlv 1 b) ≡ vlansFrom low high l
-unfolding bringsLabel both pick any vlanIn fineIn inBlocks inBlock
+unfolding bringsLabel both pick anyOf vlanIn fineIn inBlocks inBlock
 type-1-means b low high one s e (Vlan x) = rw (one, s, e) (either-none (between low high x))
 type-1-means b low high one s e (Fine x) = refl
 

@@ -6,7 +6,7 @@ use mathlib.Core.Bool.{true}
 use mathlib.Core.List.{List, [], _∷_}
 use mathlib.Core.Path.{_≡_, refl, ap}
 use lib.ListN.{length, length-replicate}
-use Rattle.numbers.specs.Tests.{pick, both, either, any, between}
+use Rattle.numbers.specs.Tests.{pick, both, either, anyOf, between}
 use Rattle.numbers.specs.Result.{got, check, andThen, settled}
 use Rattle.numbers.specs.Bytes.{num, bytesOf, startsWith, laid}
 use Rattle.numbers.specs.Ranges.{individual, nicknameGood, vlanGood}
@@ -46,7 +46,7 @@ unfolding compactedWhere compactedCall pick
 replaced = ap (λ r. read (frameOr p10Frame r) outBefore ∷ later) p10-converted
 
 both-run : (run farPort freed generalCalls ≡ seen) × (run farPort freed compactCalls ≡ seen)
-unfolding pick both either any between check andThen settled num bytesOf startsWith laid individual nicknameGood vlanGood labelFrom entryOf entryGood held slotOf unpacked recordNumber packed entryMatches tableGood onSlots firstSlot lowest holds placeOf nicknameAt lookedUp agedSlot aged spoiltSlot spoiltAt lowestSpoilt overMatch freeSlot intoFree learnedAt learnt addressesGood secondsGood numbersGood settingsGood trillGroup frontRefused frontOf headerLength labelLength labelRead nativeBytes outerLength generalRest general compactRest compact sizeGood byFront parsed ingressAllowed nicknamesGood isOnward lesson delivery acted reading receivedWith received called run
+unfolding pick both either anyOf between check andThen settled num bytesOf startsWith laid individual nicknameGood vlanGood labelFrom entryOf entryGood held slotOf unpacked recordNumber packed entryMatches tableGood onSlots firstSlot lowest holds placeOf nicknameAt lookedUp agedSlot aged spoiltSlot spoiltAt lowestSpoilt overMatch freeSlot intoFree learnedAt learnt addressesGood secondsGood numbersGood settingsGood trillGroup frontRefused frontOf headerLength labelLength labelRead nativeBytes outerLength generalRest general compactRest compact sizeGood byFront parsed ingressAllowed nicknamesGood isOnward lesson delivery acted reading receivedWith received called run
 both-run = (refl, refl)
 
 -- the first frames have 40 and 28 bytes

@@ -1,7 +1,7 @@
 -- What `promises::claims` ensures is proved in the modules beside and in the crates below.
 -- Assumes nothing.
 use Rattle.numbers.proofs.Widths.{blocks-hold, maps-hold}
-use Rattle.table.proofs.Packing.{unpack-packed}
+use Rattle.table.proofs.Packing.{unpack-packed, pack-unpacked}
 use Rattle.table.proofs.Unique.{learning-unique, ageing-unique}
 use Rattle.table.proofs.Refusals.{kept-writes-nothing, ageing-refusal}
 use Rattle.flush.proofs.Validity.{validity}
@@ -27,7 +27,7 @@ pairs = record { reading = reading-unique; flushing = flushing-keeps-unique; age
 returns : tie.Need-returns
 returns c = (
   (interchange, example-holds, expand-compacted, compact-expanded, refusals, validity, flush-exact, pairs, cases-hold),
-  (blocks-hold, maps-hold, unpack-packed, learning-unique, kept-writes-nothing, header-local, label-local, labels-good, reads-same, reads-parsed),
+  (blocks-hold, maps-hold, unpack-packed, pack-unpacked, learning-unique, kept-writes-nothing, header-local, label-local, labels-good, reads-same, reads-parsed),
 )
 
 pub claims-spec : {M : Type 1} → statement M

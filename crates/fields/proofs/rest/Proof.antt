@@ -1,0 +1,21 @@
+-- `fields::rest` meets its contract: a part to the end.
+-- Assumes nothing.
+use Rattle.fields.proofs.Laws.{rest-is}
+use borrow.Author.Needs.{needs}
+use Rattle.fields.proofs.rest.Statement.{statement}
+use Rattle.fields.proofs.rest.Tie as tie
+
+sub-result : tie.Need-sub-result
+sub-result c = search needs
+
+part-result-start : tie.Need-part-result-start
+part-result-start c = search needs
+
+part-result-end : tie.Need-part-result-end
+part-result-end c = search needs
+
+returns : tie.Need-returns
+returns c = rest-is (c .before .args .l .now) (c .before .args .k)
+
+pub rest-spec : {M : Type 1} → statement M
+rest-spec = tie.close (tie.spec sub-result part-result-start part-result-end returns)

@@ -1,0 +1,3 @@
+pub mod General
+pub mod Compact
+pub mod Outcomes

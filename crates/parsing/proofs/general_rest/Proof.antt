@@ -1,0 +1,76 @@
+-- `parsing::general_rest` meets its contract: each way out is an outcome of the definition.
+-- Assumes nothing.
+use native.Mathlib.Omega.{arith}
+use Rattle.parsing.proofs.General.{header-room, label-room, dst-cut, src-cut, content-cut, header-refused, label-refused, general-whole}
+use borrow.Author.Needs.{needs}
+use Rattle.parsing.proofs.general_rest.Statement.{statement}
+use Rattle.parsing.proofs.general_rest.Tie as tie
+
+header-length-requires : tie.Need-header-length-requires
+header-length-requires c κs = search needs
+
+enum-known-e : tie.Need-enum-known-e
+enum-known-e c = search needs
+
+enum-known-h : tie.Need-enum-known-h
+enum-known-h c = search needs
+
+rest-requires : tie.Need-rest-requires
+rest-requires c κs = search header-room
+
+returns : tie.Need-returns
+returns c = (search dst-cut, tt)
+
+rest-requires-2 : tie.Need-rest-requires-2
+rest-requires-2 c κs = search needs
+
+returns-2 : tie.Need-returns-2
+returns-2 c = (search src-cut, tt)
+
+rest-requires-3 : tie.Need-rest-requires-3
+rest-requires-3 c κs = search needs
+
+label-length-requires : tie.Need-label-length-requires
+label-length-requires c κs = search needs
+
+enum-known-e-2 : tie.Need-enum-known-e-2
+enum-known-e-2 c = search needs
+
+enum-known-n : tie.Need-enum-known-n
+enum-known-n c = search needs
+
+rest-requires-4 : tie.Need-rest-requires-4
+rest-requires-4 c κs = search label-room
+
+returns-3 : tie.Need-returns-3
+returns-3 c = (search content-cut, tt)
+
+returns-4 : tie.Need-returns-4
+returns-4 c = (search header-refused, tt)
+
+returns-5 : tie.Need-returns-5
+returns-5 c = (search label-refused, tt)
+
+returns-6 : tie.Need-returns-6
+returns-6 c = (search general-whole, omega arith)
+
+pub general-rest-spec : {M : Type 1} → statement M
+general-rest-spec =
+    tie.close
+    (tie.spec
+    header-length-requires
+    enum-known-e
+    enum-known-h
+    rest-requires
+    returns
+    rest-requires-2
+    returns-2
+    rest-requires-3
+    label-length-requires
+    enum-known-e-2
+    enum-known-n
+    rest-requires-4
+    returns-3
+    returns-4
+    returns-5
+    returns-6)

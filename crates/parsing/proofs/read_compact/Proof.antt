@@ -1,0 +1,81 @@
+-- `parsing::read_compact` meets its contract: the addresses, the label, then the rest.
+-- Assumes nothing.
+use native.Mathlib.Omega.{arith}
+use Rattle.parsing.proofs.General.{label-room}
+use Rattle.parsing.proofs.Compact.{tail-bound, c-dst-cut, c-src-cut, c-label, c-tail, c-whole}
+use borrow.Author.Needs.{needs}
+use Rattle.parsing.proofs.read_compact.Statement.{statement}
+use Rattle.parsing.proofs.read_compact.Tie as tie
+
+returns : tie.Need-returns
+returns c = search c-dst-cut
+
+rest-requires : tie.Need-rest-requires
+rest-requires c κs = search needs
+
+returns-2 : tie.Need-returns-2
+returns-2 c = search c-src-cut
+
+rest-requires-2 : tie.Need-rest-requires-2
+rest-requires-2 c κs = search needs
+
+label-length-requires : tie.Need-label-length-requires
+label-length-requires c κs = search needs
+
+enum-known-e : tie.Need-enum-known-e
+enum-known-e c = search needs
+
+enum-known-n : tie.Need-enum-known-n
+enum-known-n c = search needs
+
+rest-requires-3 : tie.Need-rest-requires-3
+rest-requires-3 c κs = search label-room
+
+tail-length-requires : tie.Need-tail-length-requires
+tail-length-requires c κs = search needs
+
+enum-known-e-2 : tie.Need-enum-known-e-2
+enum-known-e-2 c = search needs
+
+enum-known-h : tie.Need-enum-known-h
+enum-known-h c = search needs
+
+add-t15 : tie.Need-add-t15
+add-t15 c = omega (arith, tail-bound _ _ (c .before .before .before .tail-length .ensures .1) _ (c .before .h .given .1), label-room _ _ _ (c .before .before .before .before .before .before .n .given .1) (c .before .before .before .before .before .before .before .before .label-length .ensures))
+
+add-t16 : tie.Need-add-t16
+add-t16 c = omega (arith, tail-bound _ _ (c .before .before .before .tail-length .ensures .1) _ (c .before .h .given .1), label-room _ _ _ (c .before .before .before .before .before .before .n .given .1) (c .before .before .before .before .before .before .before .before .label-length .ensures))
+
+add-t17 : tie.Need-add-t17
+add-t17 c = omega (arith, tail-bound _ _ (c .before .before .before .tail-length .ensures .1) _ (c .before .h .given .1), label-room _ _ _ (c .before .before .before .before .before .before .n .given .1) (c .before .before .before .before .before .before .before .before .label-length .ensures))
+
+returns-3 : tie.Need-returns-3
+returns-3 c = search c-label
+
+returns-4 : tie.Need-returns-4
+returns-4 c = search c-tail
+
+returns-5 : tie.Need-returns-5
+returns-5 c = search c-whole
+
+pub read-compact-spec : {M : Type 1} → statement M
+read-compact-spec =
+    tie.close
+    (tie.spec
+    returns
+    rest-requires
+    returns-2
+    rest-requires-2
+    label-length-requires
+    enum-known-e
+    enum-known-n
+    rest-requires-3
+    tail-length-requires
+    enum-known-e-2
+    enum-known-h
+    add-t15
+    add-t16
+    add-t17
+    returns-3
+    returns-4
+    returns-5)

@@ -1,0 +1,319 @@
+-- Laws of a record's number in its two parts: each field, and what the record holds.
+-- Assumes nothing.
+use Prim.Native.Nat.{ℕ, _+_, _*_, _/_, _%_, _^_, _<_, _≤_}
+use mathlib.Core.Bool.{Bool, true, false, not, _&&_, _||_}
+use mathlib.Core.List.{List}
+use mathlib.Core.Path.{_≡_, refl, sym, ap, _∙_}
+use native.Mathlib.Omega.{arith}
+use lib.Dec.{leb, eqb}
+use lib.ListN.{length, take, drop, getD}
+use borrow.Author.Tests.{le-leb, leb-true, eq-eqb, ne-eqb, eqb-true, eqb-false}
+use Rattle.numbers.specs.Tests.{pick, both, either, between}
+use Rattle.numbers.specs.Ranges.{individual, groupBit, nicknameGood, vlanGood, lastAddress, lastFine}
+use native.Mathlib.Decide.{ℕ-discrete, decLt}
+use Rattle.numbers.specs.Bytes.{num}
+use Rattle.numbers.specs.Bytes.{AreBytes}
+use Rattle.numbers.proofs.Bytes.{num-one, num-add, num-part-lt}
+use Rattle.numbers.proofs.Truth.{both-true, both-left, both-right, pick-false, between-is, between-below, between-above}
+use Rattle.table.specs.Record.{stateOf, kindOf, labelOf, macOf, nicknameOf, confidenceOf, secondsOf, learnedState, configuredState, labelFrom, labelGood, entryOf, entryGood, held, slotOf, isFree, isSpoilt, isLearned, sameLabel, entryMatches, slotMatches}
+use Rattle.table.specs.declared.Label.{Label}
+use Rattle.table.specs.declared.Label.the-variants.{Vlan, Fine}
+use Rattle.table.specs.declared.Entry.{Entry}
+use Rattle.table.specs.declared.Slot.{Slot}
+use Rattle.table.specs.declared.Slot.the-variants.{Free, Spoilt, Learned, Configured}
+use Rattle.records.specs.Halves.{wholeOf, Small, heldOrSpoilt, keyIn, keyOf}
+use Rattle.records.specs.declared.Halves.{Halves}
+
+-- the library's tests are ours
+pub and-both : (a b : Bool) → a && b ≡ both a b
+unfolding both
+and-both true b = refl
+and-both false b = refl
+
+pub or-either : (a b : Bool) → a || b ≡ either a b
+unfolding either
+or-either true b = refl
+or-either false b = refl
+
+-- ---- what a record holds, by its number
+
+module _ (e : Entry) where
+  free-cases : (z g s : Bool) → isFree (pick z Free (pick g (pick s (Learned e) (Configured e)) Spoilt)) ≡ z
+  unfolding pick
+  free-cases true g s = refl
+  free-cases false true true = refl
+  free-cases false true false = refl
+  free-cases false false s = refl
+
+  spoilt-cases : (z g s : Bool) → isSpoilt (pick z Free (pick g (pick s (Learned e) (Configured e)) Spoilt)) ≡ both (not z) (not g)
+  unfolding pick both
+  spoilt-cases true g s = refl
+  spoilt-cases false true true = refl
+  spoilt-cases false true false = refl
+  spoilt-cases false false s = refl
+
+  -- z: the number is 0; r: the state is 1 or 2; s: the state is 1; g: the entry is good
+  learned-cases : (z r s g : Bool) → (s ≡ true → (z ≡ false) × (r ≡ true)) → isLearned (pick z Free (pick (both r g) (pick s (Learned e) (Configured e)) Spoilt)) ≡ both s g
+  unfolding pick both
+  learned-cases true r true g h = let p = h refl in cc
+  learned-cases true r false g h = refl
+  learned-cases false true true true h = refl
+  learned-cases false true true false h = refl
+  learned-cases false true false true h = refl
+  learned-cases false true false false h = refl
+  learned-cases false false true g h = let p = h refl in cc
+  learned-cases false false false g h = refl
+
+free-is : (n : ℕ) → isFree (slotOf n) ≡ eqb n 0
+unfolding slotOf held
+free-is n = free-cases (entryOf n) (eqb n 0) _ _
+
+spoilt-is : (n : ℕ) → isSpoilt (slotOf n) ≡ both (not (eqb n 0)) (not (both (between learnedState configuredState (stateOf n)) (entryGood (entryOf n))))
+unfolding slotOf held
+spoilt-is n = spoilt-cases (entryOf n) (eqb n 0) _ _
+
+state-tells : (n : ℕ) → eqb (stateOf n) learnedState ≡ true → (eqb n 0 ≡ false) × (between learnedState configuredState (stateOf n) ≡ true)
+unfolding between both
+state-tells n h =
+    let e : stateOf n ≡ 1 = eqb-true (stateOf n) 1 h in
+    (ne-eqb n 0 (λ z. omega arith), rw e)
+
+learned-is : (n : ℕ) → isLearned (slotOf n) ≡ both (eqb (stateOf n) learnedState) (entryGood (entryOf n))
+unfolding slotOf held
+learned-is n = learned-cases (entryOf n) (eqb n 0) _ (eqb (stateOf n) learnedState) (entryGood (entryOf n)) (state-tells n)
+
+pub slot-free : (n : ℕ) → isFree (slotOf n) ≡ true → Free ≡ slotOf n
+unfolding slotOf pick
+slot-free n h = rw (sym (free-is n) ∙ h)
+
+pub slot-held : (n : ℕ) → isFree (slotOf n) ≡ false → heldOrSpoilt n ≡ slotOf n
+unfolding slotOf heldOrSpoilt pick
+slot-held n h = rw (sym (free-is n) ∙ h)
+
+-- ---- held or spoilt, by the state and the entry
+
+module _ (n : ℕ) where
+  pub entry-bad : entryGood (entryOf n) ≡ false → Spoilt ≡ heldOrSpoilt n
+  unfolding heldOrSpoilt
+  entry-bad h = sym (pick-false _ _ _ (both-right _ _ h))
+
+  module _ (good : entryGood (entryOf n) ≡ true) where
+    pub state-learned : stateOf n ≡ 1 → Learned (entryOf n) ≡ heldOrSpoilt n
+    unfolding heldOrSpoilt held between both pick
+    state-learned e = rw (e, good)
+
+    pub state-configured : stateOf n ≡ 2 → Configured (entryOf n) ≡ heldOrSpoilt n
+    unfolding heldOrSpoilt held between both pick
+    state-configured e = rw (e, good)
+
+    pub state-other : (stateOf n ≡ 1 → ⊥) → (stateOf n ≡ 2 → ⊥) → Spoilt ≡ heldOrSpoilt n
+    unfolding heldOrSpoilt
+    state-other a b = sym (pick-false _ _ _ (both-left _ _ (go (decLt (stateOf n) 1))))
+      where
+        go : Dec (stateOf n < 1) → between learnedState configuredState (stateOf n) ≡ false
+        go (yes l) = between-below 1 2 (stateOf n) l
+        go (no l) = between-above 1 2 (stateOf n) (omega arith)
+
+-- ---- the parts
+
+zero-both : (a b : ℕ) (x y : Bool) → eqb a 0 ≡ x → eqb b 0 ≡ y → x && y ≡ eqb (a * 2 ^ 48 + b) 0
+zero-both a b true true p q =
+    let u = eqb-true a 0 p in
+    let v = eqb-true b 0 q in
+    sym (eq-eqb (a * 2 ^ 48 + b) 0 (omega arith))
+zero-both a b true false p q = let v = eqb-false b 0 q in sym (ne-eqb (a * 2 ^ 48 + b) 0 (λ z. v (omega arith)))
+zero-both a b false y p q = let u = eqb-false a 0 p in sym (ne-eqb (a * 2 ^ 48 + b) 0 (λ z. u (omega arith)))
+
+label-test : (k x : ℕ) → k < 2 → x < 2 ^ 24 → eqb k 1 || (leb 1 x && leb x 0xffe) ≡ labelGood (labelFrom k x)
+unfolding labelFrom vlanGood between pick
+label-test k x hk hx = go (ℕ-discrete k 0)
+  where
+    go : Dec (k ≡ 0) → eqb k 1 || (leb 1 x && leb x 0xffe) ≡ labelGood (pick (eqb k 0) (Vlan x) (Fine x))
+    go (yes e) = rw e (and-both (leb 1 x) (leb x 0xffe))
+    go (no e) = let o : k ≡ 1 = omega arith in rw o (sym (le-leb x lastFine (omega arith)))
+
+individual-test : (m : ℕ) → m < 2 ^ 48 → eqb (groupBit m) 0 ≡ individual m
+unfolding individual both
+individual-test m h = rw (le-leb m lastAddress (omega arith))
+
+three-tests : {a b c x y z : Bool} → a ≡ x → b ≡ y → c ≡ z → a && (b && c) ≡ both x (both y z)
+three-tests {a} {b} {c} p q r = rw (← p, ← q, ← r, and-both b c) (and-both a (both b c))
+
+vlan-from : (k x y : ℕ) → k ≡ 0 → y ≡ x → Vlan y ≡ labelFrom k x
+unfolding labelFrom pick
+vlan-from k x y e f = rw (e, f)
+
+fine-from : (k x y : ℕ) → (k ≡ 0 → ⊥) → y ≡ x → Fine y ≡ labelFrom k x
+unfolding labelFrom pick
+fine-from k x y e f = rw (ne-eqb k 0 e, f)
+
+vlan-small : (k x : ℕ) → k ≡ 0 → labelGood (labelFrom k x) ≡ true → x ≤ 0xffe
+unfolding labelFrom pick vlanGood
+vlan-small k x e h = between-is 1 0xffe x (rw e at h) .1
+
+module _ (h : Halves) where
+  pub free-halves : eqb (h .hi) 0 && eqb (h .lo) 0 ≡ isFree (slotOf (wholeOf h))
+  free-halves = zero-both (h .hi) (h .lo) _ _ refl refl ∙ sym (free-is (wholeOf h))
+
+  module _ (s : Small h) where
+    pub good-halves : (eqb (h .hi / 2 ^ 61 % 2) 1 || (leb 1 (h .hi / 2 ^ 37 % 2 ^ 24) && leb (h .hi / 2 ^ 37 % 2 ^ 24) 0xffe)) && (eqb (h .hi / 2 ^ 29 % 2) 0 && (leb 1 (h .lo / 2 ^ 21 % 2 ^ 16) && leb (h .lo / 2 ^ 21 % 2 ^ 16) 0xffbf)) ≡ entryGood (entryOf (wholeOf h))
+    unfolding entryGood entryOf nicknameGood between
+    good-halves =
+        let n : ℕ = wholeOf h in
+        let hi = s .hi-small in
+        let lo = s .lo-small in
+        let kind : h .hi / 2 ^ 61 % 2 ≡ kindOf n = omega arith in
+        let label : h .hi / 2 ^ 37 % 2 ^ 24 ≡ labelOf n = omega arith in
+        let group : h .hi / 2 ^ 29 % 2 ≡ groupBit (macOf n) = omega arith in
+        let nickname : h .lo / 2 ^ 21 % 2 ^ 16 ≡ nicknameOf n = omega arith in
+        rw (kind, label, group, nickname)
+        (three-tests (label-test (kindOf n) (labelOf n) (omega arith) (omega arith)) (individual-test (macOf n) (omega arith)) (and-both (leb 1 (nicknameOf n)) (leb (nicknameOf n) 0xffbf)))
+
+    pub state-halves : h .hi / 2 ^ 62 ≡ stateOf (wholeOf h)
+    state-halves =
+        let hi = s .hi-small in
+        let lo = s .lo-small in
+        omega arith
+
+    pub learned-halves : (x : ℕ) (g : Bool) → x ≡ stateOf (wholeOf h) → g ≡ entryGood (entryOf (wholeOf h)) → eqb x 1 && g ≡ isLearned (slotOf (wholeOf h))
+    learned-halves x g p q = rw (p, q) (and-both _ _ ∙ sym (learned-is (wholeOf h)))
+
+    pub spoilt-halves : (f : Bool) (x : ℕ) (g : Bool) → f ≡ isFree (slotOf (wholeOf h)) → x ≡ stateOf (wholeOf h) → g ≡ entryGood (entryOf (wholeOf h))
+        → not f && not ((leb 1 x && leb x 2) && g) ≡ isSpoilt (slotOf (wholeOf h))
+    unfolding between
+    spoilt-halves f x g o p q =
+        rw (o, free-is (wholeOf h), p, q, and-both (leb 1 (stateOf (wholeOf h))) (leb (stateOf (wholeOf h)) 2))
+        (and-both _ _ ∙ ap (λ b. both (not (eqb (wholeOf h) 0)) (not b)) (and-both _ _) ∙ sym (spoilt-is (wholeOf h)))
+
+    -- the label of a good record, which fits where it is a VLAN
+    module _ (good : entryGood (entryOf (wholeOf h)) ≡ true) where
+      pub vlan-fits : h .hi / 2 ^ 61 % 2 ≡ 0 → h .hi / 2 ^ 37 % 2 ^ 24 ≤ 0xffe
+      unfolding entryGood entryOf
+      vlan-fits e =
+          let n : ℕ = wholeOf h in
+          let hi = s .hi-small in
+          let lo = s .lo-small in
+          let k = vlan-small (kindOf n) (labelOf n) (omega arith) (both-true (labelGood (labelFrom (kindOf n) (labelOf n))) _ good .0) in
+          omega arith
+
+      pub label-vlan : h .hi / 2 ^ 61 % 2 ≡ 0 → Vlan (h .hi / 2 ^ 37 % 2 ^ 24) ≡ entryOf (wholeOf h) .label
+      unfolding entryOf
+      label-vlan e =
+          let hi = s .hi-small in
+          let lo = s .lo-small in
+          vlan-from (kindOf (wholeOf h)) (labelOf (wholeOf h)) (h .hi / 2 ^ 37 % 2 ^ 24) (omega arith) (omega arith)
+
+      pub label-fine : (h .hi / 2 ^ 61 % 2 ≡ 0 → ⊥) → Fine (h .hi / 2 ^ 37 % 2 ^ 24) ≡ entryOf (wholeOf h) .label
+      unfolding entryOf
+      label-fine e =
+          let hi = s .hi-small in
+          let lo = s .lo-small in
+          fine-from (kindOf (wholeOf h)) (labelOf (wholeOf h)) (h .hi / 2 ^ 37 % 2 ^ 24) (λ z. e (omega arith)) (omega arith)
+
+    pub entry-halves : (l : Label) → l ≡ entryOf (wholeOf h) .label → record {
+      label = l;
+      mac = h .hi % 2 ^ 37 * 2 ^ 11 + h .lo / 2 ^ 37;
+      nickname = h .lo / 2 ^ 21 % 2 ^ 16;
+      confidence = h .lo / 2 ^ 13 % 2 ^ 8;
+      seconds = h .lo % 2 ^ 13;
+    } ≡ entryOf (wholeOf h)
+    unfolding entryOf
+    entry-halves l e =
+        let n : ℕ = wholeOf h in
+        let hi = s .hi-small in
+        let lo = s .lo-small in
+        let mac : h .hi % 2 ^ 37 * 2 ^ 11 + h .lo / 2 ^ 37 ≡ macOf n = omega arith in
+        let nickname : h .lo / 2 ^ 21 % 2 ^ 16 ≡ nicknameOf n = omega arith in
+        let confidence : h .lo / 2 ^ 13 % 2 ^ 8 ≡ confidenceOf n = omega arith in
+        let seconds : h .lo % 2 ^ 13 ≡ secondsOf n = omega arith in
+        λ i. record { label = e i; mac = mac i; nickname = nickname i; confidence = confidence i; seconds = seconds i }
+
+-- a number from its fields, in two parts
+pub join-whole : (k l m n c t : ℕ) → 1 * 2 ^ 110 + k * 2 ^ 109 + l * 2 ^ 85 + m * 2 ^ 37 + n * 2 ^ 21 + c * 2 ^ 13 + t ≡ (((2 + k) * 2 ^ 24 + l) * 2 ^ 37 + m / 2 ^ 11) * 2 ^ 48 + (((m % 2 ^ 11 * 2 ^ 16 + n) * 2 ^ 8 + c) * 2 ^ 13 + t)
+join-whole k l m n c t = omega arith
+
+-- ---- a label and an address
+
+same-label-from : (k x j y : ℕ) → k ≤ 1 → j < 2 → eqb k j && eqb x y ≡ sameLabel (labelFrom k x) (labelFrom j y)
+unfolding labelFrom pick
+same-label-from k x j y hk hj = go (ℕ-discrete k 0) (ℕ-discrete j 0)
+  where
+    go : Dec (k ≡ 0) → Dec (j ≡ 0) → eqb k j && eqb x y ≡ sameLabel (pick (eqb k 0) (Vlan x) (Fine x)) (pick (eqb j 0) (Vlan y) (Fine y))
+    go (yes p) (yes q) = rw (p, q)
+    go (yes p) (no q) = let o : j ≡ 1 = omega arith in rw (p, o)
+    go (no p) (yes q) = let o : k ≡ 1 = omega arith in rw (q, o)
+    go (no p) (no q) =
+        let o : k ≡ 1 = omega arith in
+        let u : j ≡ 1 = omega arith in
+        rw (o, u)
+
+module _ (l : Label) (m : ℕ) (e : Entry) where
+  matches-cases : (z r g s : Bool) → (r ≡ true → z ≡ false) → slotMatches l m (pick z Free (pick (both r g) (pick s (Learned e) (Configured e)) Spoilt)) ≡ both (both r g) (entryMatches l m e)
+  unfolding pick both
+  matches-cases true true g s h = let p = h refl in cc
+  matches-cases true false g s h = refl
+  matches-cases false true true true h = refl
+  matches-cases false true true false h = refl
+  matches-cases false true false s h = refl
+  matches-cases false false g s h = refl
+
+held-some : (n : ℕ) → between learnedState configuredState (stateOf n) ≡ true → eqb n 0 ≡ false
+held-some n h = let k = between-is 1 2 (stateOf n) h in ne-eqb n 0 (λ z. omega arith)
+
+matches-is : (l : Label) (m n : ℕ) → slotMatches l m (slotOf n) ≡ both (both (between learnedState configuredState (stateOf n)) (entryGood (entryOf n))) (entryMatches l m (entryOf n))
+unfolding slotOf held
+matches-is l m n = matches-cases l m (entryOf n) (eqb n 0) (between learnedState configuredState (stateOf n)) (entryGood (entryOf n)) _ (held-some n)
+
+module _ (h : Halves) (s : Small h) (k x m : ℕ) (hk : k ≤ 1) where
+  entry-same : (eqb k (h .hi / 2 ^ 61 % 2) && eqb x (h .hi / 2 ^ 37 % 2 ^ 24)) && eqb m (h .hi % 2 ^ 37 * 2 ^ 11 + h .lo / 2 ^ 37) ≡ entryMatches (labelFrom k x) m (entryOf (wholeOf h))
+  unfolding entryMatches entryOf
+  entry-same =
+      let n : ℕ = wholeOf h in
+      let hi = s .hi-small in
+      let lo = s .lo-small in
+      let kind : h .hi / 2 ^ 61 % 2 ≡ kindOf n = omega arith in
+      let label : h .hi / 2 ^ 37 % 2 ^ 24 ≡ labelOf n = omega arith in
+      let mac : h .hi % 2 ^ 37 * 2 ^ 11 + h .lo / 2 ^ 37 ≡ macOf n = omega arith in
+      rw (kind, label, mac, same-label-from k x (kindOf n) (labelOf n) hk (omega arith)) (and-both _ _)
+
+  pub pair-halves : (y : ℕ) (g : Bool) → y ≡ stateOf (wholeOf h) → g ≡ entryGood (entryOf (wholeOf h))
+      → ((leb 1 y && leb y 2) && g) && ((eqb k (h .hi / 2 ^ 61 % 2) && eqb x (h .hi / 2 ^ 37 % 2 ^ 24)) && eqb m (h .hi % 2 ^ 37 * 2 ^ 11 + h .lo / 2 ^ 37)) ≡ slotMatches (labelFrom k x) m (slotOf (wholeOf h))
+  unfolding between
+  pair-halves y g p q =
+      rw (p, q, entry-same, and-both (leb 1 (stateOf (wholeOf h))) (leb (stateOf (wholeOf h)) 2), and-both (both (leb 1 (stateOf (wholeOf h))) (leb (stateOf (wholeOf h)) 2)) (entryGood (entryOf (wholeOf h))))
+      (and-both _ _ ∙ sym (matches-is (labelFrom k x) m (wholeOf h)))
+
+-- a record that holds a label and an address has these in its fields
+pair-fields : (k x m n : ℕ) → k ≤ 1 → slotMatches (labelFrom k x) m (slotOf n) ≡ true → (x ≡ labelOf n) × (m ≡ macOf n)
+unfolding entryMatches entryOf
+pair-fields k x m n hk h =
+    let a = both-true _ _ (sym (matches-is (labelFrom k x) m n) ∙ h) in
+    let b = both-true (sameLabel (labelFrom k x) (labelFrom (kindOf n) (labelOf n))) (eqb m (macOf n)) (a .1) in
+    let c : eqb k (kindOf n) && eqb x (labelOf n) ≡ true = same-label-from k x (kindOf n) (labelOf n) hk (omega arith) ∙ b .0 in
+    let d = both-true (eqb k (kindOf n)) (eqb x (labelOf n)) (sym (and-both _ _) ∙ c) in
+    (eqb-true x (labelOf n) (d .1), eqb-true m (macOf n) (b .1))
+
+pub pair-fits : (k x m n : ℕ) → k ≤ 1 → slotMatches (labelFrom k x) m (slotOf n) ≡ true → (x < 2 ^ 24) × (m < 2 ^ 48)
+pair-fits k x m n hk h = let p = pair-fields k x m n hk h in omega arith
+
+-- the state of a free record
+pub free-state : (n : ℕ) → isFree (slotOf n) ≡ true → stateOf n ≡ 0
+free-state n h = let z = eqb-true n 0 (sym (free-is n) ∙ h) in omega arith
+
+-- and of a learned one
+pub learned-state : (n : ℕ) → isLearned (slotOf n) ≡ true → stateOf n ≡ 1
+learned-state n h = eqb-true (stateOf n) 1 (both-true _ _ (sym (learned-is n) ∙ h) .0)
+
+-- a record that holds a label and an address has their key
+pub pair-key : (k x m n : ℕ) → k ≤ 1 → slotMatches (labelFrom k x) m (slotOf n) ≡ true → keyIn n ≡ keyOf x m
+pair-key k x m n hk h = let p = pair-fields k x m n hk h in omega arith
+
+-- ---- the first bytes of a record
+
+pub state-byte : (l : List ℕ) (at : ℕ) → AreBytes l → at + 14 ≤ length l → getD l at 0 / 64 ≡ stateOf (num (take 14 (drop at l)))
+state-byte l at b h =
+    omega (arith, num-add l at 1 13 h, num-one l at (omega arith), num-part-lt l (at + 1) 13 b (omega arith), b at)
+
+pub key-bytes : (l : List ℕ) (at : ℕ) → AreBytes l → at + 14 ≤ length l → num (take 8 (drop (at + 1) l)) ≡ keyIn (num (take 14 (drop at l)))
+key-bytes l at b h =
+    omega (arith, num-add l at 1 13 h, num-add l (at + 1) 8 5 (omega arith), num-part-lt l (at + 1 + 8) 5 b (omega arith), num-part-lt l (at + 1) 8 b (omega arith))

@@ -1,0 +1,12 @@
+-- `records::is_free` meets its contract: both parts are 0 exactly where the number is.
+-- Assumes nothing.
+use Rattle.records.proofs.Laws.{free-halves}
+use borrow.Author.Needs.{needs}
+use Rattle.records.proofs.is_free.Statement.{statement}
+use Rattle.records.proofs.is_free.Tie as tie
+
+returns : tie.Need-returns
+returns c = free-halves (c .before .before .args .h)
+
+pub is-free-spec : {M : Type 1} → statement M
+is-free-spec = tie.close (tie.spec returns)

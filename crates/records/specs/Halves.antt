@@ -1,0 +1,44 @@
+-- A record's number in the two parts that the code holds.
+-- Assumes nothing.
+use Prim.Native.Nat.{ℕ, _+_, _*_, _/_, _%_, _^_, _<_}
+use mathlib.Core.Path.{_≡_}
+use lib.Dec.{eqb}
+use Rattle.numbers.specs.Tests.{pick, both, between}
+use Rattle.table.specs.Record.{stateOf, learnedState, configuredState, entryOf, entryGood, held, labelNumber}
+use Rattle.table.specs.declared.Entry.{Entry}
+use Rattle.table.specs.declared.Slot.{Slot}
+use Rattle.table.specs.declared.Slot.the-variants.{Spoilt}
+use Rattle.records.specs.declared.Halves.{Halves}
+
+abbrev pub wholeOf : Halves → ℕ
+wholeOf h = h .hi * 2 ^ 48 + h .lo
+
+-- the parts are of 64 and of 48 bits
+pub record Small (h : Halves) : Type 0 where
+  pub hi-small : h .hi < 2 ^ 64
+  pub lo-small : h .lo < 2 ^ 48
+
+-- h has the record's number n
+pub record Halved (n : ℕ) (h : Halves) : Type 0 where
+  pub whole : n ≡ wholeOf h
+  pub small : Small h
+
+-- what a record that is not free holds (the rest of `slotOf`)
+unfoldable pub heldOrSpoilt : ℕ → Slot
+heldOrSpoilt n =
+    pick (both (between learnedState configuredState (stateOf n)) (entryGood (entryOf n)))
+    (held (stateOf n) (entryOf n))
+    Spoilt
+
+-- the parts of an entry fit their bits
+pub record Fits (e : Entry) : Type 0 where
+  pub label : labelNumber (e .label) < 2 ^ 24
+  pub mac : e .mac < 2 ^ 48
+  pub seconds : e .seconds < 2 ^ 13
+
+-- the bytes 1 to 8 of a record's number, and of one with this label and address
+abbrev pub keyIn : ℕ → ℕ
+keyIn n = n / 2 ^ 40 % 2 ^ 64
+
+abbrev pub keyOf : ℕ → ℕ → ℕ
+keyOf label mac = label % 2 ^ 19 * 2 ^ 45 + mac / 2 ^ 3

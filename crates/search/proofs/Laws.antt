@@ -1,0 +1,132 @@
+-- Laws of searching: each test looks at a slot's own bytes; what the telling bytes rule out; numbers that no good record can hold.
+-- Assumes nothing.
+use Prim.Native.Nat.{ℕ, _+_, _*_, _%_, _^_, _<_, _≤_}
+use mathlib.Core.Bool.{Bool, true, false}
+use mathlib.Core.List.{List}
+use mathlib.Core.Path.{_≡_, refl, sym, ap, _∙_}
+use native.Mathlib.Decide.{ℕ-discrete}
+use native.Mathlib.Omega.{arith}
+use lib.Dec.{eqb}
+use lib.ListN.{take, drop, length}
+use lib.Seq.{take-take}
+use borrow.Author.Tests.{eq-eqb, ne-eqb, eqb-true}
+use Rattle.numbers.specs.Tests.{pick, both, between}
+use Rattle.numbers.specs.Result.{check, settled}
+use Rattle.numbers.proofs.Truth.{not-true-false, both-true, between-is}
+use Rattle.numbers.specs.Bytes.{num}
+use Rattle.table.specs.Learning.{freeSlot}
+use Rattle.table.specs.Record.{recordBytes, recordOf, stateOf, nicknameOf, vlanKind, fineKind, labelFrom, slotOf, unpacked, isFree, isSpoilt, slotMatches}
+use Rattle.table.specs.Slots.{slotBytes, mostSlots, tableGood, slotAt, lowest}
+use Rattle.table.specs.Table.{holds, placeOf, nicknameAt, lookedUp, spoiltSlot, spoiltAt, lowestSpoilt}
+use Rattle.table.specs.declared.Label.{Label}
+use Rattle.table.specs.declared.Label.the-variants.{Vlan, Fine}
+use Rattle.table.specs.declared.Place.{Place}
+use Rattle.table.specs.declared.Place.the-variants.{At, Nowhere}
+use Rattle.table.specs.declared.LookupAnswer.the-variants as lookup
+use Rattle.table.specs.declared.SpoiltAnswer.the-variants as spoilt
+use Rattle.table.proofs.Slots.{Local, lowest-none, lowest-within}
+use Rattle.records.specs.Halves.{keyIn, keyOf}
+use Rattle.records.proofs.Laws.{pair-key, free-state, pair-fits}
+
+unpacked-near : (x : List ℕ) → unpacked (take slotBytes x) ≡ unpacked x
+unfolding unpacked
+unpacked-near x = ap (λ (r : List ℕ). slotOf (num r)) (take-take recordBytes slotBytes x (omega arith))
+
+pub holds-near : (l : Label) (m : ℕ) → Local (holds l m)
+unfolding holds
+holds-near l m x = ap (slotMatches l m) (unpacked-near x)
+
+pub free-near : Local freeSlot
+unfolding freeSlot
+free-near x = ap isFree (unpacked-near x)
+
+pub spoilt-near : Local spoiltSlot
+unfolding spoiltSlot
+spoilt-near x = ap isSpoilt (unpacked-near x)
+
+-- another key: the slot does not hold the pair
+pub other-key : (k x m : ℕ) → k ≤ 1 → (r : List ℕ) → (keyIn (recordOf r) ≡ keyOf x m → ⊥) → false ≡ holds (labelFrom k x) m r
+unfolding holds unpacked
+other-key k x m hk r h = sym (not-true-false _ (λ e. h (pair-key k x m (recordOf r) hk e)))
+
+-- another state: the slot is not free
+pub other-state : (r : List ℕ) → (stateOf (recordOf r) ≡ 0 → ⊥) → false ≡ freeSlot r
+unfolding freeSlot unpacked
+other-state r h = sym (not-true-false _ (λ e. h (free-state (recordOf r) e)))
+
+-- ---- a lookup of any numbers
+
+pub other-kind : (k x m : ℕ) (t : List ℕ) → 1 < k → Nowhere ≡ placeOf k x m t
+unfolding placeOf pick
+other-kind k x m t h = rw (ne-eqb k 0 (omega arith), ne-eqb k 1 (omega arith))
+
+pub place-from : (k x m : ℕ) (t : List ℕ) → k ≤ 1 → lowest (holds (labelFrom k x) m) t ≡ placeOf k x m t
+unfolding placeOf labelFrom pick
+place-from k x m t h = go (ℕ-discrete k 0)
+  where
+    go : Dec (k ≡ 0) → lowest (holds (pick (eqb k 0) (Vlan x) (Fine x)) m) t ≡ pick (eqb k 0) (lowest (holds (Vlan x) m) t) (pick (eqb k 1) (lowest (holds (Fine x) m) t) Nowhere)
+    go (yes e) = rw e
+    go (no e) = let o : k ≡ 1 = omega arith in rw o
+
+pub too-large : (k x m : ℕ) (t : List ℕ) → k ≤ 1 → ((x < 2 ^ 24) × (m < 2 ^ 48) → ⊥) → Nowhere ≡ placeOf k x m t
+unfolding holds unpacked
+too-large k x m t hk h =
+    lowest-none (holds (labelFrom k x) m) t (λ r. not-true-false _ (λ e. h (pair-fits k x m (recordOf r) hk e)))
+    ∙ place-from k x m t hk
+
+-- ---- the outcomes of a lookup
+
+pub place-within : (k x m : ℕ) (t : List ℕ) (j : ℕ) → placeOf k x m t ≡ At j → slotBytes * j + slotBytes ≤ length t
+unfolding placeOf pick
+place-within k x m t j e = go (eqb k vlanKind) (eqb k fineKind) e
+  where
+    within : (p : List ℕ → Bool) → lowest p t ≡ At j → slotBytes * j + slotBytes ≤ length t
+    within p h = let w = lowest-within p t j h in omega arith
+
+    go : (a b : Bool) → pick a (lowest (holds (Vlan x) m) t) (pick b (lowest (holds (Fine x) m) t) Nowhere) ≡ At j → slotBytes * j + slotBytes ≤ length t
+    go true b h = within (holds (Vlan x) m) h
+    go false true h = within (holds (Fine x) m) h
+    go false false h = let z : _≡_ {A = ℕ} 0 1 = cc in absurd (omega arith)
+
+-- a record's number is that of the bytes from its place on
+pub record-near : (j : ℕ) (t : List ℕ) → recordOf (slotAt j t) ≡ recordOf (drop (slotBytes * j) t)
+record-near j t = ap num (take-take recordBytes slotBytes (drop (slotBytes * j) t) (omega arith))
+
+module _ (k x m : ℕ) (t : List ℕ) (g : Bool) (good : g ≡ tableGood t) where
+  pub lookup-refused : g ≡ false → lookup.Refused 2 ≡ lookedUp k x m t
+  unfolding lookedUp settled check
+  lookup-refused h = rw (← good, h)
+
+  module _ (ok : g ≡ true) (p : Place) (place : p ≡ placeOf k x m t) where
+    pub lookup-found : (j : ℕ) → p ≡ At j → (n : ℕ) → n ≡ nicknameOf (recordOf (drop (slotBytes * j) t)) → lookup.Found n ≡ lookedUp k x m t
+    unfolding lookedUp settled check nicknameAt
+    lookup-found j e n f = rw (← good, ok, ← place, e, record-near j t) (ap lookup.Found f)
+
+    pub lookup-none : p ≡ Nowhere → lookup.Unknown ≡ lookedUp k x m t
+    unfolding lookedUp settled check nicknameAt
+    lookup-none e = rw (← good, ok, ← place, e)
+
+-- ---- the outcomes of the search for a spoilt slot
+
+module _ (t : List ℕ) (g : Bool) (good : g ≡ tableGood t) where
+  pub spoilt-refused : g ≡ false → spoilt.Refused 2 ≡ lowestSpoilt t
+  unfolding lowestSpoilt settled check
+  spoilt-refused h = rw (← good, h)
+
+  module _ (ok : g ≡ true) (p : Place) (place : p ≡ lowest spoiltSlot t) where
+    pub spoilt-found : (j : ℕ) → p ≡ At j → spoilt.Lowest j ≡ lowestSpoilt t
+    unfolding lowestSpoilt settled check spoiltAt
+    spoilt-found j e = rw (← good, ok, ← place, e)
+
+    pub spoilt-none : p ≡ Nowhere → spoilt.Clean ≡ lowestSpoilt t
+    unfolding lowestSpoilt settled check spoiltAt
+    spoilt-none e = rw (← good, ok, ← place, e)
+
+    -- the slots of a good table are few
+    pub spoilt-fits : (j : ℕ) → p ≡ At j → j < mostSlots
+    unfolding tableGood
+    spoilt-fits j e =
+        let w = lowest-within spoiltSlot t j (sym place ∙ e) in
+        let b = both-true (between 1 (slotBytes * mostSlots) (length t)) (eqb (length t % slotBytes) 0) (sym good ∙ ok) in
+        let c = between-is 1 (slotBytes * mostSlots) (length t) (b .0) in
+        omega arith

@@ -1,0 +1,132 @@
+// Searches over the slots of a table: for a label and an address, for a free slot, for a spoilt one. Each looks at the bytes of a slot
+// that tell most, and takes the slot apart only where they agree.
+ghost use Prim.Native.Nat.{_+_, _*_, _^_, _<_, _≤_};
+ghost use mathlib.Core.Path.{_≡_};
+ghost use lib.ListN.{length, drop};
+ghost use Rattle.table.specs.Learning.{freeSlot};
+ghost use Rattle.table.specs.Record.{recordBytes, labelFrom};
+ghost use Rattle.table.specs.Slots.{lowest};
+ghost use Rattle.table.specs.Table.{holds, placeOf, lookedUp, spoiltSlot, spoiltAt, lowestSpoilt};
+ghost use Rattle.records.specs.Halves.{keyOf};
+use numbers::refusals::TABLE_LENGTH_BAD;
+use table::LookupAnswer;
+use table::Place;
+use table::SpoiltAnswer;
+
+// Whether the slot at a place holds a label and an address, whose key is given.
+fn pair_at(t: &[u8], at: usize, key: u64, kind: u64, label: u64, mac: u64) -> bool
+    requires { ⌜ (at + recordBytes ≤ length (now t)) × ((key ≡ keyOf label mac) × (kind ≤ 1)) ⌝ }
+    ensures { λ r. ⌜ r ≡ holds (labelFrom kind label) mac (drop at (now (t .entry))) ⌝ }
+{
+    if records::key_at(t, at) != key {
+        return false;
+    }
+    records::holds_pair(records::split(t, at), kind, label, mac)
+}
+
+// The lowest slot with a label and an address.
+pub fn find_pair(t: &[u8], kind: u64, label: u64, mac: u64) -> Place
+    requires { ⌜ (kind ≤ 1) × ((label < 2 ^ 24) × (mac < 2 ^ 48)) ⌝ }
+    ensures { λ r. ⌜ r ≡ lowest (holds (labelFrom kind label) mac) (now (t .entry)) ⌝ }
+{
+    let key = records::key_of(label, mac);
+    let n = t.len() / 14;
+    let mut i = 0;
+    while i < n {
+        if pair_at(t, 14 * i, key, kind, label, mac) {
+            return Place::At(i);
+        }
+        i += 1;
+    }
+    Place::Nowhere
+}
+
+// Whether the slot at a place is free: only where its state bits are 0 is it looked at whole.
+fn free_at(t: &[u8], at: usize) -> bool
+    requires { ⌜ at + recordBytes ≤ length (now t) ⌝ }
+    ensures { λ r. ⌜ r ≡ freeSlot (drop at (now (t .entry))) ⌝ }
+{
+    if records::state_at(t, at) != 0 {
+        return false;
+    }
+    records::is_free(records::split(t, at))
+}
+
+// The lowest free slot.
+pub fn find_free(t: &[u8]) -> Place
+    ensures { λ r. ⌜ r ≡ lowest freeSlot (now (t .entry)) ⌝ }
+{
+    let n = t.len() / 14;
+    let mut j = 0;
+    while j < n {
+        if free_at(t, 14 * j) {
+            return Place::At(j);
+        }
+        j += 1;
+    }
+    Place::Nowhere
+}
+
+fn spoilt_at(t: &[u8], at: usize) -> bool
+    requires { ⌜ at + recordBytes ≤ length (now t) ⌝ }
+    ensures { λ r. ⌜ r ≡ spoiltSlot (drop at (now (t .entry))) ⌝ }
+{
+    records::is_spoilt(records::split(t, at))
+}
+
+// The lowest spoilt slot.
+fn find_spoilt(t: &[u8]) -> Place
+    ensures { λ r. ⌜ r ≡ lowest spoiltSlot (now (t .entry)) ⌝ }
+{
+    let n = t.len() / 14;
+    let mut k = 0;
+    while k < n {
+        if spoilt_at(t, 14 * k) {
+            return Place::At(k);
+        }
+        k += 1;
+    }
+    Place::Nowhere
+}
+
+// The lowest slot that a lookup of any numbers finds; those that no good record can hold find none.
+fn place_of(kind: u32, label: u32, mac: u64, t: &[u8]) -> Place
+    ensures { λ r. ⌜ r ≡ placeOf kind label mac (now (t .entry)) ⌝ }
+{
+    if 1 < kind {
+        return Place::Nowhere;
+    }
+    if 0xff_ffff < label {
+        return Place::Nowhere;
+    }
+    if 0xffff_ffff_ffff < mac {
+        return Place::Nowhere;
+    }
+    find_pair(t, kind as u64, label as u64, mac)
+}
+
+// Looks an address up: the nickname in the lowest matching slot, or none.
+pub fn lookup(kind: u32, label: u32, mac: u64, table: &[u8]) -> LookupAnswer
+    ensures { λ r. ⌜ r ≡ lookedUp kind label mac (now (table .entry)) ⌝ }
+{
+    if !records::table_good(table) {
+        return LookupAnswer::Refused(TABLE_LENGTH_BAD);
+    }
+    match place_of(kind, label, mac, table) {
+        Place::At(k) => LookupAnswer::Found(records::nickname_at(table, 14 * k)),
+        Place::Nowhere => LookupAnswer::Unknown,
+    }
+}
+
+// Names the lowest spoilt slot, or none.
+pub fn lowest_spoilt(table: &[u8]) -> SpoiltAnswer
+    ensures { λ r. ⌜ r ≡ lowestSpoilt (now (table .entry)) ⌝ }
+{
+    if !records::table_good(table) {
+        return SpoiltAnswer::Refused(TABLE_LENGTH_BAD);
+    }
+    match find_spoilt(table) {
+        Place::At(k) => SpoiltAnswer::Lowest(k as u16),
+        Place::Nowhere => SpoiltAnswer::Clean,
+    }
+}

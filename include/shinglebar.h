@@ -1,0 +1,357 @@
+/*
+ * Shinglebar: a TRILL edge-switch receiver.
+ *
+ * Rules for every call:
+ *
+ * - An area is a pointer and a length. The areas of one call (frame or payload, table, output or
+ *   working area) may not overlap; in particular a native frame cannot be delivered in place, into
+ *   the frame it came from.
+ * - A length may not exceed the memory behind its pointer.
+ * - A pointer given to a call of the archive is never NULL, also at length 0. The wrappers whose names
+ *   end in _any take NULL with length 0 and pass the address of a static byte instead.
+ * - Addresses are numbers below 2^48, the first byte on the wire most significant. 2^48 or more in a
+ *   setting is refusal 1.
+ * - `seconds` of shinglebar_age is 16 bits wide, 0 to 65,535: a larger number given to it loses its
+ *   high bits in the conversion, so a caller with more seconds ages by 65,535.
+ * - A refusal changes nothing. An output or working area keeps its bytes behind what is written.
+ *
+ * Usable from C99 and from C++.
+ */
+#ifndef SHINGLEBAR_H
+#define SHINGLEBAR_H
+
+#include <stddef.h>
+#include <stdint.h>
+
+/* The bytes of a record of the address table, and of the longest table. */
+#define SHINGLEBAR_RECORD_LENGTH 14
+#define SHINGLEBAR_TABLE_LENGTH_MAX 57344
+
+/* The bytes of the longest frame, and of a working area in which every compaction has room. */
+#define SHINGLEBAR_FRAME_LENGTH_MAX 9216
+#define SHINGLEBAR_COMPACT_LENGTH_MAX 9204
+
+/* The refusal numbers. */
+enum shinglebar_refusal_number {
+    /* settings outside their ranges */
+    SHINGLEBAR_REFUSAL_SETTINGS = 1,
+    /* table length 0, not a multiple of 14, or over 57,344 */
+    SHINGLEBAR_REFUSAL_TABLE_LENGTH = 2,
+    /* frame (or expanded result) outside 14 to 9,216 bytes */
+    SHINGLEBAR_REFUSAL_FRAME_LENGTH = 3,
+    /* 22F3 not at its place */
+    SHINGLEBAR_REFUSAL_NOT_TRILL = 4,
+    /* destination in front not for this port */
+    SHINGLEBAR_REFUSAL_NOT_FOR_THIS_PORT = 5,
+    /* the frame ends inside a field it needs, or content under 2 bytes */
+    SHINGLEBAR_REFUSAL_CUT = 6,
+    /* V is not 0 */
+    SHINGLEBAR_REFUSAL_VERSION = 7,
+    /* Hop Count 0 */
+    SHINGLEBAR_REFUSAL_HOP_COUNT = 8,
+    /* a nickname outside 0001 to FFBF, or ingress nickname our own */
+    SHINGLEBAR_REFUSAL_NICKNAME = 9,
+    /* label Ethertype or VLAN number not allowed */
+    SHINGLEBAR_REFUSAL_LABEL = 10,
+    /* inner source is a group address */
+    SHINGLEBAR_REFUSAL_GROUP_SOURCE = 11,
+    /* M and the General destination disagree */
+    SHINGLEBAR_REFUSAL_MULTICAST = 12,
+    /* inner destination :40 to :4F, content not 8946 */
+    SHINGLEBAR_REFUSAL_RESERVED_DESTINATION = 13,
+    /* channel: version or ERR not 0, or destination neither own inner address nor 01-80-C2-00-00-42 */
+    SHINGLEBAR_REFUSAL_CHANNEL = 14,
+    /* flush payload corrupt */
+    SHINGLEBAR_REFUSAL_PAYLOAD = 15,
+    /* output area shorter than the result */
+    SHINGLEBAR_REFUSAL_OUTPUT_LENGTH = 16,
+    /* frame may not be compacted */
+    SHINGLEBAR_REFUSAL_NOT_COMPACTABLE = 17,
+    /* a General frame given where Compact is required */
+    SHINGLEBAR_REFUSAL_GENERAL = 18
+};
+
+/* The kinds of results that are no refusals, by call. */
+enum shinglebar_receive_kind {
+    SHINGLEBAR_RECEIVE_ONWARD = 64,
+    /* shinglebar_native_length, _learning, _label_kind, _label */
+    SHINGLEBAR_RECEIVE_DELIVERED = 65,
+    SHINGLEBAR_RECEIVE_OTHER_CHANNEL = 66,
+    /* shinglebar_count */
+    SHINGLEBAR_RECEIVE_FLUSHED = 67
+};
+
+enum shinglebar_flush_kind {
+    /* shinglebar_count */
+    SHINGLEBAR_FLUSH_FLUSHED = 67
+};
+
+enum shinglebar_compact_kind {
+    /* shinglebar_written_length */
+    SHINGLEBAR_COMPACT_WRITTEN = 64
+};
+
+enum shinglebar_expand_kind {
+    /* shinglebar_written_length */
+    SHINGLEBAR_EXPAND_WRITTEN = 64
+};
+
+enum shinglebar_send_kind {
+    /* from the start of the working area; shinglebar_written_length */
+    SHINGLEBAR_SEND_COMPACTED = 64,
+    /* the received frame itself */
+    SHINGLEBAR_SEND_ITSELF = 65
+};
+
+enum shinglebar_lookup_kind {
+    /* shinglebar_nickname */
+    SHINGLEBAR_LOOKUP_FOUND = 64,
+    SHINGLEBAR_LOOKUP_NONE = 65
+};
+
+enum shinglebar_age_kind {
+    SHINGLEBAR_AGE_DONE = 64
+};
+
+enum shinglebar_spoilt_kind {
+    /* shinglebar_slot */
+    SHINGLEBAR_SPOILT_SLOT = 64,
+    SHINGLEBAR_SPOILT_NONE = 65
+};
+
+/* What learning did with the inner source of a frame delivered. */
+enum shinglebar_learning_outcome {
+    SHINGLEBAR_LEARNING_LEARNED = 0,
+    SHINGLEBAR_LEARNING_REFRESHED = 1,
+    SHINGLEBAR_LEARNING_KEPT = 2,
+    SHINGLEBAR_LEARNING_FULL = 3
+};
+
+/* Of a frame delivered, and the first argument of a lookup. */
+enum shinglebar_label_kind_number {
+    SHINGLEBAR_LABEL_VLAN = 0,
+    SHINGLEBAR_LABEL_FINE_GRAINED = 1
+};
+
+#ifdef __cplusplus
+extern "C" {
+#endif
+
+/*
+ * The settings of a port are six parameters:
+ *   port        the port's address, an individual address
+ *   inner       the own inner address, an individual address other than the port's
+ *   nickname    the own nickname, 0001 to FFBF
+ *   compact     1 Compact on, 0 off
+ *   confidence  learning confidence, 0 to 255
+ *   seconds     learning seconds, 10 to 8191, or 0 for the default 300
+ */
+
+/* The nickname in the lowest slot with the label and address, or none. `kind` 0 is VLAN, 1 is
+ * fine-grained; any other kind, and labels and addresses out of range, find none. */
+uint64_t shinglebar_lookup(uint32_t kind, uint32_t label, uint64_t mac, const uint8_t *table,
+                           size_t table_len);
+
+/* Learned records with at most so many seconds become free, other learned ones lose them. */
+uint64_t shinglebar_age(uint16_t seconds, uint8_t *table, size_t table_len);
+
+/* The lowest spoilt slot, counted from 0, or none. */
+uint64_t shinglebar_spoilt(const uint8_t *table, size_t table_len);
+
+#ifndef SHINGLEBAR_TABLE_ONLY
+
+/* Carries out the payload of an Address Flush. `ingress` is any number; one outside 0001 to FFBF
+ * matches no record. */
+uint64_t shinglebar_flush(uint32_t ingress, const uint8_t *payload, size_t payload_len,
+                          uint8_t *table, size_t table_len);
+
+/* Reads one Ethernet frame without FCS: delivers a native frame and learns its source, or carries out
+ * a flush. */
+uint64_t shinglebar_receive(uint64_t port, uint64_t inner, uint32_t nickname, uint32_t compact,
+                            uint32_t confidence, uint32_t seconds, const uint8_t *frame,
+                            size_t frame_len, uint8_t *table, size_t table_len, uint8_t *out,
+                            size_t out_len);
+
+/* Compacts a General frame for a far port with these settings. */
+uint64_t shinglebar_compact(uint64_t port, uint64_t inner, uint32_t nickname, uint32_t compact,
+                            uint32_t confidence, uint32_t seconds, const uint8_t *frame,
+                            size_t frame_len, uint8_t *out, size_t out_len);
+
+/* Expands a Compact frame for a far port with these settings. `tagged` 0 writes no outer tag (`tag` is
+ * not read), 1 the number in `tag`, 1 to FFE. */
+uint64_t shinglebar_expand(uint64_t port, uint64_t inner, uint32_t nickname, uint32_t compact,
+                           uint32_t confidence, uint32_t seconds, uint64_t outer_source,
+                           uint32_t tagged, uint32_t tag, const uint8_t *frame, size_t frame_len,
+                           uint8_t *out, size_t out_len);
+
+/* Chooses what to send to a far port with these settings: the compacted frame, or the frame itself. */
+uint64_t shinglebar_send(uint64_t port, uint64_t inner, uint32_t nickname, uint32_t compact,
+                         uint32_t confidence, uint32_t seconds, const uint8_t *frame,
+                         size_t frame_len, uint8_t *work, size_t work_len);
+
+#endif /* SHINGLEBAR_TABLE_ONLY */
+
+#ifdef __cplusplus
+}
+#endif
+
+/* Decoders of results. */
+
+/* 1 if the result is a refusal, else 0. */
+static inline int shinglebar_is_refusal(uint64_t result)
+{
+    return result < 64;
+}
+
+/* The refusal number, or 0 if the result is no refusal. */
+static inline unsigned shinglebar_refusal(uint64_t result)
+{
+    return result < 64 ? (unsigned)result : 0u;
+}
+
+/* The kind, or 0 if the result is a refusal. */
+static inline unsigned shinglebar_kind(uint64_t result)
+{
+    return result < 64 ? 0u : (unsigned)(result & 0xFFu);
+}
+
+/* Of SHINGLEBAR_RECEIVE_DELIVERED: the bytes written to the output area. */
+static inline size_t shinglebar_native_length(uint64_t result)
+{
+    return (size_t)((result >> 8) & 0xFFFFu);
+}
+
+/* Of SHINGLEBAR_RECEIVE_DELIVERED: one of enum shinglebar_learning_outcome. */
+static inline unsigned shinglebar_learning(uint64_t result)
+{
+    return (unsigned)((result >> 24) & 0x3u);
+}
+
+/* Of SHINGLEBAR_RECEIVE_DELIVERED: one of enum shinglebar_label_kind_number. */
+static inline unsigned shinglebar_label_kind(uint64_t result)
+{
+    return (unsigned)((result >> 32) & 0x1u);
+}
+
+/* Of SHINGLEBAR_RECEIVE_DELIVERED: the VLAN or fine-grained label of the frame. */
+static inline uint32_t shinglebar_label(uint64_t result)
+{
+    return (uint32_t)((result >> 40) & 0xFFFFFFu);
+}
+
+/* Of SHINGLEBAR_RECEIVE_FLUSHED and SHINGLEBAR_FLUSH_FLUSHED: the records cleared. */
+static inline unsigned shinglebar_count(uint64_t result)
+{
+    return (unsigned)((result >> 8) & 0xFFFFu);
+}
+
+/* Of SHINGLEBAR_COMPACT_WRITTEN, SHINGLEBAR_EXPAND_WRITTEN and SHINGLEBAR_SEND_COMPACTED: the bytes
+ * written to the output or working area. */
+static inline size_t shinglebar_written_length(uint64_t result)
+{
+    return (size_t)((result >> 8) & 0xFFFFu);
+}
+
+/* Of SHINGLEBAR_LOOKUP_FOUND: the nickname. */
+static inline uint16_t shinglebar_nickname(uint64_t result)
+{
+    return (uint16_t)((result >> 8) & 0xFFFFu);
+}
+
+/* Of SHINGLEBAR_SPOILT_SLOT: the slot, counted from 0. */
+static inline unsigned shinglebar_slot(uint64_t result)
+{
+    return (unsigned)((result >> 8) & 0xFFFFu);
+}
+
+/*
+ * Wrappers that take NULL with length 0 for any area.
+ *
+ * A wrapper that a program does not use is not emitted and asks nothing of the archive. Where the
+ * compiler is told to emit unused inline functions (-fkeep-inline-functions), a program that uses only
+ * lookup, age and spoilt can define SHINGLEBAR_TABLE_ONLY to leave the other calls out.
+ */
+
+static inline uint8_t *shinglebar_area(uint8_t *area, size_t length)
+{
+    static uint8_t none = 0;
+    return area == NULL && length == 0 ? &none : area;
+}
+
+static inline const uint8_t *shinglebar_const_area(const uint8_t *area, size_t length)
+{
+    static const uint8_t none = 0;
+    return area == NULL && length == 0 ? &none : area;
+}
+
+static inline uint64_t shinglebar_lookup_any(uint32_t kind, uint32_t label, uint64_t mac,
+                                             const uint8_t *table, size_t table_len)
+{
+    return shinglebar_lookup(kind, label, mac, shinglebar_const_area(table, table_len), table_len);
+}
+
+static inline uint64_t shinglebar_age_any(uint16_t seconds, uint8_t *table, size_t table_len)
+{
+    return shinglebar_age(seconds, shinglebar_area(table, table_len), table_len);
+}
+
+static inline uint64_t shinglebar_spoilt_any(const uint8_t *table, size_t table_len)
+{
+    return shinglebar_spoilt(shinglebar_const_area(table, table_len), table_len);
+}
+
+#ifndef SHINGLEBAR_TABLE_ONLY
+
+static inline uint64_t shinglebar_flush_any(uint32_t ingress, const uint8_t *payload,
+                                            size_t payload_len, uint8_t *table, size_t table_len)
+{
+    return shinglebar_flush(ingress, shinglebar_const_area(payload, payload_len), payload_len,
+                            shinglebar_area(table, table_len), table_len);
+}
+
+static inline uint64_t shinglebar_receive_any(uint64_t port, uint64_t inner, uint32_t nickname,
+                                              uint32_t compact, uint32_t confidence,
+                                              uint32_t seconds, const uint8_t *frame,
+                                              size_t frame_len, uint8_t *table, size_t table_len,
+                                              uint8_t *out, size_t out_len)
+{
+    return shinglebar_receive(port, inner, nickname, compact, confidence, seconds,
+                              shinglebar_const_area(frame, frame_len), frame_len,
+                              shinglebar_area(table, table_len), table_len,
+                              shinglebar_area(out, out_len), out_len);
+}
+
+static inline uint64_t shinglebar_compact_any(uint64_t port, uint64_t inner, uint32_t nickname,
+                                              uint32_t compact, uint32_t confidence,
+                                              uint32_t seconds, const uint8_t *frame,
+                                              size_t frame_len, uint8_t *out, size_t out_len)
+{
+    return shinglebar_compact(port, inner, nickname, compact, confidence, seconds,
+                              shinglebar_const_area(frame, frame_len), frame_len,
+                              shinglebar_area(out, out_len), out_len);
+}
+
+static inline uint64_t shinglebar_expand_any(uint64_t port, uint64_t inner, uint32_t nickname,
+                                             uint32_t compact, uint32_t confidence,
+                                             uint32_t seconds, uint64_t outer_source,
+                                             uint32_t tagged, uint32_t tag, const uint8_t *frame,
+                                             size_t frame_len, uint8_t *out, size_t out_len)
+{
+    return shinglebar_expand(port, inner, nickname, compact, confidence, seconds, outer_source,
+                             tagged, tag, shinglebar_const_area(frame, frame_len), frame_len,
+                             shinglebar_area(out, out_len), out_len);
+}
+
+static inline uint64_t shinglebar_send_any(uint64_t port, uint64_t inner, uint32_t nickname,
+                                           uint32_t compact, uint32_t confidence, uint32_t seconds,
+                                           const uint8_t *frame, size_t frame_len, uint8_t *work,
+                                           size_t work_len)
+{
+    return shinglebar_send(port, inner, nickname, compact, confidence, seconds,
+                           shinglebar_const_area(frame, frame_len), frame_len,
+                           shinglebar_area(work, work_len), work_len);
+}
+
+#endif /* SHINGLEBAR_TABLE_ONLY */
+
+#endif /* SHINGLEBAR_H */

@@ -1,0 +1,183 @@
+//! Each call made twice, to the library and to the second implementation: the words and all bytes of
+//! every area must be equal.
+
+use crate::boundary;
+use crate::random::Random;
+use crate::reference::{self, Settings};
+
+/// Bytes in hexadecimal.
+pub fn hex(bytes: &[u8]) -> String {
+    bytes.iter().map(|byte| format!("{byte:02X}")).collect()
+}
+
+/// The first differing byte of an area, with some bytes from there.
+fn difference(name: &str, library: &[u8], reference: &[u8]) -> String {
+    match library.iter().zip(reference).position(|(a, b)| a != b) {
+        Some(at) => format!(
+            "{name} differs from byte {at}: library {}.., paper {}..\n",
+            hex(&library[at..library.len().min(at + 16)]),
+            hex(&reference[at..reference.len().min(at + 16)])
+        ),
+        None => String::new(),
+    }
+}
+
+fn words(library: u64, reference: u64) -> String {
+    if library == reference {
+        String::new()
+    } else {
+        format!("the word differs: library {library:#x}, paper {reference:#x}\n")
+    }
+}
+
+#[inline]
+pub fn lookup(random: &mut Random, kind: u32, label: u32, mac: u64, table: &[u8]) -> u64 {
+    let library = boundary::lookup(random, kind, label, mac, table);
+    let paper = reference::lookup(kind, label, mac, table);
+    assert!(
+        library == paper,
+        "lookup: {}kind {kind:#x}\nlabel {label:#x}\nmac {mac:#x}\ntable {}",
+        words(library, paper),
+        hex(table)
+    );
+    paper
+}
+
+#[inline]
+pub fn age(random: &mut Random, seconds: u16, table: &mut [u8]) -> u64 {
+    let given = table.to_vec();
+    let mut after = table.to_vec();
+    let library = boundary::age(random, seconds, &mut after);
+    let paper = reference::age(seconds, table);
+    assert!(
+        library == paper && after == table,
+        "age: {}{}seconds {seconds}\ntable {}",
+        words(library, paper),
+        difference("table", &after, table),
+        hex(&given)
+    );
+    paper
+}
+
+#[inline]
+pub fn spoilt(random: &mut Random, table: &[u8]) -> u64 {
+    let library = boundary::spoilt(random, table);
+    let paper = reference::spoilt(table);
+    assert!(
+        library == paper,
+        "spoilt: {}table {}",
+        words(library, paper),
+        hex(table)
+    );
+    paper
+}
+
+#[inline]
+pub fn flush(random: &mut Random, ingress: u32, payload: &[u8], table: &mut [u8]) -> u64 {
+    let given = table.to_vec();
+    let mut after = table.to_vec();
+    let library = boundary::flush(random, ingress, payload, &mut after);
+    let paper = reference::flush(ingress, payload, table);
+    assert!(
+        library == paper && after == table,
+        "flush: {}{}ingress {ingress:#x}\npayload {}\ntable {}",
+        words(library, paper),
+        difference("table", &after, table),
+        hex(payload),
+        hex(&given)
+    );
+    paper
+}
+
+#[inline]
+pub fn receive(
+    random: &mut Random,
+    settings: &Settings,
+    frame: &[u8],
+    table: &mut [u8],
+    out: &mut [u8],
+) -> u64 {
+    let (given_table, given_out) = (table.to_vec(), out.to_vec());
+    let (mut after_table, mut after_out) = (table.to_vec(), out.to_vec());
+    let library = boundary::receive(random, settings, frame, &mut after_table, &mut after_out);
+    let paper = reference::receive(settings, frame, table, out);
+    assert!(
+        library == paper && after_table == table && after_out == out,
+        "receive: {}{}{}{settings:#x?}\nframe {}\ntable {}\noutput area {}",
+        words(library, paper),
+        difference("table", &after_table, table),
+        difference("output area", &after_out, out),
+        hex(frame),
+        hex(&given_table),
+        hex(&given_out)
+    );
+    paper
+}
+
+#[inline]
+pub fn compact(random: &mut Random, settings: &Settings, frame: &[u8], out: &mut [u8]) -> u64 {
+    let given = out.to_vec();
+    let mut after = out.to_vec();
+    let library = boundary::compact(random, settings, frame, &mut after);
+    let paper = reference::compact(settings, frame, out);
+    assert!(
+        library == paper && after == out,
+        "compact: {}{}{settings:#x?}\nframe {}\noutput area {}",
+        words(library, paper),
+        difference("output area", &after, out),
+        hex(frame),
+        hex(&given)
+    );
+    paper
+}
+
+#[inline]
+pub fn expand(
+    random: &mut Random,
+    settings: &Settings,
+    outer_source: u64,
+    tagged: u32,
+    tag: u32,
+    frame: &[u8],
+    out: &mut [u8],
+) -> u64 {
+    let given = out.to_vec();
+    let mut after = out.to_vec();
+    let library = boundary::expand(
+        random,
+        settings,
+        outer_source,
+        tagged,
+        tag,
+        frame,
+        &mut after,
+    );
+    let paper = reference::expand(settings, outer_source, tagged, tag, frame, out);
+    assert!(
+        library == paper && after == out,
+        "expand: {}{}{settings:#x?}\nouter source {outer_source:#x}\ntagged {tagged:#x}\n\
+         tag {tag:#x}\nframe {}\noutput area {}",
+        words(library, paper),
+        difference("output area", &after, out),
+        hex(frame),
+        hex(&given)
+    );
+    paper
+}
+
+#[inline]
+pub fn send(random: &mut Random, settings: &Settings, frame: &[u8], work: &mut [u8]) -> u64 {
+    let given = work.to_vec();
+    let mut after = work.to_vec();
+    let library = boundary::send(random, settings, frame, &mut after);
+    let paper = reference::send(settings, frame, work);
+    assert!(
+        library == paper && after == work,
+        "send: {}{}{settings:#x?}\nframe {}\nworking area {}",
+        words(library, paper),
+        difference("working area", &after, work),
+        hex(frame),
+        hex(&given)
+    );
+    paper
+}

@@ -1,0 +1,47 @@
+//! A second implementation of the eight calls, written from document 01, sentence by sentence. The
+//! sentence stands beside the code that follows it. Clarity goes before speed.
+//!
+//! Each call takes its areas as slices and returns the word of the C boundary. It is total: any
+//! bytes and any numbers, never a panic.
+
+mod answer;
+mod convert;
+mod flush;
+mod frame;
+mod receive;
+mod record;
+mod refusal;
+mod settings;
+mod table;
+
+pub use convert::{compact, expand, send};
+pub use flush::flush;
+pub use frame::{front, Front};
+pub use receive::receive;
+pub use record::{read, write, Entry, Label, Record, RECORD};
+pub use refusal::Refusal;
+pub use settings::Settings;
+pub use table::{age, lookup, spoilt};
+
+/// "Numbers are most significant byte first."
+fn number(bytes: &[u8]) -> u64 {
+    bytes
+        .iter()
+        .fold(0, |sum, &byte| (sum << 8) | u64::from(byte))
+}
+
+/// The six bytes of an address.
+fn address_bytes(address: u64) -> [u8; 6] {
+    let [_, _, bytes @ ..] = address.to_be_bytes();
+    bytes
+}
+
+/// The group bit is the lowest bit of the first byte on the wire.
+fn is_group(address: u64) -> bool {
+    address & 0x0100_0000_0000 != 0
+}
+
+/// "0001 to FFBF", the nicknames that may stand in a setting, a header and a record.
+fn is_nickname(nickname: u64) -> bool {
+    (0x0001..=0xFFBF).contains(&nickname)
+}

@@ -1,0 +1,136 @@
+//! Reading one frame.
+
+use super::answer::{word, Received};
+use super::flush::clear;
+use super::frame::{
+    check_length as check_frame_length, front, is_reserved, read_compact, read_general, Fields,
+    Front, CHANNEL,
+};
+use super::record::Entry;
+use super::refusal::Refusal;
+use super::settings::{Port, Settings};
+use super::table::{check_length as check_table_length, learn};
+use super::{is_group, is_nickname, number};
+
+/// 01-80-C2-00-00-42
+const ALL_EGRESS_RBRIDGES: u64 = 0x0180_C200_0042;
+
+/// "The protocol number is that of section 3 of document 004."
+const ADDRESS_FLUSH: u64 = 0x009;
+
+pub fn receive(settings: &Settings, frame: &[u8], table: &mut [u8], out: &mut [u8]) -> u64 {
+    word(received(settings, frame, table, out))
+}
+
+/// "Order: 1, 2, 3, 5; then the fields from left to right, with 6, 4, 7, 12, 10 at the field where
+/// each arises [..]. Then, on the fields read and alike for both formats: 8, 9, 11; onward; 13; 6
+/// where the four bytes after 8946 are cut; 14, 15, 16." "A refusal returns the number only and
+/// changes nothing."
+fn received(
+    settings: &Settings,
+    frame: &[u8],
+    table: &mut [u8],
+    out: &mut [u8],
+) -> Result<Received, Refusal> {
+    let port = settings.check()?;
+    check_table_length(table)?;
+    check_frame_length(frame.len())?;
+    // "Anything else is Compact if the port has it on, else refusal 5."
+    let fields = match front(port.port, frame) {
+        Front::General => read_general(frame)?,
+        Front::Compact if port.compact => read_compact(frame)?,
+        Front::Compact | Front::Reserved => return Err(Refusal::NotForThisPort),
+    };
+    // 8: "Hop Count 0"
+    if fields.hop_count == 0 {
+        return Err(Refusal::HopCount);
+    }
+    // 9: "a nickname outside 0001 to FFBF, or ingress nickname our own"
+    if !is_nickname(u64::from(fields.egress))
+        || !is_nickname(u64::from(fields.ingress))
+        || fields.ingress == port.nickname
+    {
+        return Err(Refusal::Nickname);
+    }
+    // 11: "inner source is a group address"
+    if is_group(fields.inner_source) {
+        return Err(Refusal::GroupSource);
+    }
+    // "Onward: M is 0 and egress is not our nickname. The answer says so and nothing changes."
+    if !fields.multicast && fields.egress != port.nickname {
+        return Ok(Received::Onward);
+    }
+    let (ethertype, rest) = fields.content.split_at(fields.content.len().min(2));
+    if number(ethertype) == CHANNEL {
+        channel(&port, &fields, rest, table)
+    } else {
+        deliver(&port, &fields, table, out)
+    }
+}
+
+/// "Otherwise, unless the content starts 8946, the native frame (inner destination, inner source,
+/// content) is written at the start of the output area, the rest of which stays; the answer gives
+/// its length, its label, and learned, refreshed, kept or full."
+fn deliver(
+    port: &Port,
+    fields: &Fields,
+    table: &mut [u8],
+    out: &mut [u8],
+) -> Result<Received, Refusal> {
+    // 13: "inner destination :40 to :4F, content not 8946"
+    if is_reserved(fields.inner_destination) {
+        return Err(Refusal::ReservedDestination);
+    }
+    let native = [fields.addresses, fields.content].concat();
+    // 16: "output area shorter than the result"
+    let Some(area) = out.get_mut(..native.len()) else {
+        return Err(Refusal::OutputLength);
+    };
+    area.copy_from_slice(&native);
+    let learning = learn(
+        table,
+        &Entry {
+            label: fields.label,
+            mac: fields.inner_source,
+            nickname: fields.ingress,
+            confidence: port.confidence,
+            seconds: port.seconds,
+        },
+    );
+    Ok(Received::Delivered {
+        length: native.len(),
+        learning,
+        label: fields.label,
+    })
+}
+
+/// "Content: 8946, version 4 bits, protocol 12, flags 12 (not read), ERR 4, payload." "Channel
+/// frames write no native frame and teach no address." `rest` is what follows 8946.
+fn channel(
+    port: &Port,
+    fields: &Fields,
+    rest: &[u8],
+    table: &mut [u8],
+) -> Result<Received, Refusal> {
+    // "6 where the four bytes after 8946 are cut"
+    if rest.len() < 4 {
+        return Err(Refusal::Cut);
+    }
+    let (header, payload) = rest.split_at(4);
+    let bits = number(header);
+    let version = bits >> 28;
+    let protocol = (bits >> 16) & 0xFFF;
+    let err = bits & 0xF;
+    // 14: "channel: version or ERR not 0, or destination neither own inner address nor
+    // 01-80-C2-00-00-42"
+    let destination = fields.inner_destination;
+    if version != 0 || err != 0 || (destination != port.inner && destination != ALL_EGRESS_RBRIDGES)
+    {
+        return Err(Refusal::Channel);
+    }
+    // "another number gives "other channel" (after 14), nothing changed"
+    if protocol != ADDRESS_FLUSH {
+        return Ok(Received::OtherChannel);
+    }
+    clear(u32::from(fields.ingress), payload, table).map(Received::Flushed)
+}

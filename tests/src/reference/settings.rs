@@ -1,0 +1,70 @@
+//! The settings of a port.
+
+use super::refusal::Refusal;
+use super::{is_group, is_nickname};
+
+/// The settings as the C boundary passes them: any numbers.
+#[derive(Clone, Copy, Debug, PartialEq, Eq)]
+pub struct Settings {
+    pub port: u64,
+    pub inner: u64,
+    pub nickname: u32,
+    pub compact: u32,
+    pub confidence: u32,
+    pub seconds: u32,
+}
+
+/// Settings in their ranges.
+pub struct Port {
+    pub port: u64,
+    pub inner: u64,
+    pub nickname: u16,
+    pub compact: bool,
+    pub confidence: u8,
+    pub seconds: u16,
+}
+
+/// An address is a number below 2^48.
+fn is_individual(address: u64) -> bool {
+    address < 1 << 48 && !is_group(address)
+}
+
+/// The outer source of an expansion: "a group address is 1", and so is a number of 2^48 or more.
+pub fn check_outer_source(address: u64) -> Result<u64, Refusal> {
+    if is_individual(address) {
+        Ok(address)
+    } else {
+        Err(Refusal::Settings)
+    }
+}
+
+impl Settings {
+    pub fn check(&self) -> Result<Port, Refusal> {
+        // "Port address and own inner address (individual addresses, different)"
+        let addresses =
+            is_individual(self.port) && is_individual(self.inner) && self.port != self.inner;
+        // "own nickname 0001 to FFBF"
+        let nickname = is_nickname(u64::from(self.nickname));
+        // "Compact on or off": 1 or 0
+        let compact = self.compact <= 1;
+        // "learning confidence 0 to 255"
+        let confidence = self.confidence <= 255;
+        // "learning seconds 10 to 8191, or 0 for the default 300"
+        let seconds = match self.seconds {
+            0 => Some(300),
+            10..=8191 => Some(self.seconds as u16),
+            _ => None,
+        };
+        match seconds {
+            Some(seconds) if addresses && nickname && compact && confidence => Ok(Port {
+                port: self.port,
+                inner: self.inner,
+                nickname: self.nickname as u16,
+                compact: self.compact == 1,
+                confidence: self.confidence as u8,
+                seconds,
+            }),
+            _ => Err(Refusal::Settings),
+        }
+    }
+}

@@ -1,0 +1,106 @@
+//! The address table: lookup, ageing, the lowest spoilt slot, learning.
+
+use super::answer::{word, Aged, Found, Learning, SpoiltSlot};
+use super::record::{read, write, Entry, Label, Record, RECORD};
+use super::refusal::Refusal;
+
+/// 2: "table length 0, not a multiple of 14, or over 57,344"
+pub fn check_length(table: &[u8]) -> Result<(), Refusal> {
+    if table.is_empty() || !table.len().is_multiple_of(RECORD) || table.len() > 57_344 {
+        Err(Refusal::TableLength)
+    } else {
+        Ok(())
+    }
+}
+
+/// The slots of a table, counted from 0.
+pub fn slots(table: &[u8]) -> impl Iterator<Item = Record> + '_ {
+    table.chunks_exact(RECORD).map(read)
+}
+
+/// "Lookup gives the nickname in the lowest matching slot, or none. It takes any label and address;
+/// values that no good record can hold find none."
+pub fn lookup(kind: u32, label: u32, mac: u64, table: &[u8]) -> u64 {
+    word(check_length(table).map(|()| {
+        let label = match kind {
+            0 => Label::vlan(label),
+            1 => Label::fine(label),
+            _ => None,
+        };
+        let nickname = label.and_then(|label| {
+            // Spoilt records "match nothing".
+            slots(table).find_map(|record| match record {
+                Record::Learned(entry) | Record::Configured(entry)
+                    if entry.label == label && entry.mac == mac =>
+                {
+                    Some(entry.nickname)
+                }
+                _ => None,
+            })
+        });
+        Found(nickname)
+    }))
+}
+
+/// "Ageing by s (0 to 65,535): learned records with seconds at most s become free, other learned
+/// ones lose s."
+pub fn age(seconds: u16, table: &mut [u8]) -> u64 {
+    word(check_length(table).map(|()| {
+        for slot in table.chunks_exact_mut(RECORD) {
+            if let Record::Learned(entry) = read(slot) {
+                if entry.seconds <= seconds {
+                    slot.fill(0);
+                } else {
+                    let older = Entry {
+                        seconds: entry.seconds - seconds,
+                        ..entry
+                    };
+                    slot.copy_from_slice(&write(true, &older));
+                }
+            }
+        }
+        Aged
+    }))
+}
+
+/// "name its lowest spoilt slot (or none)"
+pub fn spoilt(table: &[u8]) -> u64 {
+    word(
+        check_length(table)
+            .map(|()| SpoiltSlot(slots(table).position(|record| record == Record::Spoilt))),
+    )
+}
+
+/// "Learning looks for the lowest slot with the same label and MAC." The entry holds what is
+/// learned: the label and MAC, and the nickname, confidence and seconds to write.
+pub fn learn(table: &mut [u8], entry: &Entry) -> Learning {
+    for slot in table.chunks_exact_mut(RECORD) {
+        match read(slot) {
+            // "Configured: kept."
+            Record::Configured(there) if same_key(&there, entry) => return Learning::Kept,
+            Record::Learned(there) if same_key(&there, entry) => {
+                // "Learned with higher confidence: kept."
+                if there.confidence > entry.confidence {
+                    return Learning::Kept;
+                }
+                // "Learned otherwise: nickname, confidence and seconds overwritten."
+                slot.copy_from_slice(&write(true, entry));
+                return Learning::Refreshed;
+            }
+            _ => {}
+        }
+    }
+    // "No match: the lowest free slot is filled."
+    for slot in table.chunks_exact_mut(RECORD) {
+        if read(slot) == Record::Free {
+            slot.copy_from_slice(&write(true, entry));
+            return Learning::Learned;
+        }
+    }
+    // "No free slot: not learned, answer "full"."
+    Learning::Full
+}
+
+fn same_key(one: &Entry, other: &Entry) -> bool {
+    one.label == other.label && one.mac == other.mac
+}

@@ -1,0 +1,34 @@
+//! The header used from C and from C++: the wrappers of lookup, age and spoilt, and the decoders. The
+//! programs are compiled by build.rs.
+
+use shinglebar_tests::c_program;
+use std::path::Path;
+
+fn run(program: &str) {
+    c_program::run(&Path::new(env!("OUT_DIR")).join(program));
+}
+
+#[test]
+fn the_header_passes_null_areas_from_c() {
+    run("null_c");
+}
+
+#[test]
+fn the_header_passes_null_areas_from_optimised_c() {
+    run("null_c_optimised");
+}
+
+#[test]
+fn the_header_without_the_other_calls_emits_none_of_them() {
+    run("null_c_table_only");
+}
+
+#[test]
+fn the_header_passes_null_areas_from_cpp() {
+    run("null_cpp");
+}
+
+#[test]
+fn the_header_passes_null_areas_from_optimised_cpp() {
+    run("null_cpp_optimised");
+}
