@@ -1,0 +1,25 @@
+// Copying bytes into an area, and parts of a slice.
+ghost use Prim.Native.Nat.{_+_, _≤_};
+ghost use mathlib.Core.Path.{_≡_};
+ghost use lib.ListN.{length, take, drop};
+ghost use Rattle.copying.specs.Areas.{pasted};
+
+// Copies all of src into out from a place on.
+pub fn copy_at(src: &[u8], out: &mut [u8], at: usize)
+    requires { ⌜ at + length (now src) ≤ length (now out) ⌝ }
+    ensures { λ _. ⌜ now (out .exit) ≡ pasted (now (out .entry)) at (now (src .entry)) ⌝ }
+{
+    let mut i = 0;
+    while i < src.len() {
+        out[at + i] = src[i];
+        i += 1;
+    }
+}
+
+// The part of len bytes from start on.
+pub fn part<'a>(f: &'a [u8], start: usize, len: usize) -> &'a [u8]
+    requires { ⌜ start + len ≤ length (now f) ⌝ }
+    ensures { λ r. ⌜ (now r ≡ take len (drop start (now (f .entry)))) × (length (now r) ≡ len) ⌝ }
+{
+    &f[start..start + len]
+}
