@@ -1,0 +1,63 @@
+-- `sets::in_blocks` meets its contract. The invariant: some block has x in it exactly if one from `at` on has.
+-- Assumes nothing.
+use Prim.Native.Nat.{_-_, _<_, _≤_}
+use mathlib.Core.Path.{_≡_, refl}
+use lib.ListN.{length, drop}
+use Rattle.numbers.specs.Tests.{anyOf}
+use Rattle.numbers.specs.Bytes.{parts}
+use Rattle.numbers.specs.Numberings.{inBlock, inBlocks}
+use Rattle.sets.specs.Sound.{numbering}
+use Rattle.sets.proofs.Laws.{block-near, parts-done, part-hit, part-next}
+use borrow.Author.Needs.{needs}
+use Rattle.sets.proofs.in_blocks.Statement.{statement}
+use Rattle.sets.proofs.in_blocks.Tie as tie
+
+abbrev Inv-loop : tie.InvT-loop
+Inv-loop v size top low high x w k at₀ at = (0 < k) × ((at ≤ length v) × (inBlocks (numbering size top low high) x v ≡ anyOf (inBlock (numbering size top low high) x) (parts k (drop at v))))
+
+abbrev μ-loop : tie.MeasureT-loop
+μ-loop v size top low high x w k at₀ at = length v - at
+
+mul-k : tie.Need-mul-k Inv-loop μ-loop
+mul-k c = search needs
+
+loop-holds : tie.Need-loop-holds Inv-loop μ-loop
+unfolding inBlocks
+loop-holds c = (search needs, (search needs, refl))
+
+sub-loop : tie.Need-sub-loop Inv-loop μ-loop
+sub-loop c = search needs
+
+block-has-requires : tie.Need-block-has-requires Inv-loop μ-loop
+block-has-requires c κs = search needs
+
+returns : tie.Need-returns Inv-loop μ-loop
+returns c = search (part-hit, block-near)
+
+add-at : tie.Need-add-at Inv-loop μ-loop
+add-at c = search needs
+
+loop-less : tie.Need-loop-less Inv-loop μ-loop
+loop-less c = search needs
+
+loop-again : tie.Need-loop-again Inv-loop μ-loop
+loop-again c = (search needs, (search needs, search (part-next, block-near)))
+
+returns-2 : tie.Need-returns-2 Inv-loop μ-loop
+returns-2 c = search (parts-done, block-near)
+
+pub in-blocks-spec : {M : Type 1} → statement M
+in-blocks-spec =
+    tie.close
+    (tie.spec
+    Inv-loop
+    μ-loop
+    mul-k
+    loop-holds
+    sub-loop
+    block-has-requires
+    returns
+    add-at
+    loop-less
+    loop-again
+    returns-2)

@@ -1,0 +1,108 @@
+-- Laws of TLVs: the length rules as one test, a choice by type, and a walk in which what is left decides.
+-- Assumes nothing.
+use Prim.Native.Nat.{ℕ, _+_, _-_, _%_, _<_, _≤_}
+use mathlib.Core.Bool.{Bool, true, false, not, _&&_, _||_}
+use mathlib.Core.List.{List}
+use mathlib.Core.Path.{_≡_, refl, sym, ap, _∙_}
+use native.Mathlib.Nat.{add-zero}
+use native.Mathlib.Omega.{arith}
+use lib.Dec.{leb, eqb}
+use lib.ListN.{length, take, drop, getD, length-drop, List·getD-eq-default}
+use lib.Seq.{drop-drop, getD-drop}
+use borrow.Author.Tests.{eq-eqb, ne-eqb}
+use Rattle.numbers.specs.Tests.{pick, both, either, anyOf}
+use Rattle.table.specs.Record.{labelFrom}
+use Rattle.table.specs.declared.Label.the-variants.{Vlan, Fine}
+use Rattle.records.proofs.Laws.{and-both, or-either}
+use Rattle.flush.specs.Payload.{Piece, tlv, stump, tlvEnd, tlvs, rule, lengthGood}
+use Rattle.flush.proofs.Validity.{tlvs-end, tlvs-stump, tlvs-more}
+
+-- ---- the length rules
+
+both-tests : {a b x y : Bool} → a ≡ x → b ≡ y → a && b ≡ both x y
+both-tests {a} {b} p q = rw (← p, ← q) (and-both a b)
+
+module _ (k n : ℕ) where
+  rule-test : (t : ℕ) (holds : Bool) → not (eqb k t) || holds ≡ rule k t holds
+  rule-test t holds = or-either (not (eqb k t)) holds
+
+  pub length-tests : (not (eqb k 1) || eqb (n % 4) 0) && ((not (eqb k 2) || leb 2 n) && ((not (eqb k 3) || eqb (n % 6) 0) && ((not (eqb k 4) || eqb (n % 3) 0) && ((not (eqb k 5) || leb 3 n) && ((not (eqb k 6) || eqb n 0) && ((not (eqb k 7) || eqb (n % 6) 0) && (not (eqb k 8) || eqb (n % 12) 0))))))) ≡ lengthGood k n
+  unfolding lengthGood
+  length-tests =
+      both-tests (rule-test 1 (eqb (n % 4) 0))
+      (both-tests (rule-test 2 (leb 2 n))
+      (both-tests (rule-test 3 (eqb (n % 6) 0))
+      (both-tests (rule-test 4 (eqb (n % 3) 0))
+      (both-tests (rule-test 5 (leb 3 n))
+      (both-tests (rule-test 6 (eqb n 0))
+      (both-tests (rule-test 7 (eqb (n % 6) 0)) (rule-test 8 (eqb (n % 12) 0))))))))
+
+-- ---- a choice
+
+pub pick-first : {A : Type 0} (z : A) (b : Bool) (x y : A) → b ≡ true → z ≡ x → z ≡ pick b x y
+unfolding pick
+pick-first z b x y h e = rw h e
+
+pub pick-second : {A : Type 0} (z : A) (b : Bool) (x y : A) → b ≡ false → z ≡ y → z ≡ pick b x y
+unfolding pick
+pick-second z b x y h e = rw h e
+
+module _ (kind x : ℕ) where
+  pub label-vlan : kind ≡ 0 → labelFrom kind x ≡ Vlan x
+  unfolding labelFrom pick
+  label-vlan h = rw (eq-eqb kind 0 h)
+
+  pub label-fine : (kind ≡ 0 → ⊥) → labelFrom kind x ≡ Fine x
+  unfolding labelFrom pick
+  label-fine h = rw (ne-eqb kind 0 h)
+
+-- ---- a walk, at a place: what is left decides
+
+module _ (l : List ℕ) (at : ℕ) where
+  pub end-lone : length l < at + 2 → at + 2 ≡ at + tlvEnd (drop at l)
+  end-lone h =
+      let d : length (drop at l) ≡ length l - at = length-drop at l in
+      let z : getD (drop at l) 1 0 ≡ 0 = List·getD-eq-default (drop at l) 0 {n = 1} (omega arith) in
+      omega arith
+
+  pub end-told : (n : ℕ) → n ≡ getD l (at + 1) 0 → at + 2 + n ≡ at + tlvEnd (drop at l)
+  end-told n e = let g : getD (drop at l) 1 0 ≡ getD l (at + 1) 0 = getD-drop at l 1 0 in omega arith
+
+either-false : (b : Bool) → either b false ≡ b
+unfolding either
+either-false true = refl
+either-false false = refl
+
+module _ (ask : Piece → Bool) (l : List ℕ) (at : ℕ) (x : Bool) (inv : x ≡ anyOf ask (tlvs (drop at l))) where
+  pub tlvs-done : length l ≤ at → false ≡ x
+  unfolding anyOf
+  tlvs-done h =
+      let d : length (drop at l) ≡ length l - at = length-drop at l in
+      sym (inv ∙ ap (anyOf ask) (tlvs-end (drop at l) (omega arith)))
+
+  module _ (more : at < length l) (e : ℕ) (end : e ≡ at + tlvEnd (drop at l)) where
+    -- a TLV past the end, or a lone last byte
+    pub tlv-cut : length l < e → (h : Bool) → h ≡ ask stump → h ≡ x
+    unfolding anyOf
+    tlv-cut short h said =
+        let d : length (drop at l) ≡ length l - at = length-drop at l in
+        sym (inv ∙ ap (anyOf ask) (tlvs-stump (drop at l) (omega arith) (omega arith)) ∙ rw (← said, either-false h))
+
+    module _ (fits : e ≤ length l) (h : Bool) (here : h ≡ ask (tlv (getD l at 0) (take (e - (at + 2)) (drop (at + 2) l)))) where
+      tlv-here : x ≡ either h (anyOf ask (tlvs (drop e l)))
+      unfolding anyOf
+      tlv-here =
+          let d : length (drop at l) ≡ length l - at = length-drop at l in
+          let f : getD (drop at l) 0 0 ≡ getD l at 0 = getD-drop at l 0 0 ∙ rw (add-zero at) in
+          let n : e - (at + 2) ≡ getD (drop at l) 1 0 = omega arith in
+          inv
+          ∙ ap (anyOf ask) (tlvs-more (drop at l) (omega arith))
+          ∙ rw (here, n, f, drop-drop 2 at l, drop-drop (tlvEnd (drop at l)) at l, end)
+
+      pub tlv-hit : h ≡ true → true ≡ x
+      unfolding either
+      tlv-hit t = sym (rw t at tlv-here)
+
+      pub tlv-next : h ≡ false → x ≡ anyOf ask (tlvs (drop e l))
+      unfolding either
+      tlv-next t = rw t at tlv-here

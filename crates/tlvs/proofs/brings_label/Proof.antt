@@ -1,0 +1,25 @@
+-- `tlvs::brings_label` meets its contract: by the kind of the label.
+-- Assumes nothing.
+use Rattle.numbers.specs.Tests.{both}
+use Rattle.flush.specs.Meaning.{bringsLabel}
+use Rattle.tlvs.proofs.Laws.{label-vlan, label-fine}
+use borrow.Author.Needs.{needs}
+use Rattle.tlvs.proofs.brings_label.Statement.{statement}
+use Rattle.tlvs.proofs.brings_label.Tie as tie
+
+vlan-in-requires : tie.Need-vlan-in-requires
+vlan-in-requires c κs = search needs
+
+returns : tie.Need-returns
+unfolding bringsLabel both
+returns c = rw (label-vlan _ _ (c .before .if1 .taken)) (c .vlan-in .ensures)
+
+fine-in-requires : tie.Need-fine-in-requires
+fine-in-requires c κs = search needs
+
+returns-2 : tie.Need-returns-2
+unfolding bringsLabel both
+returns-2 c = rw (label-fine _ _ (c .before .if1 .left)) (c .fine-in .ensures)
+
+pub brings-label-spec : {M : Type 1} → statement M
+brings-label-spec = tie.close (tie.spec vlan-in-requires returns fine-in-requires returns-2)

@@ -1,0 +1,27 @@
+-- `tlvs::gathers_mac` meets its contract: each way out is a case of the definition.
+-- Assumes nothing.
+use borrow.Author.Tests.{eq-eqb, ne-eqb}
+use Rattle.tlvs.proofs.Laws.{pick-first, pick-second}
+use Rattle.numbers.specs.Tests.{both}
+use Rattle.flush.specs.Meaning.{someMacIn, gathersMac}
+use borrow.Author.Needs.{needs}
+use Rattle.tlvs.proofs.gathers_mac.Statement.{statement}
+use Rattle.tlvs.proofs.gathers_mac.Tie as tie
+
+returns : tie.Need-returns
+unfolding gathersMac someMacIn both
+returns c = search (pick-first, pick-second, eq-eqb, ne-eqb) depth 8
+
+some-mac-block-requires : tie.Need-some-mac-block-requires
+some-mac-block-requires c κs = search needs
+
+returns-2 : tie.Need-returns-2
+unfolding gathersMac someMacIn both
+returns-2 c = search (pick-first, pick-second, eq-eqb, ne-eqb) depth 8
+
+returns-3 : tie.Need-returns-3
+unfolding gathersMac someMacIn both
+returns-3 c = search (pick-first, pick-second, eq-eqb, ne-eqb) depth 8
+
+pub gathers-mac-spec : {M : Type 1} → statement M
+gathers-mac-spec = tie.close (tie.spec returns some-mac-block-requires returns-2 returns-3)
