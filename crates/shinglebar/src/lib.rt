@@ -4,6 +4,9 @@ ghost use mathlib.Core.Path.{_≡_};
 ghost use Rattle.numbers.specs.After.{onTable, tableAs};
 ghost use Rattle.table.specs.Table.{lookedUp, aged, lowestSpoilt};
 ghost use Rattle.table.specs.Words.{lookupWord, ageWord, spoiltWord};
+ghost use Rattle.flush.specs.Flush.{flushed};
+ghost use Rattle.flush.specs.Words.{flushWord};
+use flush::FlushAnswer;
 use table::AgeAnswer;
 use table::LookupAnswer;
 use table::SpoiltAnswer;
@@ -56,4 +59,20 @@ pub extern "C" fn shinglebar_spoilt(table: &[u8]) -> u64
     ensures { λ r. ⌜ r ≡ spoiltWord (lowestSpoilt (now (table .entry))) ⌝ }
 {
     spoilt_word(search::lowest_spoilt(table))
+}
+
+fn flush_word(a: FlushAnswer) -> u64
+    ensures { λ r. ⌜ r ≡ flushWord a ⌝ }
+{
+    match a {
+        FlushAnswer::Refused(n) => n as u64,
+        FlushAnswer::Flushed(k) => 67 + k as u64 * 0x100,
+    }
+}
+
+#[no_mangle]
+pub extern "C" fn shinglebar_flush(ingress: u32, payload: &[u8], table: &mut [u8]) -> u64
+    ensures { λ r. ⌜ onTable r (now (table .exit)) ≡ tableAs flushWord (flushed ingress (now (payload .entry)) (now (table .entry))) ⌝ }
+{
+    flush_word(flushing::flush(ingress, payload, table))
 }

@@ -1,0 +1,93 @@
+-- `flushing::clear_slots` meets its contract. The invariant: of the first `i` slots those that are meant are cleared and counted.
+-- Assumes nothing.
+use Prim.Native.Nat.{_-_, _/_, _≤_}
+use mathlib.Core.Path.{_≡_}
+use native.Mathlib.Omega.{arith}
+use lib.ListN.{length}
+use Rattle.table.proofs.Slots.{length-lent}
+use Rattle.flush.specs.Payload.{everyType}
+use Rattle.flush.specs.Flush.{slotMeant}
+use Rattle.flushing.specs.Clearing.{payloadFrom, ClearedFirst}
+use Rattle.flushing.proofs.Slots.{first-none, first-all, slots-done, slots-next}
+use borrow.Author.Needs.{needs}
+use Rattle.flushing.proofs.clear_slots.Statement.{statement}
+use Rattle.flushing.proofs.clear_slots.Tie as tie
+
+abbrev Inv-loop : tie.InvT-loop
+Inv-loop table₀ ingress nicks rest blocks gathered n count₀ i₀ table count i = (i ≤ n) × ClearedFirst (slotMeant everyType (payloadFrom nicks blocks rest) ingress) table₀ i count table
+
+abbrev μ-loop : tie.MeasureT-loop
+μ-loop table₀ ingress nicks rest blocks gathered n count₀ i₀ table count i = n - i
+
+loop-holds : tie.Need-loop-holds Inv-loop μ-loop
+loop-holds c = (search needs, search first-none)
+
+next-candidate-requires : tie.Need-next-candidate-requires Inv-loop μ-loop
+next-candidate-requires c κs = search needs
+
+same-length : tie.Need-same-length Inv-loop μ-loop
+same-length c = c .before .before .before .before .loop .inv .1 .long
+
+returns : tie.Need-returns Inv-loop μ-loop
+returns c = search slots-done
+
+mul-a : tie.Need-mul-a Inv-loop μ-loop
+mul-a c = search needs
+
+add-e : tie.Need-add-e Inv-loop μ-loop
+add-e c = search needs
+
+sub-clear-slot : tie.Need-sub-clear-slot Inv-loop μ-loop
+sub-clear-slot c = search needs
+
+part-clear-slot-start : tie.Need-part-clear-slot-start Inv-loop μ-loop
+part-clear-slot-start c = search needs
+
+part-clear-slot-end : tie.Need-part-clear-slot-end Inv-loop μ-loop
+part-clear-slot-end c = search needs
+
+clear-slot-requires : tie.Need-clear-slot-requires Inv-loop μ-loop
+clear-slot-requires c κs = (length-lent (c .before .before .next-candidate .result) (c .before .before .before .before .before .loop .table) (omega arith), c .before .before .before .before .before .before .before .before .before .pre)
+
+add-count : tie.Need-add-count Inv-loop μ-loop
+add-count c = search needs
+
+add-i : tie.Need-add-i Inv-loop μ-loop
+add-i c = search needs
+
+loop-less : tie.Need-loop-less Inv-loop μ-loop
+loop-less c = search needs
+
+loop-again : tie.Need-loop-again Inv-loop μ-loop
+loop-again c = (search needs, search slots-next)
+
+same-length-2 : tie.Need-same-length-2 Inv-loop μ-loop
+same-length-2 c = c .before .loop .inv .1 .long
+
+returns-2 : tie.Need-returns-2 Inv-loop μ-loop
+returns-2 c =
+    let done : c .before .loop .i ≡ length (c .before .before .before .before .before .args .table .now) / 14 = omega arith in
+    search first-all
+
+pub clear-slots-spec : {M : Type 1} → statement M
+clear-slots-spec =
+    tie.close
+    (tie.spec
+    Inv-loop
+    μ-loop
+    loop-holds
+    next-candidate-requires
+    same-length
+    returns
+    mul-a
+    add-e
+    sub-clear-slot
+    part-clear-slot-start
+    part-clear-slot-end
+    clear-slot-requires
+    add-count
+    add-i
+    loop-less
+    loop-again
+    same-length-2
+    returns-2)

@@ -1,0 +1,54 @@
+-- `flushing::next_candidate` meets its contract. The invariant: no slot from `from` on and before `i` is a candidate.
+-- Assumes nothing.
+use Prim.Native.Nat.{_-_, _≤_}
+use Rattle.flushing.specs.Clearing.{candidate, Passed}
+use Rattle.flushing.proofs.Parts.{candidate-near}
+use Rattle.flushing.proofs.Slots.{passed-none, passed-next, next-none, next-hit}
+use borrow.Author.Needs.{needs}
+use Rattle.flushing.proofs.next_candidate.Statement.{statement}
+use Rattle.flushing.proofs.next_candidate.Tie as tie
+
+abbrev Inv-loop : tie.InvT-loop
+Inv-loop t from n ingress nicks i₀ i = (i ≤ n) × Passed (candidate ingress nicks) t from i
+
+abbrev μ-loop : tie.MeasureT-loop
+μ-loop t from n ingress nicks i₀ i = n - i
+
+loop-holds : tie.Need-loop-holds Inv-loop μ-loop
+loop-holds c = (search needs, search (passed-none, candidate-near))
+
+mul-candidate-at : tie.Need-mul-candidate-at Inv-loop μ-loop
+mul-candidate-at c = search needs
+
+candidate-at-requires : tie.Need-candidate-at-requires Inv-loop μ-loop
+candidate-at-requires c κs = search needs
+
+returns : tie.Need-returns Inv-loop μ-loop
+returns c = search (next-hit, candidate-near)
+
+add-i : tie.Need-add-i Inv-loop μ-loop
+add-i c = search needs
+
+loop-less : tie.Need-loop-less Inv-loop μ-loop
+loop-less c = search needs
+
+loop-again : tie.Need-loop-again Inv-loop μ-loop
+loop-again c = (search needs, search (passed-next, candidate-near))
+
+returns-2 : tie.Need-returns-2 Inv-loop μ-loop
+returns-2 c = search (next-none, candidate-near)
+
+pub next-candidate-spec : {M : Type 1} → statement M
+next-candidate-spec =
+    tie.close
+    (tie.spec
+    Inv-loop
+    μ-loop
+    loop-holds
+    mul-candidate-at
+    candidate-at-requires
+    returns
+    add-i
+    loop-less
+    loop-again
+    returns-2)

@@ -1,0 +1,67 @@
+-- A good payload in the parts that the code holds, and what clearing leaves.
+-- Assumes nothing.
+use Prim.Native.Nat.{ℕ, _*_, _<_, _≤_}
+use mathlib.Core.Bool.{Bool, true, false}
+use mathlib.Core.List.{List}
+use mathlib.Core.Path.{_≡_}
+use lib.Dec.{eqb}
+use lib.ListN.{length}
+use Rattle.numbers.specs.Tests.{pick, both, anyOf}
+use Rattle.numbers.specs.Result.{Result, refused, got}
+use Rattle.numbers.specs.After.{OnTable, onTable, tableAs}
+use Rattle.table.specs.Record.{recordOf, stateOf, nicknameOf, learnedState, entryOf, entryGood}
+use Rattle.table.specs.Slots.{slotAt, onSlots, countSlots}
+use Rattle.flush.specs.Payload.{everyType, Piece, Payload, blockBytes, piecesOf}
+use Rattle.flush.specs.Meaning.{nicknameMeant, labelMeant, gathersMac, macMeant}
+use Rattle.flush.specs.Flush.{clearedSlot}
+use Rattle.flushing.specs.declared.Cleared.{Cleared}
+use Rattle.flushing.specs.declared.Cleared.the-variants.{Refused, Count}
+
+-- the bytes of the nicknames, K-VLBs and the bytes behind it
+abbrev pub payloadFrom : List ℕ → ℕ → List ℕ → Payload
+payloadFrom nicks blocks rest = record { nicks = nicks; pieces = piecesOf blocks rest }
+
+-- the blocks are there, and it is known whether a MAC was gathered
+pub record Ready (rest : List ℕ) (blocks : ℕ) (gathered : Bool) : Type 0 where
+  pub room : blockBytes * blocks ≤ length rest
+  pub told : gathered ≡ anyOf (gathersMac everyType) (piecesOf blocks rest)
+
+-- a slot may be meant: learned by its state bits, and its nickname meant
+unfoldable pub candidate : ℕ → List ℕ → List ℕ → Bool
+candidate ingress nicks r = both (eqb (stateOf (recordOf r)) learnedState) (nicknameMeant ingress nicks (nicknameOf (recordOf r)))
+
+-- the rest of a slot is meant: a good record, its label and its MAC
+unfoldable pub restMeant : List Piece → List ℕ → Bool
+restMeant ps r =
+    both (entryGood (entryOf (recordOf r)))
+    (both (labelMeant everyType ps (entryOf (recordOf r) .label))
+    (macMeant everyType ps (entryOf (recordOf r) .mac)))
+
+-- no slot of the table t from slot `from` on and before slot i passes the test p
+pub record Passed (p : List ℕ → Bool) (t : List ℕ) (from i : ℕ) : Type 0 where
+  pub behind : from ≤ i
+  pub none : (j : ℕ) → from ≤ j → j < i → p (slotAt j t) ≡ false
+
+-- slot k is the next that passes it; it is n where none before slot n does
+pub record Next (p : List ℕ → Bool) (t : List ℕ) (from n k : ℕ) : Type 0 where
+  pub passed : Passed p t from k
+  pub within : k ≤ n
+  pub hit : k < n → p (slotAt k t) ≡ true
+
+-- one slot r: n were cleared, and w is left
+pub record ClearedOne (meant : List ℕ → Bool) (r : List ℕ) (n : ℕ) (w : List ℕ) : Type 0 where
+  pub count : n ≡ pick (meant r) 1 0
+  pub few : n ≤ 1
+  pub left : w ≡ clearedSlot meant r
+
+-- the first i slots of the table t: n were cleared, and u is left
+pub record ClearedFirst (meant : List ℕ → Bool) (t : List ℕ) (i n : ℕ) (u : List ℕ) : Type 0 where
+  pub count : n ≡ countSlots meant 0 i t
+  pub few : n ≤ i
+  pub long : length u ≡ length t
+  pub left : u ≡ onSlots (clearedSlot meant) 0 i t
+
+-- what a call leaves of the table t: the refusal changes nothing
+unfoldable pub clearedOn : List ℕ → Result (OnTable ℕ) → OnTable Cleared
+clearedOn t (refused n) = onTable (Refused n) t
+clearedOn t (got c) = tableAs Count c

@@ -1,0 +1,151 @@
+// An Address Flush over the table: the payload is judged whole, and then what it means is cleared, slot by slot.
+ghost use Prim.Native.Nat.{_+_, _*_, _≤_};
+ghost use mathlib.Core.Path.{_≡_};
+ghost use lib.ListN.{length, drop};
+ghost use Rattle.numbers.specs.Tests.{both};
+ghost use Rattle.numbers.specs.After.{onTable};
+ghost use Rattle.table.specs.Record.{recordBytes, entryOf};
+ghost use Rattle.table.specs.Slots.{slotBytes};
+ghost use Rattle.records.specs.Halves.{wholeOf, Small};
+ghost use Rattle.flush.specs.Payload.{everyType, blockBytes, piecesOf};
+ghost use Rattle.flush.specs.Meaning.{labelMeant, macMeant};
+ghost use Rattle.flush.specs.Flush.{slotMeant, clearedBy, clearing, flushed};
+ghost use Rattle.flushing.specs.Clearing.{payloadFrom, Ready, candidate, Next, restMeant, ClearedOne, clearedOn};
+use flush::FlushAnswer;
+use numbers::refusals::PAYLOAD_CORRUPT;
+use numbers::refusals::TABLE_LENGTH_BAD;
+use records::Halves;
+
+// What clearing came to: a refusal number, or how many records were cleared.
+pub enum Cleared {
+    Refused(u8),
+    Count(usize),
+}
+
+// Whether a record's label and MAC are meant.
+fn pair_meant(h: Halves, rest: &[u8], blocks: usize, gathered: bool) -> bool
+    requires { ⌜ Small h × Ready (now rest) blocks gathered ⌝ }
+    ensures { λ b. ⌜ b ≡ both (labelMeant everyType (piecesOf blocks (now (rest .entry))) (entryOf (wholeOf h) .label)) (macMeant everyType (piecesOf blocks (now (rest .entry))) (entryOf (wholeOf h) .mac)) ⌝ }
+{
+    let kind = h.hi / 0x2000_0000_0000_0000 % 2;
+    let label = h.hi / 0x20_0000_0000 % 0x100_0000;
+    if !payloads::label_meant(rest, blocks, kind, label) {
+        return false;
+    }
+    let mac = h.hi % 0x20_0000_0000 * 0x800 + h.lo / 0x20_0000_0000;
+    payloads::mac_meant(rest, blocks, gathered, mac)
+}
+
+// Whether the slot at a place may be meant: learned by its state bits, and its nickname meant.
+fn candidate_at(t: &[u8], at: usize, ingress: u32, nicks: &[u8]) -> bool
+    requires { ⌜ at + recordBytes ≤ length (now t) ⌝ }
+    ensures { λ b. ⌜ b ≡ candidate ingress (now (nicks .entry)) (drop at (now (t .entry))) ⌝ }
+{
+    if records::state_at(t, at) != 1 {
+        return false;
+    }
+    payloads::nickname_meant(nicks, ingress, records::nickname_at(t, at))
+}
+
+// The next slot that may be meant, from a slot on; n where there is none before slot n.
+fn next_candidate(t: &[u8], from: usize, n: usize, ingress: u32, nicks: &[u8]) -> usize
+    requires { ⌜ (from ≤ n) × (slotBytes * n ≤ length (now t)) ⌝ }
+    ensures { λ k. ⌜ Next (candidate ingress (now (nicks .entry))) (now (t .entry)) from n k ⌝ }
+{
+    let mut i = from;
+    while i < n {
+        if candidate_at(t, 14 * i, ingress, nicks) {
+            return i;
+        }
+        i += 1;
+    }
+    n
+}
+
+// Whether the rest of a slot is meant: a good record, its label and its MAC.
+fn rest_meant(slot: &[u8], rest: &[u8], blocks: usize, gathered: bool) -> bool
+    requires { ⌜ (length (now slot) ≡ slotBytes) × Ready (now rest) blocks gathered ⌝ }
+    ensures { λ b. ⌜ b ≡ restMeant (piecesOf blocks (now (rest .entry))) (now (slot .entry)) ⌝ }
+{
+    let h = records::split(slot, 0);
+    if !records::entry_good(h) {
+        return false;
+    }
+    pair_meant(h, rest, blocks, gathered)
+}
+
+// Frees a slot whose rest is meant, and says how many were freed.
+fn clear_slot(slot: &mut [u8], rest: &[u8], blocks: usize, gathered: bool) -> usize
+    requires { ⌜ (length (now slot) ≡ slotBytes) × Ready (now rest) blocks gathered ⌝ }
+    ensures { λ n. ⌜ ClearedOne (restMeant (piecesOf blocks (now (rest .entry)))) (now (slot .entry)) n (now (slot .exit)) ⌝ }
+{
+    if !rest_meant(slot, rest, blocks, gathered) {
+        return 0;
+    }
+    records::clear(slot);
+    1
+}
+
+// Clears every slot that is meant, and counts them. State bits and nickname tell most slots, so they are looked at first.
+fn clear_slots(
+    table: &mut [u8],
+    ingress: u32,
+    nicks: &[u8],
+    rest: &[u8],
+    blocks: usize,
+    gathered: bool,
+) -> usize
+    requires { ⌜ Ready (now rest) blocks gathered ⌝ }
+    ensures { λ n. ⌜ onTable n (now (table .exit)) ≡ clearedBy (slotMeant everyType (payloadFrom (now (nicks .entry)) blocks (now (rest .entry))) ingress) (now (table .entry)) ⌝ }
+{
+    let n = table.len() / 14;
+    let mut count = 0;
+    let mut i = 0;
+    while i < n {
+        let k = next_candidate(table, i, n, ingress, nicks);
+        if n <= k {
+            return count;
+        }
+        let a = 14 * k;
+        let e = a + 14;
+        count += clear_slot(&mut table[a..e], rest, blocks, gathered);
+        i = k + 1;
+    }
+    count
+}
+
+// Clears what the pieces of a good payload mean. Whether a MAC was gathered is found once.
+fn clear_pieces(ingress: u32, nicks: &[u8], rest: &[u8], blocks: usize, table: &mut [u8]) -> usize
+    requires { ⌜ blockBytes * blocks ≤ length (now rest) ⌝ }
+    ensures { λ n. ⌜ onTable n (now (table .exit)) ≡ clearedBy (slotMeant everyType (payloadFrom (now (nicks .entry)) blocks (now (rest .entry))) ingress) (now (table .entry)) ⌝ }
+{
+    let gathered = payloads::some_mac(rest, blocks);
+    clear_slots(table, ingress, nicks, rest, blocks, gathered)
+}
+
+// Judges a payload, and clears what it means; a corrupt one changes nothing.
+pub fn clear_meant(ingress: u32, payload: &[u8], table: &mut [u8]) -> Cleared
+    ensures { λ r. ⌜ onTable r (now (table .exit)) ≡ clearedOn (now (table .entry)) (clearing everyType ingress (now (payload .entry)) (now (table .entry))) ⌝ }
+{
+    if !payloads::judge(payload) {
+        return Cleared::Refused(PAYLOAD_CORRUPT);
+    }
+    let k = payloads::nick_bytes(payload);
+    let a = 1 + k;
+    let s = 2 + k;
+    let blocks = payloads::block_count(payload);
+    Cleared::Count(clear_pieces(ingress, &payload[1..a], &payload[s..], blocks, table))
+}
+
+// The flush call.
+pub fn flush(ingress: u32, payload: &[u8], table: &mut [u8]) -> FlushAnswer
+    ensures { λ r. ⌜ onTable r (now (table .exit)) ≡ flushed ingress (now (payload .entry)) (now (table .entry)) ⌝ }
+{
+    if !records::table_good(table) {
+        return FlushAnswer::Refused(TABLE_LENGTH_BAD);
+    }
+    match clear_meant(ingress, payload, table) {
+        Cleared::Refused(n) => FlushAnswer::Refused(n),
+        Cleared::Count(n) => FlushAnswer::Flushed(n as u16),
+    }
+}

@@ -1,0 +1,23 @@
+-- `shinglebar::shinglebar_flush` meets its contract: the word of the answer, and the table that the flush left.
+-- Assumes nothing.
+use mathlib.Core.Path.{ap}
+use Rattle.numbers.specs.After.{tableAs}
+use Rattle.flush.specs.Words.{flushWord}
+use borrow.Author.Needs.{needs}
+use Rattle.shinglebar.proofs.shinglebar_flush.Statement.{statement}
+use Rattle.shinglebar.proofs.shinglebar_flush.Tie as tie
+
+flush-requires : tie.Need-flush-requires
+flush-requires c κs = search needs
+
+flush-word-requires : tie.Need-flush-word-requires
+flush-word-requires c κs = search needs
+
+same-length : tie.Need-same-length
+same-length c = search needs
+
+returns : tie.Need-returns
+returns c = rw (c .flush-word .ensures) (ap (tableAs flushWord) (c .before .before .before .flush .ensures))
+
+pub shinglebar-flush-spec : {M : Type 1} → statement M
+shinglebar-flush-spec = tie.close (tie.spec flush-requires flush-word-requires same-length returns)
