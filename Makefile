@@ -1,5 +1,5 @@
 # Shinglebar. `make test` is the gate that every change passes.
-.PHONY: test fuzz archive fmt
+.PHONY: test fuzz bench archive fmt
 
 # Proves every crate from nothing, tries every must-fail edit and runs the tests.
 test:
@@ -13,6 +13,10 @@ archive:
 # set the seed and the count.
 fuzz: archive
 	cd tests && SHINGLEBAR_CASES=$${SHINGLEBAR_CASES:-1000000} cargo test --offline --locked -- --nocapture
+
+# Times the calls beside hand-written Rust versions of them, on the same bytes in the same run.
+bench: archive
+	cd bench && cargo run --release --offline --locked
 
 # Lays out the Rattle and antt files.
 fmt:

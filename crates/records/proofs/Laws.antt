@@ -305,7 +305,7 @@ pub learned-state : (n : ℕ) → isLearned (slotOf n) ≡ true → stateOf n �
 learned-state n h = eqb-true (stateOf n) 1 (both-true _ _ (sym (learned-is n) ∙ h) .0)
 
 -- a record that holds a label and an address has their key
-pub pair-key : (k x m n : ℕ) → k ≤ 1 → slotMatches (labelFrom k x) m (slotOf n) ≡ true → keyIn n ≡ keyOf x m
+pub pair-key : (k x m n : ℕ) → k ≤ 1 → slotMatches (labelFrom k x) m (slotOf n) ≡ true → keyIn n ≡ keyOf m
 pair-key k x m n hk h = let p = pair-fields k x m n hk h in omega arith
 
 -- ---- the first bytes of a record
@@ -314,6 +314,6 @@ pub state-byte : (l : List ℕ) (at : ℕ) → AreBytes l → at + 14 ≤ length
 state-byte l at b h =
     omega (arith, num-add l at 1 13 h, num-one l at (omega arith), num-part-lt l (at + 1) 13 b (omega arith), b at)
 
-pub key-bytes : (l : List ℕ) (at : ℕ) → AreBytes l → at + 14 ≤ length l → num (take 8 (drop (at + 1) l)) ≡ keyIn (num (take 14 (drop at l)))
-key-bytes l at b h =
-    omega (arith, num-add l at 1 13 h, num-add l (at + 1) 8 5 (omega arith), num-part-lt l (at + 1 + 8) 5 b (omega arith), num-part-lt l (at + 1) 8 b (omega arith))
+pub key-byte : (l : List ℕ) (at : ℕ) → AreBytes l → at + 14 ≤ length l → getD l (at + 8) 0 ≡ keyIn (num (take 14 (drop at l)))
+key-byte l at b h =
+    omega (arith, num-add l at 8 6 h, num-add l (at + 8) 1 5 (omega arith), num-one l (at + 8) (omega arith), num-part-lt l (at + 8 + 1) 5 b (omega arith), b (at + 8))

@@ -36,9 +36,9 @@ pub record Fits (e : Entry) : Type 0 where
   pub mac : e .mac < 2 ^ 48
   pub seconds : e .seconds < 2 ^ 13
 
--- the bytes 1 to 8 of a record's number, and of one with this label and address
+-- byte 8 of a record's number, and of one with this address
 abbrev pub keyIn : ℕ → ℕ
-keyIn n = n / 2 ^ 40 % 2 ^ 64
+keyIn n = n / 2 ^ 40 % 2 ^ 8
 
-abbrev pub keyOf : ℕ → ℕ → ℕ
-keyOf label mac = label % 2 ^ 19 * 2 ^ 45 + mac / 2 ^ 3
+abbrev pub keyOf : ℕ → ℕ
+keyOf mac = mac / 2 ^ 3 % 2 ^ 8

@@ -204,20 +204,19 @@ pub fn state_at(t: &[u8], at: usize) -> u64
     numbers::wide(t[at]) / 0x40
 }
 
-// The bytes 1 to 8 of the record at a place of the table: they tell most of a label and an address.
+// The byte of the record at a place of the table that tells most addresses apart: bits 3 to 10 of the MAC.
 pub fn key_at(t: &[u8], at: usize) -> u64
     requires { ⌜ at + recordBytes ≤ length (now t) ⌝ }
     ensures { λ r. ⌜ r ≡ keyIn (recordOf (drop at (now (t .entry)))) ⌝ }
 {
-    numbers::be8(t, at + 1)
+    numbers::wide(t[at + 8])
 }
 
-// Those bytes of a record with this label and address.
-pub fn key_of(label: u64, mac: u64) -> u64
-    requires { ⌜ (label < 2 ^ 24) × (mac < 2 ^ 48) ⌝ }
-    ensures { λ r. ⌜ r ≡ keyOf label mac ⌝ }
+// That byte of a record with this address.
+pub fn key_of(mac: u64) -> u64
+    ensures { λ r. ⌜ r ≡ keyOf mac ⌝ }
 {
-    label % 0x8_0000 * 0x2000_0000_0000 + mac / 8
+    mac / 8 % 0x100
 }
 
 // Whether a record holds a label and an address.

@@ -45,7 +45,7 @@ unfolding spoiltSlot
 spoilt-near x = ap isSpoilt (unpacked-near x)
 
 -- another key: the slot does not hold the pair
-pub other-key : (k x m : ℕ) → k ≤ 1 → (r : List ℕ) → (keyIn (recordOf r) ≡ keyOf x m → ⊥) → false ≡ holds (labelFrom k x) m r
+pub other-key : (k x m : ℕ) → k ≤ 1 → (r : List ℕ) → (keyIn (recordOf r) ≡ keyOf m → ⊥) → false ≡ holds (labelFrom k x) m r
 unfolding holds unpacked
 other-key k x m hk r h = sym (not-true-false _ (λ e. h (pair-key k x m (recordOf r) hk e)))
 

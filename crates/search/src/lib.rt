@@ -15,7 +15,7 @@ use table::SpoiltAnswer;
 
 // Whether the slot at a place holds a label and an address, whose key is given.
 fn pair_at(t: &[u8], at: usize, key: u64, kind: u64, label: u64, mac: u64) -> bool
-    requires { ⌜ (at + recordBytes ≤ length (now t)) × ((key ≡ keyOf label mac) × (kind ≤ 1)) ⌝ }
+    requires { ⌜ (at + recordBytes ≤ length (now t)) × ((key ≡ keyOf mac) × (kind ≤ 1)) ⌝ }
     ensures { λ r. ⌜ r ≡ holds (labelFrom kind label) mac (drop at (now (t .entry))) ⌝ }
 {
     if records::key_at(t, at) != key {
@@ -29,7 +29,7 @@ pub fn find_pair(t: &[u8], kind: u64, label: u64, mac: u64) -> Place
     requires { ⌜ (kind ≤ 1) × ((label < 2 ^ 24) × (mac < 2 ^ 48)) ⌝ }
     ensures { λ r. ⌜ r ≡ lowest (holds (labelFrom kind label) mac) (now (t .entry)) ⌝ }
 {
-    let key = records::key_of(label, mac);
+    let key = records::key_of(mac);
     let n = t.len() / 14;
     let mut i = 0;
     while i < n {

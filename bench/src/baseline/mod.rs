@@ -1,0 +1,23 @@
+//! Hand-written versions of the calls, with the signatures of the C boundary: plain loops over the
+//! bytes with wide loads, early exits, and for a flush bit sets and sorted ranges on the heap.
+//!
+//! # Safety
+//!
+//! As for the library: a pointer is not null, a length does not exceed the memory behind it, and the
+//! areas of one call do not overlap.
+
+#![allow(clippy::missing_safety_doc, clippy::too_many_arguments)]
+
+mod convert;
+mod flush;
+mod frame;
+mod receive;
+mod record;
+mod refusal;
+mod settings;
+mod table;
+
+pub use convert::{compact, expand, send};
+pub use flush::flush;
+pub use receive::receive;
+pub use table::{age, lookup, spoilt};

@@ -1,0 +1,134 @@
+//! Reading one frame.
+
+use std::slice;
+
+use super::flush::clear;
+use super::frame::{is_reserved, length_good, six, two, Fields, Front};
+use super::record::{nickname_good, slots_mut, Slot, FINE, GROUP};
+use super::refusal;
+use super::settings::Port;
+use super::table::learn;
+
+const ONWARD: u64 = 64;
+const DELIVERED: u64 = 65;
+const OTHER_CHANNEL: u64 = 66;
+
+const CHANNEL: u16 = 0x8946;
+const ADDRESS_FLUSH: u32 = 0x009;
+
+/// 01-80-C2-00-00-42
+const ALL_EGRESS_RBRIDGES: u64 = 0x0180_C200_0042;
+
+#[inline(never)]
+pub unsafe extern "C" fn receive(
+    port: u64,
+    inner: u64,
+    nickname: u32,
+    compact: u32,
+    confidence: u32,
+    seconds: u32,
+    frame: *const u8,
+    frame_len: usize,
+    table: *mut u8,
+    table_len: usize,
+    out: *mut u8,
+    out_len: usize,
+) -> u64 {
+    let port = match Port::new(port, inner, nickname, compact, confidence, seconds) {
+        Ok(port) => port,
+        Err(refusal) => return refusal,
+    };
+    let Some(slots) = slots_mut(table, table_len) else {
+        return refusal::TABLE_LENGTH;
+    };
+    if !length_good(frame_len) {
+        return refusal::FRAME_LENGTH;
+    }
+    let frame = slice::from_raw_parts(frame, frame_len);
+    let out = slice::from_raw_parts_mut(out, out_len);
+    received(&port, frame, slots, out).unwrap_or_else(|refusal| refusal)
+}
+
+#[inline(always)]
+fn received(port: &Port, frame: &[u8], slots: &mut [Slot], out: &mut [u8]) -> Result<u64, u64> {
+    let destination = six(frame, 0)?;
+    let fields = match Front::new(destination, port.port) {
+        Front::General => Fields::general(frame, destination)?,
+        Front::Compact if port.compact => Fields::compact(frame)?,
+        _ => return Err(refusal::NOT_FOR_THIS_PORT),
+    };
+    if fields.hop_count == 0 {
+        return Err(refusal::HOP_COUNT);
+    }
+    if !nickname_good(u64::from(fields.egress))
+        || !nickname_good(u64::from(fields.ingress))
+        || fields.ingress == port.nickname
+    {
+        return Err(refusal::NICKNAME);
+    }
+    if fields.inner_source & GROUP != 0 {
+        return Err(refusal::GROUP_SOURCE);
+    }
+    if !fields.multicast && fields.egress != port.nickname {
+        return Ok(ONWARD);
+    }
+    if two(frame, fields.content_at)? == CHANNEL {
+        channel(port, &fields, &frame[fields.content_at + 2..], slots)
+    } else {
+        deliver(port, &fields, frame, slots, out)
+    }
+}
+
+#[inline(always)]
+fn deliver(
+    port: &Port,
+    fields: &Fields,
+    frame: &[u8],
+    slots: &mut [Slot],
+    out: &mut [u8],
+) -> Result<u64, u64> {
+    if is_reserved(fields.inner_destination) {
+        return Err(refusal::RESERVED_DESTINATION);
+    }
+    let content = &frame[fields.content_at..];
+    let length = 12 + content.len();
+    let Some(native) = out.get_mut(..length) else {
+        return Err(refusal::OUTPUT_LENGTH);
+    };
+    let (addresses, rest) = native.split_at_mut(12);
+    addresses.copy_from_slice(&frame[fields.addresses_at..][..12]);
+    rest.copy_from_slice(content);
+    let learning = learn(
+        slots,
+        fields.label,
+        fields.inner_source,
+        fields.ingress,
+        port.confidence,
+        port.seconds,
+    );
+    let kind = fields.label / FINE;
+    let label = fields.label % FINE;
+    Ok(DELIVERED
+        | (length as u64) << 8
+        | (learning as u64) << 24
+        | u64::from(kind) << 32
+        | u64::from(label) << 40)
+}
+
+/// `rest` is what follows 8946.
+fn channel(port: &Port, fields: &Fields, rest: &[u8], slots: &mut [Slot]) -> Result<u64, u64> {
+    let Some((header, payload)) = rest.split_first_chunk::<4>() else {
+        return Err(refusal::CUT);
+    };
+    // Version 4 bits, protocol 12, flags 12, ERR 4.
+    let bits = u32::from_be_bytes(*header);
+    let destination = fields.inner_destination;
+    if bits & 0xF000_000F != 0 || (destination != port.inner && destination != ALL_EGRESS_RBRIDGES)
+    {
+        return Err(refusal::CHANNEL);
+    }
+    if bits >> 16 != ADDRESS_FLUSH {
+        return Ok(OTHER_CHANNEL);
+    }
+    clear(u32::from(fields.ingress), payload, slots)
+}

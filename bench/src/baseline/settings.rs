@@ -1,0 +1,49 @@
+//! The settings of a port.
+
+use super::record::{nickname_good, GROUP};
+use super::refusal;
+
+pub struct Port {
+    pub port: u64,
+    pub inner: u64,
+    pub nickname: u16,
+    pub compact: bool,
+    pub confidence: u8,
+    pub seconds: u16,
+}
+
+/// An individual address, below 2^48.
+pub fn is_individual(address: u64) -> bool {
+    address & (!0 << 48 | GROUP) == 0
+}
+
+impl Port {
+    #[inline(always)]
+    pub fn new(
+        port: u64,
+        inner: u64,
+        nickname: u32,
+        compact: u32,
+        confidence: u32,
+        seconds: u32,
+    ) -> Result<Port, u64> {
+        let addresses = is_individual(port | inner) && port != inner;
+        let seconds = if seconds == 0 { 300 } else { seconds };
+        if !addresses
+            || !nickname_good(u64::from(nickname))
+            || compact > 1
+            || confidence > 255
+            || !(10..=8191).contains(&seconds)
+        {
+            return Err(refusal::SETTINGS);
+        }
+        Ok(Port {
+            port,
+            inner,
+            nickname: nickname as u16,
+            compact: compact == 1,
+            confidence: confidence as u8,
+            seconds: seconds as u16,
+        })
+    }
+}

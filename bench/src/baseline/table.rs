@@ -1,0 +1,155 @@
+//! Lookup, ageing, the lowest spoilt slot, learning.
+
+use super::record::{
+    eight, is_free, label_good, learned, nickname_good, slots, slots_mut, state_learned, Bits,
+    Slot, CONFIGURED, FINE, GROUP, LEARNED, RECORD,
+};
+use super::refusal;
+
+const DONE: u64 = 64;
+const FOUND: u64 = 64;
+const SLOT: u64 = 64;
+const NONE: u64 = 65;
+
+/// A label and an address as they lie in a record.
+struct Key {
+    /// Bytes 1 to 8, which hold nothing else.
+    middle: u64,
+    /// The low six bits of byte 0.
+    first: u8,
+    /// The high three bits of byte 9.
+    last: u8,
+}
+
+impl Key {
+    /// None for values that no good record can hold.
+    fn new(label: u32, mac: u64) -> Option<Key> {
+        if !label_good(label) || label >= 2 * FINE || mac >= 1 << 48 || mac & GROUP != 0 {
+            return None;
+        }
+        let record = learned(label, mac, 0, 0, 0);
+        Some(Key {
+            middle: eight::<1>(&record),
+            first: record[0] & 0x3F,
+            last: record[9] & 0xE0,
+        })
+    }
+
+    /// Whether a slot whose bytes 1 to 8 agree holds the label and address in a good record.
+    fn is_in(&self, slot: &Slot) -> bool {
+        let bits = Bits::of(slot);
+        slot[0] & 0x3F == self.first
+            && slot[9] & 0xE0 == self.last
+            && matches!(bits.state(), LEARNED | CONFIGURED)
+            && nickname_good(u64::from(bits.nickname()))
+    }
+
+    /// The lowest slot with the label and address.
+    #[inline(always)]
+    fn find(&self, slots: &[Slot]) -> Option<usize> {
+        slots
+            .iter()
+            .position(|slot| eight::<1>(slot) == self.middle && self.is_in(slot))
+    }
+}
+
+#[inline(never)]
+pub unsafe extern "C" fn lookup(
+    kind: u32,
+    label: u32,
+    mac: u64,
+    table: *const u8,
+    table_len: usize,
+) -> u64 {
+    let Some(slots) = slots(table, table_len) else {
+        return refusal::TABLE_LENGTH;
+    };
+    if kind > 1 || label >= FINE {
+        return NONE;
+    }
+    let Some(key) = Key::new((kind * FINE) | label, mac) else {
+        return NONE;
+    };
+    match key.find(slots) {
+        Some(slot) => FOUND | u64::from(Bits::of(&slots[slot]).nickname()) << 8,
+        None => NONE,
+    }
+}
+
+#[inline(never)]
+pub unsafe extern "C" fn age(seconds: u16, table: *mut u8, table_len: usize) -> u64 {
+    let Some(slots) = slots_mut(table, table_len) else {
+        return refusal::TABLE_LENGTH;
+    };
+    for slot in slots {
+        if !state_learned(slot) {
+            continue;
+        }
+        let bits = Bits::of(slot);
+        if !bits.entry_good() {
+            continue;
+        }
+        if bits.seconds() <= seconds {
+            *slot = [0; RECORD];
+        } else {
+            // The seconds are the low bits of the last two bytes: nothing is borrowed from above.
+            let [high, low] = [slot[12], slot[13]];
+            let left = u16::from_be_bytes([high, low]) - seconds;
+            [slot[12], slot[13]] = left.to_be_bytes();
+        }
+    }
+    DONE
+}
+
+#[inline(never)]
+pub unsafe extern "C" fn spoilt(table: *const u8, table_len: usize) -> u64 {
+    let Some(slots) = slots(table, table_len) else {
+        return refusal::TABLE_LENGTH;
+    };
+    let spoilt = slots.iter().position(|slot| {
+        let bits = Bits::of(slot);
+        let held = matches!(bits.state(), LEARNED | CONFIGURED) && bits.entry_good();
+        !held && !is_free(slot)
+    });
+    match spoilt {
+        Some(slot) => SLOT | (slot as u64) << 8,
+        None => NONE,
+    }
+}
+
+/// What learning did, with the numbers of the answer.
+#[derive(Clone, Copy)]
+pub enum Learning {
+    Learned = 0,
+    Refreshed = 1,
+    Kept = 2,
+    Full = 3,
+}
+
+/// Learns a label and an address. The arguments are such as a good record can hold.
+pub fn learn(
+    slots: &mut [Slot],
+    label: u32,
+    mac: u64,
+    nickname: u16,
+    confidence: u8,
+    seconds: u16,
+) -> Learning {
+    let record = learned(label, mac, nickname, confidence, seconds);
+    let found = Key::new(label, mac).and_then(|key| key.find(slots));
+    if let Some(slot) = found {
+        let there = Bits::of(&slots[slot]);
+        if there.state() == CONFIGURED || there.confidence() > confidence {
+            return Learning::Kept;
+        }
+        slots[slot] = record;
+        return Learning::Refreshed;
+    }
+    match slots.iter().position(is_free) {
+        Some(slot) => {
+            slots[slot] = record;
+            Learning::Learned
+        }
+        None => Learning::Full,
+    }
+}

@@ -1,0 +1,29 @@
+//! The rows, a module for each cargo feature.
+
+use crate::measure::Report;
+
+#[cfg(feature = "convert")]
+mod convert;
+#[cfg(feature = "flush")]
+mod flush;
+#[cfg(feature = "receive")]
+mod receive;
+#[cfg(feature = "table")]
+mod table;
+
+const STAGES: &[fn(&Report)] = &[
+    #[cfg(feature = "table")]
+    table::run,
+    #[cfg(feature = "flush")]
+    flush::run,
+    #[cfg(feature = "receive")]
+    receive::run,
+    #[cfg(feature = "convert")]
+    convert::run,
+];
+
+pub fn run(report: &Report) {
+    for stage in STAGES {
+        stage(report);
+    }
+}

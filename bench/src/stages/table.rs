@@ -1,0 +1,87 @@
+//! Lookup, ageing, the lowest spoilt slot.
+
+use crate::baseline;
+use crate::inputs::{entries, mac, table, Entry, CONFIGURED, SLOTS};
+use crate::library::{self, Age, Lookup, Spoilt};
+use crate::measure::{Areas, Pair, Report};
+use crate::random::Random;
+
+const LOOKUP: Pair<Lookup> = Pair {
+    ours: library::shinglebar_lookup,
+    baseline: baseline::lookup,
+};
+
+const AGE: Pair<Age> = Pair {
+    ours: library::shinglebar_age,
+    baseline: baseline::age,
+};
+
+const SPOILT: Pair<Spoilt> = Pair {
+    ours: library::shinglebar_spoilt,
+    baseline: baseline::spoilt,
+};
+
+const DONE: u64 = 64;
+const NONE: u64 = 65;
+
+pub fn run(report: &Report) {
+    let entries = entries(&mut Random::new(1));
+    lookup_rows(report, &entries);
+    age_rows(report, &entries);
+    report.row(
+        "spoilt: none in 4,096",
+        SPOILT,
+        Areas::new(&table(&entries), &[]),
+        |word| word == NONE,
+        // SAFETY: the area is as long as said.
+        |spoilt, lent| unsafe { spoilt(lent.table.as_ptr(), lent.table.len()) },
+    );
+}
+
+fn lookup_rows(report: &Report, entries: &[Entry]) {
+    let row = |name: &str, key: &Entry, expected: u64| {
+        let (kind, label) = (key.label.kind(), key.label.number());
+        report.row(
+            name,
+            LOOKUP,
+            Areas::new(&table(entries), &[]),
+            |word| word == expected,
+            // SAFETY: the area is as long as said.
+            |lookup, lent| unsafe {
+                lookup(kind, label, key.mac, lent.table.as_ptr(), lent.table.len())
+            },
+        );
+    };
+    let found = |entry: &Entry| 64 | u64::from(entry.nickname) << 8;
+    let (first, last) = (entries[0], entries[SLOTS - 1]);
+    row("lookup: hit at slot 0 of 4,096", &first, found(&first));
+    row("lookup: hit at the last of 4,096", &last, found(&last));
+    let unknown = Entry {
+        mac: mac(&mut Random::new(2)),
+        ..last
+    };
+    row("lookup: miss in 4,096", &unknown, NONE);
+}
+
+fn age_rows(report: &Report, entries: &[Entry]) {
+    let row = |name: &str, seconds: u16, entries: &[Entry]| {
+        report.row(
+            name,
+            AGE,
+            Areas::new(&table(entries), &[]),
+            |word| word == DONE,
+            // SAFETY: the area is as long as said.
+            |age, lent| unsafe { age(seconds, lent.table.as_mut_ptr(), lent.table.len()) },
+        );
+    };
+    let configured: Vec<Entry> = entries
+        .iter()
+        .map(|entry| Entry {
+            state: CONFIGURED,
+            ..*entry
+        })
+        .collect();
+    row("age: 4,096 learned, seconds left", 10, entries);
+    row("age: 4,096 learned, all become free", 8191, entries);
+    row("age: 4,096 configured", 10, &configured);
+}
