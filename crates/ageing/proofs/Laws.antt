@@ -2,11 +2,11 @@
 -- Assumes nothing.
 use Prim.Native.Nat.{ℕ, _+_, _-_, _*_, _%_, _^_, _<_, _≤_}
 use mathlib.Core.Bool.{Bool, true, false}
-use mathlib.Core.List.{List, [], _++_, append-assoc}
+use mathlib.Core.List.{List, _++_, append-assoc}
 use mathlib.Core.Path.{_≡_, refl, sym, ap, _∙_}
 use native.Mathlib.Omega.{arith}
-use lib.ListN.{length, take, drop, getD, length-append, length-drop, drop-of-length-le}
-use lib.Seq.{drop-drop, length-take-le}
+use lib.ListN.{length, take, drop}
+use lib.Seq.{drop-drop}
 use borrow.Author.Tests.{le-leb, lt-leb}
 use Rattle.numbers.specs.Tests.{pick}
 use Rattle.numbers.specs.Result.{check, settled}
@@ -14,13 +14,11 @@ use Rattle.numbers.specs.After.{onTable}
 use Rattle.numbers.specs.Bytes.{num, bytesOf}
 use Rattle.numbers.proofs.Truth.{not-true-false}
 use Rattle.numbers.specs.Bytes.{AreBytes}
-use Rattle.numbers.proofs.Bytes.{length-bytesOf, num-add, num-part-lt, bytesOf-join, bytesOf-part}
-use Rattle.table.specs.Record.{recordBytes, recordOf, stateOf, secondsOf, slotOf, unpacked, isLearned}
+use Rattle.numbers.proofs.Bytes.{num-add, num-part-lt, bytesOf-join, bytesOf-part}
+use Rattle.table.specs.Record.{recordBytes, recordOf, stateOf, secondsOf, unpacked, isLearned}
 use Rattle.table.specs.Slots.{slotBytes, tableGood, slotsOf, freed, onSlots}
-use Rattle.table.specs.Table.{lessSeconds, agedSlot, aged}
+use Rattle.table.specs.Table.{agedSlot, aged}
 use Rattle.table.specs.declared.AgeAnswer.the-variants as age
-use Rattle.records.specs.Halves.{wholeOf, Halved}
-use Rattle.records.specs.declared.Halves.{Halves}
 use Rattle.records.proofs.Laws.{learned-state}
 
 module _ (s : ℕ) (r : List ℕ) where
@@ -32,31 +30,28 @@ module _ (s : ℕ) (r : List ℕ) where
   unfolding unpacked
   age-other h = age-kept false (sym (not-true-false _ (λ e. h (learned-state (recordOf r) e)))) refl
 
-  module _ (learned : isLearned (unpacked r) ≡ true) (h : Halves) (is : Halved (recordOf r) h) where
-    pub age-freed : h .lo % 2 ^ 13 ≤ s → freed ≡ agedSlot s r
+  module _ (learned : isLearned (unpacked r) ≡ true) (w : ℕ) (is : w ≡ recordOf r % 2 ^ 16) where
+    pub age-freed : w % 2 ^ 13 ≤ s → freed ≡ agedSlot s r
     unfolding agedSlot pick
     age-freed few =
-        let w = is .whole in
         rw (learned, le-leb (secondsOf (recordOf r)) s (omega arith))
 
     module _ (bytes : AreBytes r) (long : length r ≡ slotBytes) where
       -- the number less s, by its first twelve bytes and its last two
-      less-two : s < h .lo % 2 ^ 13 → bytesOf recordBytes (recordOf r - s) ≡ take 12 r ++ bytesOf 2 (h .lo % 2 ^ 16 - s)
+      less-two : s < w % 2 ^ 13 → bytesOf recordBytes (recordOf r - s) ≡ take 12 r ++ bytesOf 2 (w - s)
       less-two more =
-          let w = is .whole in
           let n = num-add r 0 12 2 (omega arith) in
           let small = num-part-lt r 12 2 bytes (omega arith) in
-          let e : recordOf r - s ≡ num (take 12 r) * 256 ^ 2 + (h .lo % 2 ^ 16 - s) = omega arith in
+          let e : recordOf r - s ≡ num (take 12 r) * 256 ^ 2 + (w - s) = omega arith in
           ap (bytesOf recordBytes) e
-          ∙ bytesOf-join 12 2 (num (take 12 r)) (h .lo % 2 ^ 16 - s) (omega arith)
-          ∙ ap (λ (x : List ℕ). x ++ bytesOf 2 (h .lo % 2 ^ 16 - s)) (bytesOf-part r 12 bytes (omega arith))
+          ∙ bytesOf-join 12 2 (num (take 12 r)) (w - s) (omega arith)
+          ∙ ap (λ (x : List ℕ). x ++ bytesOf 2 (w - s)) (bytesOf-part r 12 bytes (omega arith))
 
-      pub age-less : s < h .lo % 2 ^ 13 → (x : List ℕ) → x ≡ bytesOf 2 (h .lo % 2 ^ 16 - s) → take 12 r ++ (x ++ drop 2 (drop 12 r)) ≡ agedSlot s r
+      pub age-less : s < w % 2 ^ 13 → (x : List ℕ) → x ≡ bytesOf 2 (w - s) → take 12 r ++ (x ++ drop 2 (drop 12 r)) ≡ agedSlot s r
       unfolding agedSlot pick
       age-less more x e =
-          let w = is .whole in
           rw (learned, lt-leb (secondsOf (recordOf r)) s (omega arith), less-two more, e, drop-drop 2 12 r)
-          (sym (append-assoc (take 12 r) (bytesOf 2 (h .lo % 2 ^ 16 - s)) (drop 14 r)))
+          (sym (append-assoc (take 12 r) (bytesOf 2 (w - s)) (drop 14 r)))
 
 -- ---- the call
 

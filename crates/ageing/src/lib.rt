@@ -1,5 +1,4 @@
 // Ageing: learned records lose seconds, and those with none left become free.
-ghost use Prim.Native.Nat.{_≤_};
 ghost use mathlib.Core.Path.{_≡_};
 ghost use lib.ListN.{length};
 ghost use Rattle.numbers.specs.After.{onTable};
@@ -16,16 +15,16 @@ fn age_slot(slot: &mut [u8], s: u16)
     if records::state_at(slot, 0) != 1 {
         return;
     }
-    let h = records::split(slot, 0);
-    if !records::is_learned(h) {
+    if !records::good_at(slot, 0) {
         return;
     }
+    let w = numbers::be2(slot, 12);
     let by = s as u64;
-    if h.lo % 0x2000 <= by {
+    if w % 0x2000 <= by {
         records::clear(slot);
         return;
     }
-    let left = h.lo % 0x1_0000 - by;
+    let left = w - by;
     numbers::fill(&mut slot[12..14], left);
 }
 

@@ -7,8 +7,7 @@ use mathlib.Core.Path.{_≡_, sym, ap, _∙_}
 use native.Mathlib.Nat.{add-sub-cancel-left}
 use native.Mathlib.Omega.{arith}
 use lib.Dec.{eqb}
-use lib.ListN.{length, take, drop, length-drop}
-use lib.Seq.{take-all}
+use lib.ListN.{length, take, drop}
 use Rattle.numbers.specs.Tests.{pick, between}
 use Rattle.numbers.specs.Result.{Result, refused, got, check, andThen, settled}
 use Rattle.numbers.specs.Refusals.{payload-corrupt, table-length-bad}
@@ -21,13 +20,10 @@ use Rattle.flush.specs.Flush.{slotMeant, clearedBy, clearing, flushed}
 use Rattle.flush.specs.Validity.{Valid}
 use Rattle.flush.specs.declared.FlushAnswer.the-variants as answer
 use Rattle.flush.proofs.Validity.{validity}
+use Rattle.payloads.proofs.Laws.{rest-is}
 use Rattle.flushing.specs.Clearing.{payloadFrom, clearedOn}
 use Rattle.flushing.specs.declared.Cleared.{Cleared}
 use Rattle.flushing.specs.declared.Cleared.the-variants.{Refused, Count}
-
--- a part from a place on
-rest-is : (k : ℕ) (l : List ℕ) → take (length l - k) (drop k l) ≡ drop k l
-rest-is k l = let d : length (drop k l) ≡ length l - k = length-drop k l in take-all (length l - k) (drop k l) (omega arith)
 
 -- ---- judged, and cleared
 

@@ -28,9 +28,11 @@ pub record Ready (rest : List ℕ) (blocks : ℕ) (gathered : Bool) : Type 0 whe
 
 -- a slot may be meant: learned by its state bits, and its nickname meant
 unfoldable pub candidate : ℕ → List ℕ → List ℕ → Bool
-candidate ingress nicks r = both (eqb (stateOf (recordOf r)) learnedState) (nicknameMeant ingress nicks (nicknameOf (recordOf r)))
+candidate ingress nicks r =
+    both (eqb (stateOf (recordOf r)) learnedState)
+    (nicknameMeant ingress nicks (nicknameOf (recordOf r)))
 
--- the rest of a slot is meant: a good record, its label and its MAC
+-- the rest of a slot is meant: its entry is good, and label and MAC are meant
 unfoldable pub restMeant : List Piece → List ℕ → Bool
 restMeant ps r =
     both (entryGood (entryOf (recordOf r)))

@@ -2,38 +2,20 @@
 ghost use Prim.Native.Nat.{_+_, _*_, _≤_};
 ghost use mathlib.Core.Path.{_≡_};
 ghost use lib.ListN.{length, drop};
-ghost use Rattle.numbers.specs.Tests.{both};
 ghost use Rattle.numbers.specs.After.{onTable};
-ghost use Rattle.table.specs.Record.{recordBytes, entryOf};
+ghost use Rattle.table.specs.Record.{recordBytes};
 ghost use Rattle.table.specs.Slots.{slotBytes};
-ghost use Rattle.records.specs.Halves.{wholeOf, Small};
 ghost use Rattle.flush.specs.Payload.{everyType, blockBytes, piecesOf};
-ghost use Rattle.flush.specs.Meaning.{labelMeant, macMeant};
 ghost use Rattle.flush.specs.Flush.{slotMeant, clearedBy, clearing, flushed};
 ghost use Rattle.flushing.specs.Clearing.{payloadFrom, Ready, candidate, Next, restMeant, ClearedOne, clearedOn};
 use flush::FlushAnswer;
 use numbers::refusals::PAYLOAD_CORRUPT;
 use numbers::refusals::TABLE_LENGTH_BAD;
-use records::Halves;
 
 // What clearing came to: a refusal number, or how many records were cleared.
 pub enum Cleared {
     Refused(u8),
     Count(usize),
-}
-
-// Whether a record's label and MAC are meant.
-fn pair_meant(h: Halves, rest: &[u8], blocks: usize, gathered: bool) -> bool
-    requires { ⌜ Small h × Ready (now rest) blocks gathered ⌝ }
-    ensures { λ b. ⌜ b ≡ both (labelMeant everyType (piecesOf blocks (now (rest .entry))) (entryOf (wholeOf h) .label)) (macMeant everyType (piecesOf blocks (now (rest .entry))) (entryOf (wholeOf h) .mac)) ⌝ }
-{
-    let kind = h.hi / 0x2000_0000_0000_0000 % 2;
-    let label = h.hi / 0x20_0000_0000 % 0x100_0000;
-    if !payloads::label_meant(rest, blocks, kind, label) {
-        return false;
-    }
-    let mac = h.hi % 0x20_0000_0000 * 0x800 + h.lo / 0x20_0000_0000;
-    payloads::mac_meant(rest, blocks, gathered, mac)
 }
 
 // Whether the slot at a place may be meant: learned by its state bits, and its nickname meant.
@@ -44,7 +26,7 @@ fn candidate_at(t: &[u8], at: usize, ingress: u32, nicks: &[u8]) -> bool
     if records::state_at(t, at) != 1 {
         return false;
     }
-    payloads::nickname_meant(nicks, ingress, records::nickname_at(t, at))
+    payloads::nickname_meant(nicks, ingress, record_fields::nickname_at(t, at))
 }
 
 // The next slot that may be meant, from a slot on; n where there is none before slot n.
@@ -52,26 +34,30 @@ fn next_candidate(t: &[u8], from: usize, n: usize, ingress: u32, nicks: &[u8]) -
     requires { ⌜ (from ≤ n) × (slotBytes * n ≤ length (now t)) ⌝ }
     ensures { λ k. ⌜ Next (candidate ingress (now (nicks .entry))) (now (t .entry)) from n k ⌝ }
 {
-    let mut i = from;
-    while i < n {
-        if candidate_at(t, 14 * i, ingress, nicks) {
-            return i;
+    let mut k = from;
+    while k < n {
+        if candidate_at(t, 14 * k, ingress, nicks) {
+            return k;
         }
-        i += 1;
+        k += 1;
     }
     n
 }
 
-// Whether the rest of a slot is meant: a good record, its label and its MAC.
+// Whether the rest of a slot is meant: its entry is good, and label and MAC are meant.
 fn rest_meant(slot: &[u8], rest: &[u8], blocks: usize, gathered: bool) -> bool
     requires { ⌜ (length (now slot) ≡ slotBytes) × Ready (now rest) blocks gathered ⌝ }
     ensures { λ b. ⌜ b ≡ restMeant (piecesOf blocks (now (rest .entry))) (now (slot .entry)) ⌝ }
 {
-    let h = records::split(slot, 0);
-    if !records::entry_good(h) {
+    if !records::good_at(slot, 0) {
         return false;
     }
-    pair_meant(h, rest, blocks, gathered)
+    let kind = record_fields::kind_at(slot, 0);
+    let label = record_fields::label_at(slot, 0);
+    if !payloads::label_meant(rest, blocks, kind, label) {
+        return false;
+    }
+    payloads::mac_meant(rest, blocks, gathered, record_fields::mac_at(slot, 0))
 }
 
 // Frees a slot whose rest is meant, and says how many were freed.

@@ -1,16 +1,16 @@
 -- Laws of a payload: the pieces behind K-VLBs in both forms of the message, the ways to judge it, and membership in the three sets.
 -- Assumes nothing.
-use Prim.Native.Nat.{ℕ, _+_, _-_, _*_, _<_, _≤_}
-use mathlib.Core.Bool.{Bool, true, false, not}
+use Prim.Native.Nat.{ℕ, _+_, _-_, _*_, _%_, _<_, _≤_}
+use mathlib.Core.Bool.{Bool, true, false, not, _&&_, _||_}
 use mathlib.Core.List.{List, [], _∷_, map}
 use mathlib.Core.Path.{_≡_, refl, sym, ap, _∙_}
 use native.Mathlib.Decide.{ℕ-discrete}
 use native.Mathlib.Omega.{arith}
-use lib.Dec.{eqb}
+use lib.Dec.{leb, eqb}
 use lib.ListN.{length, take, drop, length-drop}
 use lib.Seq.{take-all}
 use borrow.Author.Tests.{le-leb, eq-eqb, ne-eqb}
-use Rattle.numbers.specs.Tests.{either, anyOf}
+use Rattle.numbers.specs.Tests.{both, either, anyOf}
 use Rattle.numbers.specs.Bytes.{parts}
 use Rattle.numbers.specs.Result.{check, got}
 use Rattle.numbers.specs.Refusals.{payload-corrupt}
@@ -18,7 +18,8 @@ use Rattle.numbers.specs.Numberings.{vlans, inBlocks}
 use Rattle.numbers.proofs.Truth.{pick-true, pick-false}
 use Rattle.numbers.proofs.Answers.{check-pass}
 use Rattle.table.specs.Record.{labelFrom}
-use Rattle.flush.specs.Payload.{everyType, Piece, block, tlvs, corrupt, nickBytes, blockCount, behind, blockBytes, piecesOf, made, payloadOf}
+use Rattle.records.proofs.Laws.{and-both, or-either}
+use Rattle.flush.specs.Payload.{everyType, Piece, block, tlvs, rule, lengthGood, corrupt, nickBytes, blockCount, behind, blockBytes, piecesOf, made, payloadOf}
 use Rattle.flush.specs.Meaning.{bringsLabel, bringsMac, gathersMac, labelMeant, macMeant}
 use Rattle.flush.specs.Validity.{Valid}
 use Rattle.flush.proofs.Validity.{validity}
@@ -26,8 +27,28 @@ use Rattle.flush.proofs.Lists.{false-true}
 use Rattle.tlvs.proofs.Laws.{label-vlan, label-fine}
 
 -- a part from a place on
-rest-is : (k : ℕ) (l : List ℕ) → take (length l - k) (drop k l) ≡ drop k l
+pub rest-is : (k : ℕ) (l : List ℕ) → take (length l - k) (drop k l) ≡ drop k l
 rest-is k l = let d : length (drop k l) ≡ length l - k = length-drop k l in take-all (length l - k) (drop k l) (omega arith)
+
+-- ---- the length rules
+
+both-tests : {a b x y : Bool} → a ≡ x → b ≡ y → a && b ≡ both x y
+both-tests {a} {b} p q = rw (← p, ← q) (and-both a b)
+
+module _ (k n : ℕ) where
+  rule-test : (t : ℕ) (holds : Bool) → not (eqb k t) || holds ≡ rule k t holds
+  rule-test t holds = or-either (not (eqb k t)) holds
+
+  pub length-tests : (not (eqb k 1) || eqb (n % 4) 0) && ((not (eqb k 2) || leb 2 n) && ((not (eqb k 3) || eqb (n % 6) 0) && ((not (eqb k 4) || eqb (n % 3) 0) && ((not (eqb k 5) || leb 3 n) && ((not (eqb k 6) || eqb n 0) && ((not (eqb k 7) || eqb (n % 6) 0) && (not (eqb k 8) || eqb (n % 12) 0))))))) ≡ lengthGood k n
+  unfolding lengthGood
+  length-tests =
+      both-tests (rule-test 1 (eqb (n % 4) 0))
+      (both-tests (rule-test 2 (leb 2 n))
+      (both-tests (rule-test 3 (eqb (n % 6) 0))
+      (both-tests (rule-test 4 (eqb (n % 3) 0))
+      (both-tests (rule-test 5 (leb 3 n))
+      (both-tests (rule-test 6 (eqb n 0))
+      (both-tests (rule-test 7 (eqb (n % 6) 0)) (rule-test 8 (eqb (n % 12) 0))))))))
 
 -- ---- the pieces
 

@@ -3,11 +3,11 @@
 use Prim.Native.Nat.{ℕ, _+_, _*_, _/_, _%_, _^_, _<_, _≤_}
 use mathlib.Core.Bool.{Bool, true, false, not, _&&_, _||_}
 use mathlib.Core.List.{List}
-use mathlib.Core.Path.{_≡_, refl, sym, ap, _∙_}
+use mathlib.Core.Path.{_≡_, refl, sym, _∙_}
 use native.Mathlib.Omega.{arith}
 use lib.Dec.{leb, eqb}
 use lib.ListN.{length, take, drop, getD}
-use borrow.Author.Tests.{le-leb, leb-true, eq-eqb, ne-eqb, eqb-true, eqb-false}
+use borrow.Author.Tests.{le-leb, eq-eqb, ne-eqb, eqb-true, eqb-false}
 use Rattle.numbers.specs.Tests.{pick, both, either, between}
 use Rattle.numbers.specs.Ranges.{individual, groupBit, nicknameGood, vlanGood, lastAddress, lastFine}
 use native.Mathlib.Decide.{ℕ-discrete, decLt}
@@ -19,7 +19,6 @@ use Rattle.table.specs.Record.{stateOf, kindOf, labelOf, macOf, nicknameOf, con
 use Rattle.table.specs.declared.Label.{Label}
 use Rattle.table.specs.declared.Label.the-variants.{Vlan, Fine}
 use Rattle.table.specs.declared.Entry.{Entry}
-use Rattle.table.specs.declared.Slot.{Slot}
 use Rattle.table.specs.declared.Slot.the-variants.{Free, Spoilt, Learned, Configured}
 use Rattle.records.specs.Halves.{wholeOf, Small, heldOrSpoilt, keyIn, keyOf}
 use Rattle.records.specs.declared.Halves.{Halves}
@@ -151,13 +150,19 @@ vlan-small : (k x : ℕ) → k ≡ 0 → labelGood (labelFrom k x) ≡ true → 
 unfolding labelFrom pick vlanGood
 vlan-small k x e h = between-is 1 0xffe x (rw e at h) .1
 
+-- an entry is good, by its fields
+pub good-fields : (n k x g y : ℕ) → k ≡ kindOf n → x ≡ labelOf n → g ≡ groupBit (macOf n) → y ≡ nicknameOf n → (eqb k 1 || (leb 1 x && leb x 0xffe)) && (eqb g 0 && (leb 1 y && leb y 0xffbf)) ≡ entryGood (entryOf n)
+unfolding entryGood entryOf nicknameGood between
+good-fields n k x g y kind label group nickname =
+    rw (kind, label, group, nickname)
+    (three-tests (label-test (kindOf n) (labelOf n) (omega arith) (omega arith)) (individual-test (macOf n) (omega arith)) (and-both (leb 1 (nicknameOf n)) (leb (nicknameOf n) 0xffbf)))
+
 module _ (h : Halves) where
   pub free-halves : eqb (h .hi) 0 && eqb (h .lo) 0 ≡ isFree (slotOf (wholeOf h))
   free-halves = zero-both (h .hi) (h .lo) _ _ refl refl ∙ sym (free-is (wholeOf h))
 
   module _ (s : Small h) where
     pub good-halves : (eqb (h .hi / 2 ^ 61 % 2) 1 || (leb 1 (h .hi / 2 ^ 37 % 2 ^ 24) && leb (h .hi / 2 ^ 37 % 2 ^ 24) 0xffe)) && (eqb (h .hi / 2 ^ 29 % 2) 0 && (leb 1 (h .lo / 2 ^ 21 % 2 ^ 16) && leb (h .lo / 2 ^ 21 % 2 ^ 16) 0xffbf)) ≡ entryGood (entryOf (wholeOf h))
-    unfolding entryGood entryOf nicknameGood between
     good-halves =
         let n : ℕ = wholeOf h in
         let hi = s .hi-small in
@@ -166,24 +171,13 @@ module _ (h : Halves) where
         let label : h .hi / 2 ^ 37 % 2 ^ 24 ≡ labelOf n = omega arith in
         let group : h .hi / 2 ^ 29 % 2 ≡ groupBit (macOf n) = omega arith in
         let nickname : h .lo / 2 ^ 21 % 2 ^ 16 ≡ nicknameOf n = omega arith in
-        rw (kind, label, group, nickname)
-        (three-tests (label-test (kindOf n) (labelOf n) (omega arith) (omega arith)) (individual-test (macOf n) (omega arith)) (and-both (leb 1 (nicknameOf n)) (leb (nicknameOf n) 0xffbf)))
+        good-fields n _ _ _ _ kind label group nickname
 
     pub state-halves : h .hi / 2 ^ 62 ≡ stateOf (wholeOf h)
     state-halves =
         let hi = s .hi-small in
         let lo = s .lo-small in
         omega arith
-
-    pub learned-halves : (x : ℕ) (g : Bool) → x ≡ stateOf (wholeOf h) → g ≡ entryGood (entryOf (wholeOf h)) → eqb x 1 && g ≡ isLearned (slotOf (wholeOf h))
-    learned-halves x g p q = rw (p, q) (and-both _ _ ∙ sym (learned-is (wholeOf h)))
-
-    pub spoilt-halves : (f : Bool) (x : ℕ) (g : Bool) → f ≡ isFree (slotOf (wholeOf h)) → x ≡ stateOf (wholeOf h) → g ≡ entryGood (entryOf (wholeOf h))
-        → not f && not ((leb 1 x && leb x 2) && g) ≡ isSpoilt (slotOf (wholeOf h))
-    unfolding between
-    spoilt-halves f x g o p q =
-        rw (o, free-is (wholeOf h), p, q, and-both (leb 1 (stateOf (wholeOf h))) (leb (stateOf (wholeOf h)) 2))
-        (and-both _ _ ∙ ap (λ b. both (not (eqb (wholeOf h) 0)) (not b)) (and-both _ _) ∙ sym (spoilt-is (wholeOf h)))
 
     -- the label of a good record, which fits where it is a VLAN
     module _ (good : entryGood (entryOf (wholeOf h)) ≡ true) where
@@ -308,6 +302,31 @@ learned-state n h = eqb-true (stateOf n) 1 (both-true _ _ (sym (learned-is n) �
 pub pair-key : (k x m n : ℕ) → k ≤ 1 → slotMatches (labelFrom k x) m (slotOf n) ≡ true → keyIn n ≡ keyOf m
 pair-key k x m n hk h = let p = pair-fields k x m n hk h in omega arith
 
+-- a record of state 1 is learned where its entry is good
+pub learned-good : (n : ℕ) → stateOf n ≡ 1 → (g : Bool) → g ≡ entryGood (entryOf n) → isLearned (slotOf n) ≡ g
+unfolding both
+learned-good n e g h = learned-is n ∙ rw (e, ← h)
+
+-- spoilt, by the state
+module _ (n : ℕ) where
+  pub spoilt-0 : stateOf n ≡ 0 → (z : Bool) → z ≡ isFree (slotOf n) → not z ≡ isSpoilt (slotOf n)
+  unfolding between both not
+  spoilt-0 e true h = rw (spoilt-is n, e, ← free-is n, ← h)
+  spoilt-0 e false h = rw (spoilt-is n, e, ← free-is n, ← h)
+
+  module _ (not-0 : stateOf n ≡ 0 → ⊥) where
+    some-bit : eqb n 0 ≡ false
+    some-bit = ne-eqb n 0 (λ z. not-0 (omega arith))
+
+    pub spoilt-3 : stateOf n ≡ 3 → true ≡ isSpoilt (slotOf n)
+    unfolding between both not
+    spoilt-3 e = rw (spoilt-is n, e, some-bit)
+
+    pub spoilt-bad : (stateOf n ≡ 3 → ⊥) → stateOf n < 4 → (g : Bool) → g ≡ entryGood (entryOf n) → not g ≡ isSpoilt (slotOf n)
+    unfolding between both not
+    spoilt-bad not-3 few g h =
+        rw (spoilt-is n, some-bit, le-leb 1 (stateOf n) (omega arith), le-leb (stateOf n) 2 (omega arith), ← h)
+
 -- ---- the first bytes of a record
 
 pub state-byte : (l : List ℕ) (at : ℕ) → AreBytes l → at + 14 ≤ length l → getD l at 0 / 64 ≡ stateOf (num (take 14 (drop at l)))
@@ -317,3 +336,7 @@ state-byte l at b h =
 pub key-byte : (l : List ℕ) (at : ℕ) → AreBytes l → at + 14 ≤ length l → getD l (at + 8) 0 ≡ keyIn (num (take 14 (drop at l)))
 key-byte l at b h =
     omega (arith, num-add l at 8 6 h, num-add l (at + 8) 1 5 (omega arith), num-one l (at + 8) (omega arith), num-part-lt l (at + 8 + 1) 5 b (omega arith), b (at + 8))
+
+pub last-bytes : (l : List ℕ) (at : ℕ) → AreBytes l → at + 14 ≤ length l → num (take 2 (drop (at + 12) l)) ≡ num (take 14 (drop at l)) % 2 ^ 16
+last-bytes l at b h =
+    omega (arith, num-add l at 12 2 h, num-part-lt l (at + 12) 2 b (omega arith))

@@ -2,7 +2,6 @@
 -- Assumes nothing.
 use Prim.Native.Nat.{ℕ, _+_, _*_, _/_, _%_, _^_, _<_}
 use mathlib.Core.Path.{_≡_}
-use lib.Dec.{eqb}
 use Rattle.numbers.specs.Tests.{pick, both, between}
 use Rattle.table.specs.Record.{stateOf, learnedState, configuredState, entryOf, entryGood, held, labelNumber}
 use Rattle.table.specs.declared.Entry.{Entry}

@@ -1,10 +1,10 @@
 // Records: how a record lies in its bytes. Reading takes the table and the place of the record's first byte.
-ghost use Prim.Native.Nat.{_+_, _^_, _<_, _≤_};
+ghost use Prim.Native.Nat.{_+_, _<_, _≤_};
 ghost use mathlib.Core.Path.{_≡_};
 ghost use mathlib.Core.Bool.{true};
 ghost use lib.ListN.{length, drop};
 ghost use Rattle.numbers.specs.Bytes.{bytesOf};
-ghost use Rattle.table.specs.Record.{recordBytes, recordOf, stateOf, nicknameOf, learnedState, entryOf, entryGood, slotOf, unpacked, kindNumber, labelNumber, packed, recordNumber, isFree, isSpoilt, isLearned, labelFrom, slotMatches};
+ghost use Rattle.table.specs.Record.{recordBytes, recordOf, stateOf, nicknameOf, learnedState, entryOf, entryGood, slotOf, unpacked, kindNumber, labelNumber, packed, recordNumber, isFree, labelFrom, slotMatches};
 ghost use Rattle.table.specs.Slots.{slotBytes, freed, tableGood};
 ghost use Rattle.records.specs.Halves.{wholeOf, Small, Halved, Fits, heldOrSpoilt, keyIn, keyOf};
 use table::Entry;
@@ -54,21 +54,6 @@ fn state_of(h: Halves) -> u64
     ensures { λ r. ⌜ r ≡ stateOf (wholeOf h) ⌝ }
 {
     h.hi / 0x4000_0000_0000_0000
-}
-
-pub fn is_learned(h: Halves) -> bool
-    requires { ⌜ Small h ⌝ }
-    ensures { λ r. ⌜ r ≡ isLearned (slotOf (wholeOf h)) ⌝ }
-{
-    (state_of(h) == 1) & entry_good(h)
-}
-
-pub fn is_spoilt(h: Halves) -> bool
-    requires { ⌜ Small h ⌝ }
-    ensures { λ r. ⌜ r ≡ isSpoilt (slotOf (wholeOf h)) ⌝ }
-{
-    let state = state_of(h);
-    !is_free(h) & !(((1 <= state) & (state <= 2)) & entry_good(h))
 }
 
 fn label_of(h: Halves) -> Label
@@ -132,8 +117,20 @@ pub fn nickname_at(t: &[u8], at: usize) -> u16
     requires { ⌜ at + recordBytes ≤ length (now t) ⌝ }
     ensures { λ r. ⌜ r ≡ nicknameOf (recordOf (drop at (now (t .entry)))) ⌝ }
 {
-    let h = split(t, at);
-    (h.lo / 0x20_0000 % 0x1_0000) as u16
+    record_fields::nickname_at(t, at) as u16
+}
+
+// Whether the entry of the record at a place of the table is good, from the bytes of its fields alone.
+pub fn good_at(t: &[u8], at: usize) -> bool
+    requires { ⌜ at + recordBytes ≤ length (now t) ⌝ }
+    ensures { λ r. ⌜ r ≡ entryGood (entryOf (recordOf (drop at (now (t .entry))))) ⌝ }
+{
+    let fine = record_fields::kind_at(t, at) == 1;
+    let label = record_fields::label_at(t, at);
+    let individual = record_fields::group_at(t, at) == 0;
+    let nickname = record_fields::nickname_at(t, at);
+    (fine | ((1 <= label) & (label <= 0xffe)))
+        & (individual & ((1 <= nickname) & (nickname <= 0xffbf)))
 }
 
 // 0 for a VLAN, 1 for a fine-grained label.

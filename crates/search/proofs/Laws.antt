@@ -3,14 +3,14 @@
 use Prim.Native.Nat.{ℕ, _+_, _*_, _%_, _^_, _<_, _≤_}
 use mathlib.Core.Bool.{Bool, true, false}
 use mathlib.Core.List.{List}
-use mathlib.Core.Path.{_≡_, refl, sym, ap, _∙_}
+use mathlib.Core.Path.{_≡_, sym, ap, _∙_}
 use native.Mathlib.Decide.{ℕ-discrete}
 use native.Mathlib.Omega.{arith}
 use lib.Dec.{eqb}
 use lib.ListN.{take, drop, length}
 use lib.Seq.{take-take}
-use borrow.Author.Tests.{eq-eqb, ne-eqb, eqb-true}
-use Rattle.numbers.specs.Tests.{pick, both, between}
+use borrow.Author.Tests.{ne-eqb}
+use Rattle.numbers.specs.Tests.{pick, between}
 use Rattle.numbers.specs.Result.{check, settled}
 use Rattle.numbers.proofs.Truth.{not-true-false, both-true, between-is}
 use Rattle.numbers.specs.Bytes.{num}

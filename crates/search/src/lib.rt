@@ -6,7 +6,7 @@ ghost use lib.ListN.{length, drop};
 ghost use Rattle.table.specs.Learning.{freeSlot};
 ghost use Rattle.table.specs.Record.{recordBytes, labelFrom};
 ghost use Rattle.table.specs.Slots.{lowest};
-ghost use Rattle.table.specs.Table.{holds, placeOf, lookedUp, spoiltSlot, spoiltAt, lowestSpoilt};
+ghost use Rattle.table.specs.Table.{holds, placeOf, lookedUp, spoiltSlot, lowestSpoilt};
 ghost use Rattle.records.specs.Halves.{keyOf};
 use numbers::refusals::TABLE_LENGTH_BAD;
 use table::LookupAnswer;
@@ -67,11 +67,19 @@ pub fn find_free(t: &[u8]) -> Place
     Place::Nowhere
 }
 
+// Whether the slot at a place is spoilt: only where its state bits are 0 is it looked at whole.
 fn spoilt_at(t: &[u8], at: usize) -> bool
     requires { ⌜ at + recordBytes ≤ length (now t) ⌝ }
     ensures { λ r. ⌜ r ≡ spoiltSlot (drop at (now (t .entry))) ⌝ }
 {
-    records::is_spoilt(records::split(t, at))
+    let state = records::state_at(t, at);
+    if state == 0 {
+        return !records::is_free(records::split(t, at));
+    }
+    if state == 3 {
+        return true;
+    }
+    !records::good_at(t, at)
 }
 
 // The lowest spoilt slot.

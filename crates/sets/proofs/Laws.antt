@@ -2,40 +2,88 @@
 -- Assumes nothing.
 use Prim.Native.Nat.{ℕ, _+_, _-_, _*_, _/_, _%_, _<_, _≤_}
 use mathlib.Core.Bool.{Bool, true, false, _&&_}
-use mathlib.Core.List.{List}
-use mathlib.Core.Path.{_≡_, sym, ap, _∙_}
+use mathlib.Core.List.{List, [], _∷_}
+use mathlib.Core.Path.{_≡_, refl, sym, ap, _∙_}
 use native.Mathlib.Omega.{arith}
 use lib.Dec.{leb, eqb}
 use lib.ListN.{length, take, drop, getD, length-drop}
 use lib.Seq.{take-take, drop-drop, getD-drop}
-use borrow.Author.Tests.{le-leb, lt-leb}
-use Rattle.numbers.specs.Tests.{both, either, anyOf, between}
+use borrow.Author.Tests.{le-leb, lt-leb, leb-true, leb-false}
+use Rattle.numbers.specs.Tests.{pick, both, either, anyOf, between}
 use Rattle.numbers.specs.Bytes.{num, parts}
-use Rattle.numbers.specs.Numberings.{numberOf, startOf, endOf, inBlock, filled, bitOf, bitAt, inMap}
+use Rattle.numbers.specs.Numberings.{macs, numberOf, atLeast, atMost, startOf, endOf, inBlock, filled, inBlocks, bitOf, bitAt, inMap}
 use Rattle.numbers.specs.declared.Numbering.{Numbering}
+use Rattle.numbers.proofs.Truth.{between-below}
 use Rattle.numbers.proofs.Lists.{part-prefix}
 use Rattle.numbers.proofs.Widths.{blocks-hold, bit-past}
 use Rattle.records.proofs.Laws.{and-both}
 use Rattle.flush.proofs.Lists.{parts-end, parts-more}
 
--- ---- the ends of a block at a place
+-- ---- a block at a place
 
-module _ (w : Numbering) (v : List ℕ) (at n : ℕ) where
-  pub start-same : n ≡ numberOf w (drop at v) → w .low ≤ n → n ≡ startOf w (drop at v)
-  start-same e h = e ∙ sym (blocks-hold .every w (drop at v) .start-same (omega arith))
+at-least-test : (m n x : ℕ) (b : Bool) → leb m n ≡ b → m ≤ x → leb (pick b n m) x ≡ leb n x
+unfolding pick
+at-least-test m n x true e h = refl
+at-least-test m n x false e h = let k = leb-false m n e in le-leb m x h ∙ sym (le-leb n x (omega arith))
 
-  pub start-low : n ≡ numberOf w (drop at v) → n < w .low → w .low ≡ startOf w (drop at v)
-  start-low e h = sym (blocks-hold .every w (drop at v) .start-low (omega arith))
+at-least-from : (m n : ℕ) (b : Bool) → leb m n ≡ b → m ≤ pick b n m
+unfolding pick
+at-least-from m n true e = leb-true m n e
+at-least-from m n false e = omega arith
 
-  module _ (e : n ≡ numberOf w (drop (at + w .size) v)) where
-    end-number : n ≡ numberOf w (drop (w .size) (drop at v))
-    end-number = e ∙ ap (numberOf w) (sym (drop-drop (w .size) at v))
+at-most-test : (m n x : ℕ) (b : Bool) → leb n m ≡ b → x ≤ m → leb x (pick b n m) ≡ leb x n
+unfolding pick
+at-most-test m n x true e h = refl
+at-most-test m n x false e h = let k = leb-false n m e in le-leb x m h ∙ sym (le-leb x n (omega arith))
 
-    pub end-same : n ≤ w .high → n ≡ endOf w (drop at v)
-    end-same h = let q = end-number in q ∙ sym (blocks-hold .every w (drop at v) .end-same (omega arith))
+module _ (w : Numbering) (v : List ℕ) (at s e : ℕ) (start : s ≡ numberOf w (drop at v)) (end : e ≡ numberOf w (drop (at + w .size) v)) where
+  end-number : numberOf w (drop (w .size) (drop at v)) ≡ e
+  end-number = ap (numberOf w) (drop-drop (w .size) at v) ∙ sym end
 
-    pub end-high : w .high < n → w .high ≡ endOf w (drop at v)
-    end-high h = let q = end-number in sym (blocks-hold .every w (drop at v) .end-high (omega arith))
+  -- of a number that there is the ends tell as they are written
+  pub block-tells : (x : ℕ) → w .low ≤ x → x ≤ w .high → leb s x && leb x e ≡ inBlock w x (drop at v)
+  unfolding inBlock between startOf endOf atLeast atMost
+  block-tells x a b =
+      and-both (leb s x) (leb x e)
+      ∙ sym
+      (rw (
+        at-least-test (w .low) (numberOf w (drop at v)) x _ refl a,
+        at-most-test (w .high) (numberOf w (drop (w .size) (drop at v))) x _ refl b,
+        end-number,
+        ← start,
+      ))
+
+  filled-tells : w .low ≤ s → e ≤ w .high → leb s e ≡ filled w (drop at v)
+  unfolding filled
+  filled-tells a b =
+      let n = end-number in
+      rw (blocks-hold .every w (drop at v) .start-same (omega arith), blocks-hold .every w (drop at v) .end-same (omega arith), n, ← start)
+
+-- a MAC is any number of six bytes
+pub macs-filled : (v : List ℕ) (at s e : ℕ) → s ≡ numberOf macs (drop at v) → e ≡ numberOf macs (drop (at + 6) v) → leb s e ≡ filled macs (drop at v)
+unfolding numberOf
+macs-filled v at s e start end = filled-tells macs v at s e start end (omega arith) (omega arith)
+
+-- no block has a number that there is not
+no-part : (p : List ℕ → Bool) → ((b : List ℕ) → p b ≡ false) → (bs : List (List ℕ)) → anyOf p bs ≡ false
+unfolding anyOf either
+no-part p none [] = refl
+no-part p none (b ∷ bs) = rw (none b) (no-part p none bs)
+
+module _ (w : Numbering) (x : ℕ) (v : List ℕ) where
+  low-none : x < w .low → (b : List ℕ) → inBlock w x b ≡ false
+  unfolding inBlock startOf atLeast
+  low-none h b =
+      let from = at-least-from (w .low) (numberOf w b) _ refl in
+      between-below _ (endOf w b) x (omega arith)
+
+  pub blocks-below : x < w .low → false ≡ inBlocks w x v
+  unfolding inBlocks
+  blocks-below h = sym (no-part (inBlock w x) (low-none h) _)
+
+  pub blocks-above : w .high < x → false ≡ inBlocks w x v
+  unfolding inBlocks
+  blocks-above h = sym (no-part (inBlock w x) (λ b. blocks-hold .every w b .no-wrap-high x h) _)
 
 -- ---- a part of k bytes says what the bytes from its place on say
 

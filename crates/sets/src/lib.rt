@@ -4,7 +4,7 @@ ghost use mathlib.Core.Path.{_≡_};
 ghost use lib.Dec.{eqb};
 ghost use lib.ListN.{length, take, drop};
 ghost use Rattle.numbers.specs.Bytes.{num};
-ghost use Rattle.numbers.specs.Numberings.{vlans, fines, macs, nicknames, numberOf, startOf, endOf, inBlock, filled, inBlocks, someFilled, inList, bitOf, bitAt, inMap};
+ghost use Rattle.numbers.specs.Numberings.{vlans, fines, macs, nicknames, numberOf, inBlock, filled, inBlocks, someFilled, inList, bitOf, bitAt, inMap};
 ghost use Rattle.sets.specs.Sound.{Width, Sound, numbering};
 use numbers::Numbering;
 
@@ -68,45 +68,38 @@ fn number_is(v: &[u8], at: usize, w: Numbering, x: u64) -> bool
     number_at(v, at, w) == x
 }
 
-// The start of the block at a place: one below the lowest number reads as that.
-fn start_at(v: &[u8], at: usize, w: Numbering) -> u64
-    requires { ⌜ Sound w × (at + 2 * w .size ≤ length (now v)) ⌝ }
-    ensures { λ r. ⌜ r ≡ startOf w (drop at (now (v .entry))) ⌝ }
-{
-    let n = number_at(v, at, w);
-    if w.low <= n { n } else { w.low }
-}
-
-// Its end: one above the highest number reads as that.
-fn end_at(v: &[u8], at: usize, w: Numbering) -> u64
-    requires { ⌜ Sound w × (at + 2 * w .size ≤ length (now v)) ⌝ }
-    ensures { λ r. ⌜ r ≡ endOf w (drop at (now (v .entry))) ⌝ }
-{
-    let n = number_at(v, at + w.size, w);
-    if n <= w.high { n } else { w.high }
-}
-
-// Whether x is in the block at a place: both ends belong to it.
+// Whether x, a number that there is, is in the block at a place: both ends belong to it.
 fn block_has(v: &[u8], at: usize, w: Numbering, x: u64) -> bool
-    requires { ⌜ Sound w × (at + 2 * w .size ≤ length (now v)) ⌝ }
+    requires { ⌜ (Sound w × (at + 2 * w .size ≤ length (now v))) × ((w .low ≤ x) × (x ≤ w .high)) ⌝ }
     ensures { λ r. ⌜ r ≡ inBlock w x (drop at (now (v .entry))) ⌝ }
 {
-    (start_at(v, at, w) <= x) & (x <= end_at(v, at, w))
+    let start = number_at(v, at, w);
+    let end = number_at(v, at + w.size, w);
+    (start <= x) & (x <= end)
 }
 
-// Whether the block at a place is not empty.
-fn block_filled(v: &[u8], at: usize, w: Numbering) -> bool
-    requires { ⌜ Sound w × (at + 2 * w .size ≤ length (now v)) ⌝ }
-    ensures { λ r. ⌜ r ≡ filled w (drop at (now (v .entry))) ⌝ }
+// Whether the block of MACs at a place is not empty.
+fn mac_block_filled(v: &[u8], at: usize) -> bool
+    requires { ⌜ at + 12 ≤ length (now v) ⌝ }
+    ensures { λ r. ⌜ r ≡ filled macs (drop at (now (v .entry))) ⌝ }
 {
-    start_at(v, at, w) <= end_at(v, at, w)
+    let start = number_at(v, at, MACS);
+    let end = number_at(v, at + 6, MACS);
+    start <= end
 }
 
-// Whether some block of a list has x in it. The numbering comes as its four numbers, which the compiler then knows at each call.
+// Whether some block of a list has x in it. The numbering comes as its four numbers: so the compiler knows them at each call, and
+// makes a loop for each width.
 fn in_blocks(v: &[u8], size: usize, top: u64, low: u64, high: u64, x: u64) -> bool
     requires { ⌜ Sound (numbering size top low high) ⌝ }
     ensures { λ r. ⌜ r ≡ inBlocks (numbering size top low high) x (now (v .entry)) ⌝ }
 {
+    if x < low {
+        return false;
+    }
+    if high < x {
+        return false;
+    }
     let w = Numbering {
         size,
         top,
@@ -190,7 +183,7 @@ pub fn some_mac_block(v: &[u8]) -> bool
 {
     let mut at = 0;
     while 12 <= v.len() - at {
-        if block_filled(v, at, MACS) {
+        if mac_block_filled(v, at) {
             return true;
         }
         at += 12;
@@ -198,7 +191,7 @@ pub fn some_mac_block(v: &[u8]) -> bool
     false
 }
 
-// The same of each numbering.
+// Lists, blocks and maps of each numbering that a payload has.
 pub fn in_vlan_blocks(v: &[u8], x: u64) -> bool
     ensures { λ r. ⌜ r ≡ inBlocks vlans x (now (v .entry)) ⌝ }
 {

@@ -1,41 +1,19 @@
--- Laws of TLVs: the length rules as one test, a choice by type, and a walk in which what is left decides.
+-- Laws of TLVs: a choice by type, and a walk in which what is left decides.
 -- Assumes nothing.
-use Prim.Native.Nat.{ℕ, _+_, _-_, _%_, _<_, _≤_}
-use mathlib.Core.Bool.{Bool, true, false, not, _&&_, _||_}
+use Prim.Native.Nat.{ℕ, _+_, _-_, _<_, _≤_}
+use mathlib.Core.Bool.{Bool, true, false}
 use mathlib.Core.List.{List}
 use mathlib.Core.Path.{_≡_, refl, sym, ap, _∙_}
 use native.Mathlib.Nat.{add-zero}
 use native.Mathlib.Omega.{arith}
-use lib.Dec.{leb, eqb}
 use lib.ListN.{length, take, drop, getD, length-drop, List·getD-eq-default}
 use lib.Seq.{drop-drop, getD-drop}
 use borrow.Author.Tests.{eq-eqb, ne-eqb}
-use Rattle.numbers.specs.Tests.{pick, both, either, anyOf}
+use Rattle.numbers.specs.Tests.{pick, either, anyOf}
 use Rattle.table.specs.Record.{labelFrom}
 use Rattle.table.specs.declared.Label.the-variants.{Vlan, Fine}
-use Rattle.records.proofs.Laws.{and-both, or-either}
-use Rattle.flush.specs.Payload.{Piece, tlv, stump, tlvEnd, tlvs, rule, lengthGood}
+use Rattle.flush.specs.Payload.{Piece, tlv, stump, tlvEnd, tlvs}
 use Rattle.flush.proofs.Validity.{tlvs-end, tlvs-stump, tlvs-more}
-
--- ---- the length rules
-
-both-tests : {a b x y : Bool} → a ≡ x → b ≡ y → a && b ≡ both x y
-both-tests {a} {b} p q = rw (← p, ← q) (and-both a b)
-
-module _ (k n : ℕ) where
-  rule-test : (t : ℕ) (holds : Bool) → not (eqb k t) || holds ≡ rule k t holds
-  rule-test t holds = or-either (not (eqb k t)) holds
-
-  pub length-tests : (not (eqb k 1) || eqb (n % 4) 0) && ((not (eqb k 2) || leb 2 n) && ((not (eqb k 3) || eqb (n % 6) 0) && ((not (eqb k 4) || eqb (n % 3) 0) && ((not (eqb k 5) || leb 3 n) && ((not (eqb k 6) || eqb n 0) && ((not (eqb k 7) || eqb (n % 6) 0) && (not (eqb k 8) || eqb (n % 12) 0))))))) ≡ lengthGood k n
-  unfolding lengthGood
-  length-tests =
-      both-tests (rule-test 1 (eqb (n % 4) 0))
-      (both-tests (rule-test 2 (leb 2 n))
-      (both-tests (rule-test 3 (eqb (n % 6) 0))
-      (both-tests (rule-test 4 (eqb (n % 3) 0))
-      (both-tests (rule-test 5 (leb 3 n))
-      (both-tests (rule-test 6 (eqb n 0))
-      (both-tests (rule-test 7 (eqb (n % 6) 0)) (rule-test 8 (eqb (n % 12) 0))))))))
 
 -- ---- a choice
 

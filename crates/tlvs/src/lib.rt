@@ -4,31 +4,8 @@ ghost use mathlib.Core.Path.{_≡_};
 ghost use lib.ListN.{length, drop};
 ghost use Rattle.numbers.specs.Tests.{anyOf};
 ghost use Rattle.table.specs.Record.{labelFrom};
-ghost use Rattle.flush.specs.Payload.{everyType, tlv, tlvEnd, tlvs, lengthGood, corrupt};
+ghost use Rattle.flush.specs.Payload.{everyType, tlv, tlvEnd, tlvs};
 ghost use Rattle.flush.specs.Meaning.{vlanIn, fineIn, bringsLabel, bringsMac, gathersMac};
-
-// The length rules of the types.
-fn length_good(k: u8, n: usize) -> bool
-    ensures { λ r. ⌜ r ≡ lengthGood k n ⌝ }
-{
-    let vlan_blocks = (k != 1) | (n % 4 == 0);
-    let vlan_map = (k != 2) | (2 <= n);
-    let fine_blocks = (k != 3) | (n % 6 == 0);
-    let fines = (k != 4) | (n % 3 == 0);
-    let fine_map = (k != 5) | (3 <= n);
-    let all_labels = (k != 6) | (n == 0);
-    let macs = (k != 7) | (n % 6 == 0);
-    let mac_blocks = (k != 8) | (n % 12 == 0);
-    vlan_blocks
-        & (vlan_map & (fine_blocks & (fines & (fine_map & (all_labels & (macs & mac_blocks))))))
-}
-
-// Whether a TLV breaks its length rule.
-fn is_corrupt(k: u8, v: &[u8]) -> bool
-    ensures { λ r. ⌜ r ≡ corrupt everyType (tlv k (now (v .entry))) ⌝ }
-{
-    !length_good(k, v.len())
-}
 
 // Whether a TLV brings a VLAN: type 1 VLAN blocks, type 2 a VLAN bit map, type 6 all labels.
 fn vlan_in(x: u64, k: u8, v: &[u8]) -> bool
@@ -102,7 +79,7 @@ fn gathers_mac(k: u8, v: &[u8]) -> bool
 }
 
 // Where the TLV at a place ends; past the end of the bytes where it is cut.
-fn end_of(l: &[u8], at: usize) -> usize
+pub fn end_of(l: &[u8], at: usize) -> usize
     requires { ⌜ at < length (now l) ⌝ }
     ensures { λ r. ⌜ r ≡ at + tlvEnd (drop at (now (l .entry))) ⌝ }
 {
@@ -111,25 +88,6 @@ fn end_of(l: &[u8], at: usize) -> usize
         return s;
     }
     s + numbers::wide(l[at + 1]) as usize
-}
-
-// Whether some TLV is corrupt; bytes that make no TLV are.
-pub fn some_corrupt(l: &[u8]) -> bool
-    ensures { λ r. ⌜ r ≡ anyOf (corrupt everyType) (tlvs (now (l .entry))) ⌝ }
-{
-    let mut at = 0;
-    while at < l.len() {
-        let e = end_of(l, at);
-        if l.len() < e {
-            return true;
-        }
-        let s = at + 2;
-        if is_corrupt(l[at], &l[s..e]) {
-            return true;
-        }
-        at = e;
-    }
-    false
 }
 
 // Whether some TLV brings a label.

@@ -1,4 +1,4 @@
--- `flushing::next_candidate` meets its contract. The invariant: no slot from `from` on and before `i` is a candidate.
+-- `flushing::next_candidate` meets its contract. The invariant: no slot from `from` on and before `k` is a candidate.
 -- Assumes nothing.
 use Prim.Native.Nat.{_-_, _≤_}
 use Rattle.flushing.specs.Clearing.{candidate, Passed}
@@ -9,10 +9,10 @@ use Rattle.flushing.proofs.next_candidate.Statement.{statement}
 use Rattle.flushing.proofs.next_candidate.Tie as tie
 
 abbrev Inv-loop : tie.InvT-loop
-Inv-loop t from n ingress nicks i₀ i = (i ≤ n) × Passed (candidate ingress nicks) t from i
+Inv-loop t from n ingress nicks k₀ k = (k ≤ n) × Passed (candidate ingress nicks) t from k
 
 abbrev μ-loop : tie.MeasureT-loop
-μ-loop t from n ingress nicks i₀ i = n - i
+μ-loop t from n ingress nicks k₀ k = n - k
 
 loop-holds : tie.Need-loop-holds Inv-loop μ-loop
 loop-holds c = (search needs, search (passed-none, candidate-near))
@@ -26,8 +26,8 @@ candidate-at-requires c κs = search needs
 returns : tie.Need-returns Inv-loop μ-loop
 returns c = search (next-hit, candidate-near)
 
-add-i : tie.Need-add-i Inv-loop μ-loop
-add-i c = search needs
+add-k : tie.Need-add-k Inv-loop μ-loop
+add-k c = search needs
 
 loop-less : tie.Need-loop-less Inv-loop μ-loop
 loop-less c = search needs
@@ -48,7 +48,7 @@ next-candidate-spec =
     mul-candidate-at
     candidate-at-requires
     returns
-    add-i
+    add-k
     loop-less
     loop-again
     returns-2)

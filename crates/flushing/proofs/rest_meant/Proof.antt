@@ -1,26 +1,48 @@
--- `flushing::rest_meant` meets its contract: a spoilt record is not meant.
+-- `flushing::rest_meant` meets its contract: good, the label, and then the MAC.
 -- Assumes nothing.
 use borrow.Author.Tests.{not-true, not-false}
-use Rattle.flushing.proofs.Parts.{entry-spoilt, by-pair}
+use Rattle.flushing.proofs.Parts.{entry-bad-rest, other-label, that-label}
 use borrow.Author.Needs.{needs}
 use Rattle.flushing.proofs.rest_meant.Statement.{statement}
 use Rattle.flushing.proofs.rest_meant.Tie as tie
 
-split-requires : tie.Need-split-requires
-split-requires c κs = search needs
-
-entry-good-requires : tie.Need-entry-good-requires
-entry-good-requires c κs = search needs
+good-at-requires : tie.Need-good-at-requires
+good-at-requires c κs = search needs
 
 returns : tie.Need-returns
-returns c = search (entry-spoilt, not-true)
+returns c = search (entry-bad-rest, not-true)
 
-pair-meant-requires : tie.Need-pair-meant-requires
-pair-meant-requires c κs = search needs
+kind-at-requires : tie.Need-kind-at-requires
+kind-at-requires c κs = search needs
+
+label-at-requires : tie.Need-label-at-requires
+label-at-requires c κs = search needs
+
+label-meant-requires : tie.Need-label-meant-requires
+label-meant-requires c κs = search needs
 
 returns-2 : tie.Need-returns-2
-returns-2 c = search (by-pair, not-false)
+returns-2 c = search (other-label, not-true, not-false)
+
+mac-at-requires : tie.Need-mac-at-requires
+mac-at-requires c κs = search needs
+
+mac-meant-requires : tie.Need-mac-meant-requires
+mac-meant-requires c κs = search needs
+
+returns-3 : tie.Need-returns-3
+returns-3 c = search (that-label, not-false)
 
 pub rest-meant-spec : {M : Type 1} → statement M
 rest-meant-spec =
-    tie.close (tie.spec split-requires entry-good-requires returns pair-meant-requires returns-2)
+    tie.close
+    (tie.spec
+    good-at-requires
+    returns
+    kind-at-requires
+    label-at-requires
+    label-meant-requires
+    returns-2
+    mac-at-requires
+    mac-meant-requires
+    returns-3)

@@ -8,11 +8,11 @@ use Rattle.payloads.proofs.some_corrupt.Tie as tie
 returns : tie.Need-returns
 returns c = search blocks-whole
 
-some-corrupt-requires : tie.Need-some-corrupt-requires
-some-corrupt-requires c κs = search needs
+tlvs-corrupt-requires : tie.Need-tlvs-corrupt-requires
+tlvs-corrupt-requires c κs = search needs
 
 returns-2 : tie.Need-returns-2
 returns-2 c = search of-tlvs
 
 pub some-corrupt-spec : {M : Type 1} → statement M
-some-corrupt-spec = tie.close (tie.spec returns some-corrupt-requires returns-2)
+some-corrupt-spec = tie.close (tie.spec returns tlvs-corrupt-requires returns-2)

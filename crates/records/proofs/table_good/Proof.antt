@@ -3,7 +3,6 @@
 use mathlib.Core.Path.{refl}
 use Rattle.numbers.specs.Tests.{both, between}
 use Rattle.table.specs.Slots.{tableGood}
-use borrow.Author.Needs.{needs}
 use Rattle.records.proofs.table_good.Statement.{statement}
 use Rattle.records.proofs.table_good.Tie as tie
 

@@ -1,21 +1,21 @@
--- `sets::block_has` meets its contract: x is not below the start and not above the end.
+-- `sets::block_has` meets its contract: a number that there is lies between the ends as they are written.
 -- Assumes nothing.
-use Rattle.numbers.specs.Numberings.{inBlock}
-use Rattle.numbers.specs.Tests.{between}
-use Rattle.records.proofs.Laws.{and-both}
+use Rattle.sets.proofs.Laws.{block-tells}
 use borrow.Author.Needs.{needs}
 use Rattle.sets.proofs.block_has.Statement.{statement}
 use Rattle.sets.proofs.block_has.Tie as tie
 
-start-at-requires : tie.Need-start-at-requires
-start-at-requires c κs = search needs
+number-at-requires : tie.Need-number-at-requires
+number-at-requires c κs = search needs
 
-end-at-requires : tie.Need-end-at-requires
-end-at-requires c κs = search needs
+add-number-at : tie.Need-add-number-at
+add-number-at c = search needs
+
+number-at-requires-2 : tie.Need-number-at-requires-2
+number-at-requires-2 c κs = search needs
 
 returns : tie.Need-returns
-unfolding inBlock between
-returns c = rw (c .before .start-at .ensures, c .end-at .ensures) (and-both _ _)
+returns c = search block-tells
 
 pub block-has-spec : {M : Type 1} → statement M
-block-has-spec = tie.close (tie.spec start-at-requires end-at-requires returns)
+block-has-spec = tie.close (tie.spec number-at-requires add-number-at number-at-requires-2 returns)

@@ -7,7 +7,7 @@ use Rattle.numbers.specs.Tests.{anyOf}
 use Rattle.numbers.specs.Bytes.{parts}
 use Rattle.numbers.specs.Numberings.{inBlock, inBlocks}
 use Rattle.sets.specs.Sound.{numbering}
-use Rattle.sets.proofs.Laws.{block-near, parts-done, part-hit, part-next}
+use Rattle.sets.proofs.Laws.{blocks-below, blocks-above, block-near, parts-done, part-hit, part-next}
 use borrow.Author.Needs.{needs}
 use Rattle.sets.proofs.in_blocks.Statement.{statement}
 use Rattle.sets.proofs.in_blocks.Tie as tie
@@ -17,6 +17,12 @@ Inv-loop v size top low high x w k at₀ at = (0 < k) × ((at ≤ length v) × (
 
 abbrev μ-loop : tie.MeasureT-loop
 μ-loop v size top low high x w k at₀ at = length v - at
+
+returns : tie.Need-returns Inv-loop μ-loop
+returns c = search blocks-below
+
+returns-2 : tie.Need-returns-2 Inv-loop μ-loop
+returns-2 c = search blocks-above
 
 mul-k : tie.Need-mul-k Inv-loop μ-loop
 mul-k c = search needs
@@ -31,8 +37,8 @@ sub-loop c = search needs
 block-has-requires : tie.Need-block-has-requires Inv-loop μ-loop
 block-has-requires c κs = search needs
 
-returns : tie.Need-returns Inv-loop μ-loop
-returns c = search (part-hit, block-near)
+returns-3 : tie.Need-returns-3 Inv-loop μ-loop
+returns-3 c = search (part-hit, block-near)
 
 add-at : tie.Need-add-at Inv-loop μ-loop
 add-at c = search needs
@@ -43,8 +49,8 @@ loop-less c = search needs
 loop-again : tie.Need-loop-again Inv-loop μ-loop
 loop-again c = (search needs, (search needs, search (part-next, block-near)))
 
-returns-2 : tie.Need-returns-2 Inv-loop μ-loop
-returns-2 c = search (parts-done, block-near)
+returns-4 : tie.Need-returns-4 Inv-loop μ-loop
+returns-4 c = search (parts-done, block-near)
 
 pub in-blocks-spec : {M : Type 1} → statement M
 in-blocks-spec =
@@ -52,12 +58,14 @@ in-blocks-spec =
     (tie.spec
     Inv-loop
     μ-loop
+    returns
+    returns-2
     mul-k
     loop-holds
     sub-loop
     block-has-requires
-    returns
+    returns-3
     add-at
     loop-less
     loop-again
-    returns-2)
+    returns-4)

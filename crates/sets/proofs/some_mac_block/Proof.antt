@@ -1,11 +1,11 @@
 -- `sets::some_mac_block` meets its contract. The invariant: some block is not empty exactly if one from `at` on is not.
 -- Assumes nothing.
-use lib.Dec.{lit<}
 use Prim.Native.Nat.{_-_, _≤_}
 use mathlib.Core.Path.{_≡_, refl}
 use lib.ListN.{length, drop}
 use Rattle.numbers.specs.Tests.{anyOf}
 use Rattle.numbers.specs.Bytes.{parts}
+use lib.Dec.{lit<}
 use Rattle.numbers.specs.Numberings.{macs, filled, someFilled}
 use Rattle.sets.proofs.Laws.{filled-near, parts-done, part-hit, part-next}
 use borrow.Author.Needs.{needs}
@@ -25,8 +25,8 @@ loop-holds c = (search needs, refl)
 sub-loop : tie.Need-sub-loop Inv-loop μ-loop
 sub-loop c = search needs
 
-block-filled-requires : tie.Need-block-filled-requires Inv-loop μ-loop
-block-filled-requires c κs = search needs
+mac-block-filled-requires : tie.Need-mac-block-filled-requires Inv-loop μ-loop
+mac-block-filled-requires c κs = search needs
 
 returns : tie.Need-returns Inv-loop μ-loop
 returns c = search (part-hit, filled-near macs, lit<)
@@ -51,7 +51,7 @@ some-mac-block-spec =
     μ-loop
     loop-holds
     sub-loop
-    block-filled-requires
+    mac-block-filled-requires
     returns
     add-at
     loop-less
