@@ -1,4 +1,4 @@
--- Laws of TLVs: a choice by type, and a walk in which what is left decides.
+-- Laws of TLVs: a label by its kind, and a walk in which what is left decides.
 -- Assumes nothing.
 use Prim.Native.Nat.{ℕ, _+_, _-_, _<_, _≤_}
 use mathlib.Core.Bool.{Bool, true, false}
@@ -14,16 +14,6 @@ use Rattle.table.specs.Record.{labelFrom}
 use Rattle.table.specs.declared.Label.the-variants.{Vlan, Fine}
 use Rattle.flush.specs.Payload.{Piece, tlv, stump, tlvEnd, tlvs}
 use Rattle.flush.proofs.Validity.{tlvs-end, tlvs-stump, tlvs-more}
-
--- ---- a choice
-
-pub pick-first : {A : Type 0} (z : A) (b : Bool) (x y : A) → b ≡ true → z ≡ x → z ≡ pick b x y
-unfolding pick
-pick-first z b x y h e = rw h e
-
-pub pick-second : {A : Type 0} (z : A) (b : Bool) (x y : A) → b ≡ false → z ≡ y → z ≡ pick b x y
-unfolding pick
-pick-second z b x y h e = rw h e
 
 module _ (kind x : ℕ) where
   pub label-vlan : kind ≡ 0 → labelFrom kind x ≡ Vlan x

@@ -2,7 +2,7 @@
 -- Assumes nothing.
 use borrow.Author.Tests.{eq-eqb, ne-eqb}
 use Rattle.flush.specs.Meaning.{nicknameMeant}
-use Rattle.tlvs.proofs.Laws.{pick-first, pick-second}
+use Rattle.numbers.proofs.Steps.{pick-first, pick-second}
 use borrow.Author.Needs.{needs}
 use Rattle.payloads.proofs.nickname_meant.Statement.{statement}
 use Rattle.payloads.proofs.nickname_meant.Tie as tie

@@ -1,7 +1,7 @@
 -- `tlvs::brings_mac` meets its contract: each way out is a case of the definition.
 -- Assumes nothing.
 use borrow.Author.Tests.{eq-eqb, ne-eqb}
-use Rattle.tlvs.proofs.Laws.{pick-first, pick-second}
+use Rattle.numbers.proofs.Steps.{pick-first, pick-second}
 use Rattle.numbers.specs.Tests.{both}
 use Rattle.flush.specs.Meaning.{macIn, bringsMac}
 use borrow.Author.Needs.{needs}

@@ -1,7 +1,7 @@
 -- `tlvs::fine_in` meets its contract: each way out is a case of the definition.
 -- Assumes nothing.
 use borrow.Author.Tests.{eq-eqb, ne-eqb}
-use Rattle.tlvs.proofs.Laws.{pick-first, pick-second}
+use Rattle.numbers.proofs.Steps.{pick-first, pick-second}
 use Rattle.flush.specs.Meaning.{fineIn}
 use borrow.Author.Needs.{needs}
 use Rattle.tlvs.proofs.fine_in.Statement.{statement}
