@@ -3,11 +3,12 @@
 use Prim.Native.Nat.{ℕ, _+_, _%_, _^_, _≤_}
 use mathlib.Core.Bool.{Bool, true, false, not}
 use mathlib.Core.List.{List}
-use mathlib.Core.Path.{_≡_, sym, ap, _∙_}
+use mathlib.Core.Path.{_≡_, refl, sym, ap, _∙_}
 use native.Mathlib.Omega.{arith}
-use lib.ListN.{length, take, drop, length-drop}
-use lib.Seq.{drop-drop}
-use borrow.Author.Tests.{eq-eqb, ne-eqb, not-true, not-false}
+use lib.Dec.{leb}
+use lib.ListN.{length, take, drop}
+use lib.Seq.{drop-drop, take-all}
+use borrow.Author.Tests.{leb-true, leb-false, eq-eqb, ne-eqb, not-true, not-false}
 use Rattle.numbers.specs.Tests.{pick}
 use Rattle.numbers.specs.Result.{Result, refused, check}
 use Rattle.numbers.specs.Bytes.{num}
@@ -21,11 +22,17 @@ use Rattle.receive.specs.Deciding.{ingressAllowed, nicknamesGood, isOnward}
 use Rattle.deciding.specs.Meaning.{Viewed, nicknamesOf, onwardOf, deciding}
 use Rattle.deciding.specs.declared.View.{View}
 
+-- a part of the first b bytes is a part of the list, however long that is
+part-within : (l : List ℕ) (a n b : ℕ) (v : Bool) → leb b (length l) ≡ v → a + n ≤ b → take n (drop a l) ≡ take n (drop a (take b l))
+part-within l a n b true e h = part-prefix l a n b h (leb-true b (length l) e)
+part-within l a n b false e h =
+    let past = leb-false b (length l) e in
+    ap (λ (x : List ℕ). take n (drop a x)) (sym (take-all b l (omega arith)))
+
 -- a word of a part of a frame
-pub word-in : (f : List ℕ) (h n k m : ℕ) → m ≡ h + k → k + 2 ≤ n → h + n ≤ length f → num (take 2 (drop m f)) ≡ wordAt k (take n (drop h f))
-word-in f h n k m e a b =
-    let l = length-drop h f in
-    ap (λ (x : List ℕ). num (take 2 x)) (ap (λ (i : ℕ). drop i f) e ∙ sym (drop-drop k h f)) ∙ ap num (part-prefix (drop h f) k 2 n a (omega arith))
+pub word-in : (f : List ℕ) (h n k m : ℕ) → m ≡ h + k → k + 2 ≤ n → num (take 2 (drop m f)) ≡ wordAt k (take n (drop h f))
+word-in f h n k m e a =
+    ap (λ (x : List ℕ). num (take 2 x)) (ap (λ (i : ℕ). drop i f) e ∙ sym (drop-drop k h f)) ∙ ap num (part-within (drop h f) k 2 n (leb n (length (drop h f))) refl a)
 
 module _ (s : Settings) (p : Fields) (v : View) (w : Viewed p v) where
   nicknames-same : nicknamesGood s (p .header) ≡ nicknamesOf (s .nickname) (v .egress) (v .ingress)

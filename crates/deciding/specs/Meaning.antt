@@ -1,18 +1,18 @@
 -- The decision on the fields of a frame, with what follows it left open; and the places that the code reads.
 -- Assumes nothing.
-use Prim.Native.Nat.{ℕ, _+_, _/_, _%_, _^_, _≤_}
-use mathlib.Core.Bool.{Bool, not}
+use Prim.Native.Nat.{ℕ, _+_, _/_, _%_, _^_, _<_, _≤_}
+use mathlib.Core.Bool.{Bool, false, not}
 use mathlib.Core.List.{List}
 use mathlib.Core.Path.{_≡_}
 use lib.Dec.{eqb}
-use lib.ListN.{length}
+use lib.ListN.{length, take, drop}
 use Rattle.numbers.specs.Tests.{pick, both}
 use Rattle.numbers.specs.Result.{Result, refused, check}
 use Rattle.numbers.specs.Refusals.{hops-spent, nickname-bad, source-group}
 use Rattle.numbers.specs.Bytes.{num}
 use Rattle.numbers.specs.Ranges.{individual, nicknameGood}
 use Rattle.frame.specs.Header.{wordAt, hopCount}
-use Rattle.frame.specs.Labels.{isChannel}
+use Rattle.frame.specs.Labels.{isTag, isChannel, labelRead}
 use Rattle.frame.specs.Fields.{Fields}
 use Rattle.frame.specs.declared.Settings.{Settings}
 use Rattle.parsing.specs.declared.Parts.{Parts}
@@ -21,13 +21,18 @@ use Rattle.deciding.specs.declared.Step.{Step}
 use Rattle.deciding.specs.declared.Step.the-variants as step
 use Rattle.deciding.specs.declared.View.{View}
 
+-- a label lies within a frame from place k on
+pub record LabelAt (f : List ℕ) (k : ℕ) : Type 0 where
+  pub short : k + 4 ≤ length f
+  pub long : isTag (drop k f) ≡ false → k + 8 ≤ length f
+
 -- the parts of a frame lie within it
 pub record Inside (f : List ℕ) (p : Parts) : Type 0 where
   pub addresses : p .dst + 12 ≤ length f
-  pub label : p .dst + 12 + p .label ≤ length f
-  pub short-label : 4 ≤ p .label
+  pub label-at : LabelAt f (p .dst + 12)
+  pub label : labelRead (take (p .label) (drop (p .dst + 12) f)) ≡ labelRead (drop (p .dst + 12) f)
   pub fixed : 6 ≤ p .size
-  pub header : p .header + p .size ≤ length f
+  pub header : p .header + 6 ≤ length f
   pub content : p .content + 2 ≤ length f
 
 -- the numbers that are read of a frame's fields once
@@ -37,6 +42,8 @@ pub record Viewed (p : Fields) (v : View) : Type 0 where
   pub ingress : v .ingress ≡ wordAt 4 (p .header)
   pub dst : v .dst ≡ num (p .dst)
   pub src : v .src ≡ num (p .src)
+  pub ingress-fits : v .ingress < 2 ^ 16
+  pub src-fits : v .src < 2 ^ 48
 
 -- `nicknamesGood` and `isOnward` of the numbers themselves
 unfoldable pub nicknamesOf : ℕ → ℕ → ℕ → Bool

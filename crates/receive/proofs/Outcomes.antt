@@ -1,7 +1,7 @@
 -- The outcomes of reading: onward and other channels leave everything, a flush clears, a delivery learns a good entry; and what is
 -- refused leaves everything.
 -- Assumes nothing.
-use Prim.Native.Nat.{ℕ, _<_, _^_}
+use Prim.Native.Nat.{ℕ, _<_, _≤_, _^_}
 use native.Mathlib.Omega.{arith}
 use mathlib.Core.Bool.{Bool, true, false}
 use mathlib.Core.List.{List, [], _++_}
@@ -22,6 +22,7 @@ use Rattle.table.specs.Record.{labelGood, entryGood}
 use Rattle.table.specs.Learning.{learnt}
 use Rattle.table.specs.declared.Label.{Label}
 use Rattle.table.specs.Claims.{Sound, Unique}
+use Rattle.table.proofs.Packing.{label-fits}
 use Rattle.table.proofs.Unique.{learning-unique}
 use Rattle.flush.specs.Payload.{everyType}
 use Rattle.flush.specs.Flush.{clearing}
@@ -37,6 +38,7 @@ use Rattle.frame.proofs.Local.{labels-good}
 use Rattle.frame.proofs.Parts.{Good, general-is, compact-is}
 use Rattle.receive.specs.Deciding.{ingressAllowed, nicknamesGood, channelPayload}
 use Rattle.receive.specs.Receive.{lesson, deliveredWith, delivery, flushedWith, channel, acted, reading, receivedWith, received}
+use Rattle.receive.specs.Words.{LabelFits}
 use Rattle.receive.specs.Claims.{ReadRefusal, ReadingKeepsUnique, ReadsParsed}
 use Rattle.receive.specs.declared.ReadAnswer.{ReadAnswer}
 use Rattle.receive.specs.declared.ReadAnswer.the-variants.{Refused, Onward, OtherChannel}
@@ -138,7 +140,7 @@ fronts-good on inner f p q =
     (λ v. refused-got _ p (v .1))
     (pick-got _ _ _ _ q)
 
-parsed-good : (s : Settings) (f : List ℕ) (p : Fields) → parsed s f ≡ got p → Good p
+pub parsed-good : (s : Settings) (f : List ℕ) (p : Fields) → parsed s f ≡ got p → Good p
 unfolding parsed
 parsed-good s f p q = fronts-good (compactOn s) (frontOf s (addressIn f)) f p (check-got _ _ _ _ q .1)
 
@@ -152,20 +154,27 @@ entry-good : (l : Label) (m n c k : ℕ) → labelGood l ≡ true → individual
 unfolding entryGood
 entry-good l m n c k a b d = both-pass _ _ a (both-pass _ _ b d)
 
-lesson-sound : (life : ℕ) (s : Settings) (p : Fields) → life < 2 ^ 13 → settingsGood s ≡ true → Good p → nicknamesGood s (p .header) ≡ true → individual (num (p .src)) ≡ true → Sound (lesson life s p)
-unfolding lesson settingsGood numbersGood nicknamesGood
-lesson-sound life s p small set g n i =
+-- confidence and seconds of good settings fit their bits
+pub settings-fit : (life : ℕ) (s : Settings) → life < 2 ^ 13 → settingsGood s ≡ true → (s .confidence ≤ 255) × (lifeOf life s < 2 ^ 13)
+unfolding settingsGood numbersGood
+settings-fit life s small set =
     let a = both-true (addressesGood s) _ set in
     let b = both-true (nicknameGood (s .nickname)) _ (a .1) in
     let c = both-true (leb (s .compact) 1) _ (b .1) in
     let d = both-true (leb (s .confidence) 255) (secondsGood (s .seconds)) (c .1) in
+    (leb-true (s .confidence) 255 (d .0), life-fits (s .seconds) life (eqb (s .seconds) 0) refl small (d .1))
+
+lesson-sound : (life : ℕ) (s : Settings) (p : Fields) → life < 2 ^ 13 → settingsGood s ≡ true → Good p → nicknamesGood s (p .header) ≡ true → individual (num (p .src)) ≡ true → Sound (lesson life s p)
+unfolding lesson nicknamesGood
+lesson-sound life s p small set g n i =
+    let d = settings-fit life s small set in
     let e = both-true (nicknameGood (egressOf (p .header))) _ n in
     let k = both-true (nicknameGood (ingressOf (p .header))) (ingressAllowed s (ingressOf (p .header))) (e .1) in
-    let m = leb-true (s .confidence) 255 (d .0) in
+    let m = d .0 in
     record {
       good = entry-good (labelRead (p .label)) (num (p .src)) (ingressOf (p .header)) (s .confidence) (lifeOf life s) (parts-label p g) i (k .0);
       confidence-fits = omega arith;
-      seconds-fit = life-fits (s .seconds) life (eqb (s .seconds) 0) refl small (d .1);
+      seconds-fit = d .1;
     }
 
 keeps-unique : (life : ℕ) (s : Settings) (p : Fields) (t o : List ℕ) → life < 2 ^ 13 → settingsGood s ≡ true → Good p → Unique t → Holds life s p t o (λ a. Unique (a .table))
@@ -182,3 +191,18 @@ reading-unique s f t o u =
     settled-left (λ (a : OnBoth ReadAnswer). Unique (a .table)) (λ k. onBoth (Refused k) t o) (reading defaultLife s (parsed s f) t o)
     (λ k. u)
     (reading-left defaultLife s (parsed s f) t o _ (λ p set q. keeps-unique defaultLife s p t o (omega arith) set (parsed-good s f p q) u))
+
+-- ---- the label of the answer
+
+pub read-fits : (s : Settings) (f t o : List ℕ) → LabelFits (received s f t o .answer)
+unfolding received receivedWith
+read-fits s f t o =
+    settled-left (λ (a : OnBoth ReadAnswer). LabelFits (a .answer)) (λ k. onBoth (Refused k) t o) (reading defaultLife s (parsed s f) t o)
+    (λ k. tt)
+    (reading-left defaultLife s (parsed s f) t o _ (λ p set q.
+    record {
+      onward = tt;
+      other = tt;
+      flushes = λ c r. tt;
+      delivers = λ n i. label-fits (labelRead (p .label)) (parts-label p (parsed-good s f p q));
+    }))

@@ -1,13 +1,23 @@
 // The C boundary: each public call over plain numbers and byte areas, with its answer packed into one word. A refusal is its number
 // alone; otherwise the low byte is the kind, and the other bits are the values.
+ghost use Prim.Native.Nat.{_^_, _<_, _≤_};
 ghost use mathlib.Core.Path.{_≡_};
-ghost use Rattle.numbers.specs.After.{onTable, tableAs};
+ghost use Rattle.numbers.specs.After.{onTable, tableAs, onBoth, bothAs};
+ghost use Rattle.table.specs.Record.{labelNumber};
 ghost use Rattle.table.specs.Table.{lookedUp, aged, lowestSpoilt};
-ghost use Rattle.table.specs.Words.{lookupWord, ageWord, spoiltWord};
+ghost use Rattle.table.specs.Words.{lookupWord, ageWord, spoiltWord, learningNumber};
 ghost use Rattle.flush.specs.Flush.{flushed};
 ghost use Rattle.flush.specs.Words.{flushWord};
+ghost use Rattle.frame.specs.Settings.{settingsOf};
+ghost use Rattle.receive.specs.Receive.{received};
+ghost use Rattle.receive.specs.Words.{readWord, LabelFits};
+ghost use Rattle.receive.specs.declared.ReadAnswer.the-variants.{Delivered};
 use flush::FlushAnswer;
+use frame::Settings;
+use receive::ReadAnswer;
 use table::AgeAnswer;
+use table::Label;
+use table::Learning;
 use table::LookupAnswer;
 use table::SpoiltAnswer;
 
@@ -75,4 +85,67 @@ pub extern "C" fn shinglebar_flush(ingress: u32, payload: &[u8], table: &mut [u8
     ensures { λ r. ⌜ onTable r (now (table .exit)) ≡ tableAs flushWord (flushed ingress (now (payload .entry)) (now (table .entry))) ⌝ }
 {
     flush_word(flushing::flush(ingress, payload, table))
+}
+
+fn learning_number(l: Learning) -> u64
+    ensures { λ r. ⌜ (r ≡ learningNumber l) × (r ≤ 3) ⌝ }
+{
+    match l {
+        Learning::Learned => 0,
+        Learning::Refreshed => 1,
+        Learning::Kept => 2,
+        Learning::Full => 3,
+    }
+}
+
+fn delivered_word(length: u16, label: Label, learning: Learning) -> u64
+    requires { ⌜ labelNumber label < 2 ^ 24 ⌝ }
+    ensures { λ r. ⌜ r ≡ readWord (Delivered length label learning) ⌝ }
+{
+    let values = 65 + length as u64 * 0x100 + learning_number(learning) * 0x100_0000;
+    values
+        + records::kind_number(label) * 0x1_0000_0000
+        + records::label_number(label) * 0x100_0000_0000
+}
+
+fn read_word(a: ReadAnswer) -> u64
+    requires { ⌜ LabelFits a ⌝ }
+    ensures { λ r. ⌜ r ≡ readWord a ⌝ }
+{
+    match a {
+        ReadAnswer::Refused(n) => n as u64,
+        ReadAnswer::Onward => 64,
+        ReadAnswer::Delivered {
+            length,
+            label,
+            learning,
+        } => delivered_word(length, label, learning),
+        ReadAnswer::OtherChannel => 66,
+        ReadAnswer::Flushed(k) => 67 + k as u64 * 0x100,
+    }
+}
+
+#[no_mangle]
+pub extern "C" fn shinglebar_receive(
+    port: u64,
+    inner: u64,
+    nickname: u32,
+    compact: u32,
+    confidence: u32,
+    seconds: u32,
+    frame: &[u8],
+    table: &mut [u8],
+    out: &mut [u8],
+) -> u64
+    ensures { λ r. ⌜ onBoth r (now (table .exit)) (now (out .exit)) ≡ bothAs readWord (received (settingsOf port inner nickname compact confidence seconds) (now (frame .entry)) (now (table .entry)) (now (out .entry))) ⌝ }
+{
+    let s = Settings {
+        port: port,
+        inner: inner,
+        nickname: nickname,
+        compact: compact,
+        confidence: confidence,
+        seconds: seconds,
+    };
+    read_word(receiving::receive(s, frame, table, out))
 }

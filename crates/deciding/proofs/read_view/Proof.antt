@@ -41,11 +41,13 @@ returns c =
     let p : Parts = start .args .p in
     let i = start .pre in
     record {
-      first = c .before .before .before .before .be2 .ensures .0 ∙ word-in f (p .header) (p .size) 0 (p .header) (omega arith) (omega (arith, i .fixed)) (i .header);
-      egress = c .before .before .before .be22 .ensures .0 ∙ word-in f (p .header) (p .size) 2 (p .header + 2) (omega arith) (omega (arith, i .fixed)) (i .header);
-      ingress = c .before .before .be23 .ensures .0 ∙ word-in f (p .header) (p .size) 4 (p .header + 4) (omega arith) (omega (arith, i .fixed)) (i .header);
+      first = c .before .before .before .before .be2 .ensures .0 ∙ word-in f (p .header) (p .size) 0 (p .header) (omega arith) (omega (arith, i .fixed));
+      egress = c .before .before .before .be22 .ensures .0 ∙ word-in f (p .header) (p .size) 2 (p .header + 2) (omega arith) (omega (arith, i .fixed));
+      ingress = c .before .before .be23 .ensures .0 ∙ word-in f (p .header) (p .size) 4 (p .header + 4) (omega arith) (omega (arith, i .fixed));
       dst = c .before .be6 .ensures .0;
       src = c .be62 .ensures .0;
+      ingress-fits = c .before .before .be23 .ensures .1;
+      src-fits = c .be62 .ensures .1;
     }
 
 pub read-view-spec : {M : Type 1} → statement M

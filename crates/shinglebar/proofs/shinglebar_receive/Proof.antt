@@ -1,0 +1,30 @@
+-- `shinglebar::shinglebar_receive` meets its contract: the word of the answer, and both areas as reading left them.
+-- Assumes nothing.
+use Rattle.receive.proofs.Outcomes.{read-fits}
+use Rattle.receive.specs.declared.ReadAnswer.{ReadAnswer}
+use Rattle.receive.specs.Words.{readWord, LabelFits}
+use Rattle.numbers.specs.After.{OnBoth, bothAs}
+use mathlib.Core.Path.{sym, ap, subst}
+use borrow.Author.Needs.{needs}
+use Rattle.shinglebar.proofs.shinglebar_receive.Statement.{statement}
+use Rattle.shinglebar.proofs.shinglebar_receive.Tie as tie
+
+receive-requires : tie.Need-receive-requires
+receive-requires c κs = search needs
+
+read-word-requires : tie.Need-read-word-requires
+read-word-requires c κs =
+    subst LabelFits (sym (ap (λ (x : OnBoth ReadAnswer). x .answer) (c .before .before .before .before .receive .ensures))) (read-fits _ _ _ _)
+
+same-length : tie.Need-same-length
+same-length c = search needs
+
+same-length-2 : tie.Need-same-length-2
+same-length-2 c = search needs
+
+returns : tie.Need-returns
+returns c = rw (c .read-word .ensures) (ap (bothAs readWord) (c .before .before .before .before .before .receive .ensures))
+
+pub shinglebar-receive-spec : {M : Type 1} → statement M
+shinglebar-receive-spec =
+    tie.close (tie.spec receive-requires read-word-requires same-length same-length-2 returns)
