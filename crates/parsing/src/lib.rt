@@ -120,14 +120,14 @@ pub fn read_compact(f: &[u8]) -> Parsed
     let t = fields::rest(b, 6);
     match fields::label_length(t) {
         Size::Refused(e) => Parsed::Refused(e),
-        Size::Bytes(n) => match tail_length(fields::rest(t, n)) {
+        Size::Bytes(k) => match tail_length(fields::rest(t, k)) {
             Size::Refused(e) => Parsed::Refused(e),
             Size::Bytes(h) => Parsed::Fields(Parts {
                 dst: 0,
-                label: n,
-                header: 14 + n,
+                label: k,
+                header: 14 + k,
                 size: h,
-                content: 14 + n + h,
+                content: 14 + k + h,
             }),
         },
     }

@@ -25,8 +25,8 @@ label-length-requires c κs = search needs
 enum-known-e : tie.Need-enum-known-e
 enum-known-e c = search needs
 
-enum-known-n : tie.Need-enum-known-n
-enum-known-n c = search needs
+enum-known-k : tie.Need-enum-known-k
+enum-known-k c = search needs
 
 rest-requires-3 : tie.Need-rest-requires-3
 rest-requires-3 c κs = search label-room
@@ -41,13 +41,13 @@ enum-known-h : tie.Need-enum-known-h
 enum-known-h c = search needs
 
 add-t15 : tie.Need-add-t15
-add-t15 c = omega (arith, tail-bound _ _ (c .before .before .before .tail-length .ensures .1) _ (c .before .h .given .1), label-room _ _ _ (c .before .before .before .before .before .before .n .given .1) (c .before .before .before .before .before .before .before .before .label-length .ensures))
+add-t15 c = omega (arith, tail-bound _ _ (c .before .before .before .tail-length .ensures .1) _ (c .before .h .given .1), label-room _ _ _ (c .before .before .before .before .before .before .k .given .1) (c .before .before .before .before .before .before .before .before .label-length .ensures))
 
 add-t16 : tie.Need-add-t16
-add-t16 c = omega (arith, tail-bound _ _ (c .before .before .before .tail-length .ensures .1) _ (c .before .h .given .1), label-room _ _ _ (c .before .before .before .before .before .before .n .given .1) (c .before .before .before .before .before .before .before .before .label-length .ensures))
+add-t16 c = omega (arith, tail-bound _ _ (c .before .before .before .tail-length .ensures .1) _ (c .before .h .given .1), label-room _ _ _ (c .before .before .before .before .before .before .k .given .1) (c .before .before .before .before .before .before .before .before .label-length .ensures))
 
 add-t17 : tie.Need-add-t17
-add-t17 c = omega (arith, tail-bound _ _ (c .before .before .before .tail-length .ensures .1) _ (c .before .h .given .1), label-room _ _ _ (c .before .before .before .before .before .before .n .given .1) (c .before .before .before .before .before .before .before .before .label-length .ensures))
+add-t17 c = omega (arith, tail-bound _ _ (c .before .before .before .tail-length .ensures .1) _ (c .before .h .given .1), label-room _ _ _ (c .before .before .before .before .before .before .k .given .1) (c .before .before .before .before .before .before .before .before .label-length .ensures))
 
 returns-3 : tie.Need-returns-3
 returns-3 c = search c-label
@@ -68,7 +68,7 @@ read-compact-spec =
     rest-requires-2
     label-length-requires
     enum-known-e
-    enum-known-n
+    enum-known-k
     rest-requires-3
     tail-length-requires
     enum-known-e-2
