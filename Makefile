@@ -1,5 +1,5 @@
 # Shinglebar. `make test` is the gate that every change passes.
-.PHONY: test fuzz bench archive fmt
+.PHONY: test fuzz bench archive vectors fmt
 
 # Proves every crate from nothing, tries every must-fail edit and runs the tests.
 test:
@@ -17,6 +17,10 @@ fuzz: archive
 # Times the calls beside hand-written Rust versions of them, on the same bytes in the same run.
 bench: archive
 	cd bench && cargo run --release --offline --locked
+
+# Writes the calls that the program `replay` makes and what the second implementation says they give (docs/REPLAY.md).
+vectors: archive
+	cd tests && cargo run --offline --locked --bin vectors
 
 # Lays out the Rattle and antt files.
 fmt:

@@ -24,3 +24,4 @@ pub mod generate;
 pub mod random;
 pub mod reference;
 pub mod run;
+pub mod vectors;

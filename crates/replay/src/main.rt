@@ -1,0 +1,249 @@
+ghost use Prim.Native.Nat.{_≤_};
+ghost use lib.ListN.{length};
+// Replays calls on one table: reads them from standard input in hex, and writes each answer and the bytes it left. docs/REPLAY.md
+// describes the form.
+
+// The first byte of an area; 256 where it has none.
+fn first(b: &[u8]) -> u64 {
+    if b.len() < 1 {
+        return 256;
+    }
+    numbers::wide(b[0])
+}
+
+// A character of standard input; 256 at its end.
+fn next_char() -> u64 {
+    let mut one = [0u8; 1];
+    let got = libc::read(0, &mut one);
+    let n = io::count(got, &one);
+    first(&one[..n])
+}
+
+// The value of a hex digit; 16 for any other character, 17 at the end of the input.
+fn digit_of(c: u64) -> u64
+    ensures { λ r. ⌜ r ≤ 17 ⌝ }
+{
+    if 255 < c {
+        return 17;
+    }
+    if c < 48 {
+        return 16;
+    }
+    if c <= 57 {
+        return c - 48;
+    }
+    if c < 97 {
+        return 16;
+    }
+    if c <= 102 {
+        return c - 87;
+    }
+    16
+}
+
+// The next hex digit; 17 at the end of the input. The turns are more than any input has characters: a proved loop has to end.
+fn next_digit() -> u64
+    ensures { λ r. ⌜ r ≤ 17 ⌝ }
+{
+    let mut turns = u64::MAX;
+    while 0 < turns {
+        let d = digit_of(next_char());
+        if d != 16 {
+            return d;
+        }
+        turns -= 1;
+    }
+    17
+}
+
+// The next byte; 256 at the end of the input.
+fn next_byte() -> u64 {
+    let a = next_digit();
+    let b = next_digit();
+    if (15 < a) | (15 < b) {
+        return 256;
+    }
+    a * 16 + b
+}
+
+// Fills an area, and answers whether the input held it all.
+fn fill(area: &mut [u8]) -> bool {
+    let mut i = 0;
+    while i < area.len() {
+        let b = next_byte();
+        if 255 < b {
+            return false;
+        }
+        area[i] = b as u8;
+        i += 1;
+    }
+    true
+}
+
+fn print_bytes(b: &[u8]) {
+    io::write_all(1, &[b' ']);
+    let mut i = 0;
+    while i < b.len() {
+        io::print_hex(1, numbers::wide(b[i]), 2);
+        i += 1;
+    }
+}
+
+// Writes a line: the answer's word, the table, and the area that was lent.
+fn print_call(word: u64, table: &[u8], out: &[u8]) {
+    io::print_hex(1, word, 16);
+    print_bytes(table);
+    print_bytes(out);
+    io::write_all(1, &[b'\n']);
+}
+
+// 01: settings, the output area's length, the frame.
+fn read_frame(b: &[u8], table: &mut [u8], out: &mut [u8])
+    requires { ⌜ 34 ≤ length (now b) ⌝ }
+{
+    let word = shinglebar::shinglebar_receive(
+        numbers::be8(b, 0),
+        numbers::be8(b, 8),
+        numbers::be4(b, 16) as u32,
+        numbers::be4(b, 20) as u32,
+        numbers::be4(b, 24) as u32,
+        numbers::be4(b, 28) as u32,
+        &b[34..],
+        table,
+        out,
+    );
+    print_call(word, table, out);
+}
+
+fn replay_receive(b: &[u8], table: &mut [u8], area: &mut [u8]) -> bool {
+    if b.len() < 34 {
+        return false;
+    }
+    let n = numbers::be2(b, 32) as usize;
+    if area.len() < n {
+        return false;
+    }
+    read_frame(b, table, &mut area[0..n]);
+    true
+}
+
+// 02: the ingress nickname, the payload.
+fn replay_flush(b: &[u8], table: &mut [u8]) -> bool {
+    if b.len() < 4 {
+        return false;
+    }
+    let word = shinglebar::shinglebar_flush(numbers::be4(b, 0) as u32, &b[4..], table);
+    print_call(word, table, &b[..0]);
+    true
+}
+
+// 03: seconds.
+fn replay_age(b: &[u8], table: &mut [u8]) -> bool {
+    if b.len() < 2 {
+        return false;
+    }
+    let word = shinglebar::shinglebar_age(numbers::be2(b, 0) as u16, table);
+    print_call(word, table, &b[..0]);
+    true
+}
+
+// 04: label kind, label, address.
+fn replay_lookup(b: &[u8], table: &[u8]) -> bool {
+    if b.len() < 16 {
+        return false;
+    }
+    let word = shinglebar::shinglebar_lookup(
+        numbers::be4(b, 0) as u32,
+        numbers::be4(b, 4) as u32,
+        numbers::be8(b, 8),
+        table,
+    );
+    print_call(word, table, &b[..0]);
+    true
+}
+
+// 05.
+fn replay_spoilt(b: &[u8], table: &[u8]) -> bool {
+    let word = shinglebar::shinglebar_spoilt(table);
+    print_call(word, table, &b[..0]);
+    true
+}
+
+// Makes a call and writes what it gave; false where there is no such call.
+fn replay_call(kind: u64, b: &[u8], table: &mut [u8], area: &mut [u8]) -> bool {
+    if kind == 1 {
+        return replay_receive(b, table, area);
+    }
+    if kind == 2 {
+        return replay_flush(b, table);
+    }
+    if kind == 3 {
+        return replay_age(b, table);
+    }
+    if kind == 4 {
+        return replay_lookup(b, table);
+    }
+    if kind == 5 {
+        return replay_spoilt(b, table);
+    }
+    false
+}
+
+// The length of the next call's numbers and bytes; the largest number where the input ended.
+fn next_length() -> usize {
+    let a = next_byte();
+    let b = next_byte();
+    if 255 < a {
+        return usize::MAX;
+    }
+    if 255 < b {
+        return usize::MAX;
+    }
+    a as usize * 0x100 + b as usize
+}
+
+// Makes a call on the table's first bytes, or makes the table these bytes (00), and answers the table's length then; the largest number
+// where there is no such call.
+fn step(kind: u64, b: &[u8], table: &mut [u8], size: usize, area: &mut [u8]) -> usize
+    requires { ⌜ (length (now b) ≤ length (now table)) × (size ≤ length (now table)) ⌝ }
+{
+    if kind == 0 {
+        copying::copy_at(b, table, 0);
+        return b.len();
+    }
+    if replay_call(kind, b, &mut table[0..size], area) {
+        return size;
+    }
+    usize::MAX
+}
+
+// Replays the calls up to the end of the input, or up to one that is in no form.
+fn replay(body: &mut [u8], table: &mut [u8], area: &mut [u8]) {
+    let mut size = 0;
+    let mut turns = u64::MAX;
+    while 0 < turns {
+        let kind = next_byte();
+        let n = next_length();
+        if body.len() < n {
+            return;
+        }
+        if table.len() < n {
+            return;
+        }
+        if !fill(&mut body[0..n]) {
+            return;
+        }
+        size = step(kind, &body[0..n], table, size, area);
+        if table.len() < size {
+            return;
+        }
+        turns -= 1;
+    }
+}
+
+fn main() {
+    let mut body = [0u8; 1024];
+    let mut table = [0u8; 1024];
+    let mut area = [0u8; 1024];
+    replay(&mut body, &mut table, &mut area);
+}
