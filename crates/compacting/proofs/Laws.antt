@@ -6,7 +6,7 @@ use mathlib.Core.List.{List, _++_, append-assoc}
 use mathlib.Core.Path.{_≡_, sym, ap, _∙_}
 use native.Mathlib.Omega.{arith}
 use lib.ListN.{length, take, drop, length-append, length-drop}
-use borrow.Author.Tests.{le-leb, lt-leb, not-true, not-false}
+use borrow.Author.Tests.{not-true, not-false}
 use Rattle.numbers.specs.Result.{refused, got, check, andThen, settled}
 use Rattle.numbers.specs.After.{onArea}
 use Rattle.numbers.specs.Bytes.{num, laid}
@@ -30,7 +30,7 @@ use Rattle.copying.specs.Areas.{pasted}
 use Rattle.copying.proofs.Copying.{paste-behind, paste-laid}
 use Rattle.convert.specs.Compaction.{compactBytes, staysGeneral, generalOnly, generalFields, compacting, written, compacted}
 use Rattle.convert.specs.declared.ConvertAnswer.{ConvertAnswer}
-use Rattle.convert.specs.declared.ConvertAnswer.the-variants.{Refused, Written}
+use Rattle.convert.specs.declared.ConvertAnswer.the-variants.{Refused}
 use Rattle.compacting.specs.Meaning.{compactLength, putOn}
 
 -- ---- the parts of a General frame
@@ -106,15 +106,6 @@ module _ (f : List ℕ) (p : Parts) where
         let l₃ : length x₃ ≡ n + 2 + p .size = rw (length-append, l₂, header-long f p w) (omega arith) in
         simp (w₄, w₃, w₂, w₁, e₁, e₂, e₃, paste-behind out x₁ trillType n l₁, paste-behind out x₂ h (n + 2) l₂, paste-behind out x₃ (drop (p .content) f) (n + 2 + p .size) l₃)
         (paste-laid out pieces ∙ ap (λ (b : List ℕ). laid b out) pieces-are)
-
-    module _ (area : List ℕ) where
-      pub put-short : length area < compactLength (length f) p → onArea (Refused 16) area ≡ putOn (compactBytes (fieldsIn f p)) area
-      unfolding putOn written check settled
-      put-short h = rw (compact-long, lt-leb (compactLength (length f) p) (length area) h)
-
-      pub put-written : compactLength (length f) p ≤ length area → (o : List ℕ) → o ≡ laid (compactBytes (fieldsIn f p)) area → onArea (Written (compactLength (length f) p)) o ≡ putOn (compactBytes (fieldsIn f p)) area
-      unfolding putOn written check settled
-      put-written h o e = rw (compact-long, le-leb (compactLength (length f) p) (length area) h, e)
 
 -- ---- the call
 

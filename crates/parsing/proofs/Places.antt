@@ -1,11 +1,14 @@
 -- The parts of a frame at their places: inner addresses and label lie one behind the other, and each part is as long as it says.
 -- Assumes nothing.
 use Prim.Native.Nat.{ℕ, _+_, _-_, _≤_}
-use mathlib.Core.List.{List, _++_}
-use mathlib.Core.Path.{_≡_, ap, _∙_}
+use mathlib.Core.List.{List, [], _++_}
+use mathlib.Core.Path.{_≡_, refl, ap, _∙_}
 use native.Mathlib.Omega.{arith}
 use lib.ListN.{length, take, drop, length-drop}
 use lib.Seq.{take-add, drop-drop, length-take-le}
+use Rattle.frame.specs.Front.{inner}
+use Rattle.frame.proofs.Local.{header-is}
+use Rattle.frame.proofs.Parts.{Good}
 use Rattle.parsing.specs.Meaning.{fieldsIn, parsedWithin, Within}
 use Rattle.parsing.specs.declared.Parts.{Parts}
 use Rattle.parsing.specs.declared.Parsed.{Parsed}
@@ -42,3 +45,11 @@ module _ (f : List ℕ) (p : Parts) where
         let a = w .header in
         let d = length-drop (p .header) f in
         length-take-le (p .size) (drop (p .header) f) (omega arith)
+
+    -- a header that was read has its six bytes
+    pub fixed-bytes : Good (fieldsIn f p) → 6 ≤ p .size
+    fixed-bytes g =
+        let h : List ℕ = fieldsIn f p .header in
+        let i = header-is inner (h ++ []) (length h) (g .header inner refl []) .size in
+        let l = header-long in
+        omega arith

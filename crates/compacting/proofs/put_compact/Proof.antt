@@ -1,6 +1,7 @@
 -- `compacting::put_compact` meets its contract: refused for want of room, or written.
 -- Assumes nothing.
-use Rattle.compacting.proofs.Laws.{put-short, put-written}
+use Rattle.compacting.proofs.Laws.{compact-long}
+use Rattle.compacting.proofs.Put.{put-short, put-written}
 use borrow.Author.Needs.{needs}
 use Rattle.compacting.proofs.put_compact.Statement.{statement}
 use Rattle.compacting.proofs.put_compact.Tie as tie
@@ -18,7 +19,7 @@ add-n-3 : tie.Need-add-n-3
 add-n-3 c = search needs
 
 returns : tie.Need-returns
-returns c = search put-short
+returns c = search (put-short, compact-long)
 
 write-compact-requires : tie.Need-write-compact-requires
 write-compact-requires c κs = search needs
@@ -30,7 +31,7 @@ same-length : tie.Need-same-length
 same-length c = search needs
 
 returns-2 : tie.Need-returns-2
-returns-2 c = search put-written
+returns-2 c = search (put-written, compact-long)
 
 pub put-compact-spec : {M : Type 1} → statement M
 put-compact-spec =
