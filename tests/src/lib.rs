@@ -9,7 +9,8 @@
 //! | tests/table.rs, tests/header.rs | lookup, age, spoilt |
 //! | tests/flush.rs | flush |
 //! | tests/receive.rs | receive |
-//! | tests/convert.rs | compact, expand, send, and whole call lists |
+//! | tests/convert.rs | compact, expand, send |
+//! | tests/lists.rs | receive, compact, lookup, age, spoilt: whole call lists |
 //!
 //! Environment: `SHINGLEBAR_SEED` the seed, `SHINGLEBAR_CASES` the number of cases of each call,
 //! `SHINGLEBAR_CASE` the only case to run, and for build.rs `SHINGLEBAR_ARCHIVE_DIR` the folder of

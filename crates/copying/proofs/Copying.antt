@@ -4,10 +4,10 @@ use Prim.Native.Nat.{ℕ, _+_, _-_, _≤_, _<_}
 use native.Mathlib.Omega.{arith}
 use native.Mathlib.Numerals.{add-one}
 use mathlib.Core.Path.{_≡_, refl, ap, _∙_}
-use mathlib.Core.List.{List, _++_}
+use mathlib.Core.List.{List, _++_, append-assoc}
 use lib.ListN.{length, take, drop, getD, set, length-drop, length-append}
 use native.Mathlib.Nat.{zero-add}
-use lib.Seq.{take-append-seam, drop-append-add, drop-drop, paste, paste-suc, take-length, length-take-le}
+use lib.Seq.{take-at, drop-append-add, drop-drop, paste, paste-suc, take-length, length-take-le}
 use Rattle.numbers.specs.Bytes.{laid}
 use Rattle.copying.specs.Areas.{pasted}
 
@@ -37,13 +37,31 @@ part-is f start len h =
     simp e (refl, length-take-le len (drop start f) (omega arith))
 
 -- a copy right behind the bytes that were written makes one longer copy
-pub paste-behind : (o w x : List ℕ) (k : ℕ) → length w ≡ k → pasted (pasted o 0 w) k x ≡ pasted o 0 (w ++ x)
+pub paste-next : (o w x : List ℕ) (a k : ℕ) → a ≤ length o → a + length w ≡ k → pasted (pasted o a w) k x ≡ pasted o a (w ++ x)
 unfolding pasted
-paste-behind o w x k e =
-    let d : List ℕ = drop (length w) o in
-    rw (← e) (simp (zero-add, take-append-seam w d, drop-append-add w d (length x), drop-drop (length x) (length w) o, length-append))
+paste-next o w x a k h e =
+    let t : List ℕ = take a o in
+    let d : List ℕ = drop (a + length w) o in
+    let front : length (t ++ w) ≡ k = rw (length-append, length-take-le a o h) e in
+    let first : take k ((t ++ w) ++ d) ≡ t ++ w = take-at (t ++ w) d k front in
+    let sum : a + length w + length x ≡ a + length (w ++ x) = rw length-append (omega arith) in
+    let last : drop (k + length x) ((t ++ w) ++ d) ≡ drop (a + length (w ++ x)) o =
+    rw (← front) (drop-append-add (t ++ w) d (length x))
+    ∙ drop-drop (length x) (a + length w) o
+    ∙ ap (λ (n : ℕ). drop n o) sum in
+    rw (first, last) (simp append-assoc)
+
+pub paste-behind : (o w x : List ℕ) (k : ℕ) → length w ≡ k → pasted (pasted o 0 w) k x ≡ pasted o 0 (w ++ x)
+paste-behind o w x k e = paste-next o w x 0 k (omega arith) (omega arith)
 
 -- a copy at the start of an area is what a call lays there
 pub paste-laid : (o w : List ℕ) → pasted o 0 w ≡ laid w o
 unfolding pasted laid
 paste-laid o w = rw (zero-add (length w))
+
+-- a part of an area that was written through
+pub part-pasted : (o y : List ℕ) (at n : ℕ) → length y ≡ n → take at o ++ (y ++ drop (at + n - at) (drop at o)) ≡ pasted o at y
+unfolding pasted
+part-pasted o y at n e =
+    let k : at + n - at ≡ length y = omega arith in
+    rw (k, drop-drop (length y) at o) (simp append-assoc)

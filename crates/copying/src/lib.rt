@@ -2,6 +2,7 @@
 ghost use Prim.Native.Nat.{_+_, _≤_};
 ghost use mathlib.Core.Path.{_≡_};
 ghost use lib.ListN.{length, take, drop};
+ghost use Rattle.numbers.specs.Bytes.{bytesOf};
 ghost use Rattle.copying.specs.Areas.{pasted};
 
 // Copies all of src into out from a place on.
@@ -22,4 +23,13 @@ pub fn part<'a>(f: &'a [u8], start: usize, len: usize) -> &'a [u8]
     ensures { λ r. ⌜ (now r ≡ take len (drop start (now (f .entry)))) × (length (now r) ≡ len) ⌝ }
 {
     &f[start..start + len]
+}
+
+// Writes the n low bytes of a number into out from a place on.
+pub fn put_number(v: u64, n: usize, out: &mut [u8], at: usize)
+    requires { ⌜ at + n ≤ length (now out) ⌝ }
+    ensures { λ _. ⌜ now (out .exit) ≡ pasted (now (out .entry)) at (bytesOf n v) ⌝ }
+{
+    let e = at + n;
+    numbers::fill(&mut out[at..e], v);
 }

@@ -37,8 +37,3 @@ lifeOf life s = pick (eqb (s .seconds) 0) life (s .seconds)
 -- "the default 300"
 abbrev pub defaultLife : ℕ
 defaultLife = 300
-
--- the six numbers of a port, in the order in which the C boundary has them
-abbrev pub settingsOf : ℕ → ℕ → ℕ → ℕ → ℕ → ℕ → Settings
-settingsOf port inner nickname compact confidence seconds =
-    record { port = port; inner = inner; nickname = nickname; compact = compact; confidence = confidence; seconds = seconds }

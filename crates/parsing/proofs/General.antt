@@ -1,17 +1,16 @@
 -- Each outcome of reading a General frame, from facts as the code finds them.
 -- Assumes nothing.
 use Prim.Native.Nat.{ℕ, _+_, _≤_, _<_}
-use mathlib.Core.Path.{_≡_, refl, sym, ap, _∙_}
+use mathlib.Core.Path.{_≡_, sym, ap, _∙_}
 use mathlib.Core.List.{List}
 use native.Mathlib.Omega.{arith}
-use lib.ListN.{length, take, drop}
+use lib.ListN.{length, drop}
 use lib.Seq.{drop-drop}
 use borrow.Author.Tests.{le-leb, lt-leb}
 use Rattle.numbers.specs.Result.{Result, refused, got, check, andThen}
 use Rattle.frame.specs.Front.{Front}
 use Rattle.frame.specs.Header.{headerLength}
 use Rattle.frame.specs.Labels.{labelLength}
-use Rattle.frame.specs.Fields.{Fields}
 use Rattle.frame.specs.Formats.{outerLength, generalRest, general}
 use Rattle.frame.proofs.Local.{header-is, label-is, label-fits}
 use Rattle.frame.proofs.Parts.{outer-is}
@@ -20,7 +19,6 @@ use Rattle.fields.specs.declared.Size.{Size}
 use Rattle.fields.specs.declared.Size.the-variants.{Refused, Bytes}
 use Rattle.parsing.specs.declared.Lens.{Lens}
 use Rattle.parsing.specs.declared.Lens.the-variants as lens
-use Rattle.parsing.specs.declared.Parts.{Parts}
 use Rattle.parsing.specs.Meaning.{lensAs, lensWithin, generalCut, fieldsIn}
 
 -- ---- what a size says

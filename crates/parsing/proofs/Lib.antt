@@ -1,3 +1,4 @@
 pub mod General
 pub mod Compact
 pub mod Outcomes
+pub mod Places

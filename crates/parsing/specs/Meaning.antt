@@ -56,3 +56,13 @@ fieldsIn f p = record {
 abbrev pub parsedAs : List ℕ → Parsed → Result Fields
 parsedAs f (parsed.Refused n) = refused n
 parsedAs f (parsed.Fields p) = got (fieldsIn f p)
+
+-- the parts lie within n bytes
+pub record Within (n : ℕ) (p : Parts) : Type 0 where
+  pub addresses : p .dst + 12 + p .label ≤ n
+  pub header : p .header + p .size ≤ n
+  pub content : p .content ≤ n
+
+abbrev pub parsedWithin : ℕ → Parsed → Type 0
+parsedWithin n (parsed.Refused e) = Unit {0}
+parsedWithin n (parsed.Fields p) = Within n p

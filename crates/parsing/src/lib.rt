@@ -4,7 +4,7 @@ ghost use mathlib.Core.Path.{_≡_};
 ghost use lib.ListN.{length};
 ghost use Rattle.frame.specs.Formats.{generalRest, general, compact, parsed};
 ghost use Rattle.fields.specs.Meaning.{frontAs};
-ghost use Rattle.parsing.specs.Meaning.{lensAs, lensWithin, tailAs, tailWithin, tailRest, parsedAs};
+ghost use Rattle.parsing.specs.Meaning.{lensAs, lensWithin, tailAs, tailWithin, tailRest, parsedAs, parsedWithin};
 use fields::Front;
 use fields::Size;
 use frame::Settings;
@@ -66,7 +66,7 @@ fn general_rest(d: Front, l: &[u8]) -> Lens
 
 // A General frame.
 pub fn read_general(d: Front, f: &[u8]) -> Parsed
-    ensures { λ r. ⌜ parsedAs (now (f .entry)) r ≡ general (frontAs d) (now (f .entry)) ⌝ }
+    ensures { λ r. ⌜ (parsedAs (now (f .entry)) r ≡ general (frontAs d) (now (f .entry))) × parsedWithin (length (now (f .entry))) r ⌝ }
 {
     match fields::outer_length(f) {
         Size::Refused(e) => Parsed::Refused(e),
@@ -108,7 +108,7 @@ fn tail_length(l: &[u8]) -> Size
 
 // A Compact frame.
 pub fn read_compact(f: &[u8]) -> Parsed
-    ensures { λ r. ⌜ parsedAs (now (f .entry)) r ≡ compact (now (f .entry)) ⌝ }
+    ensures { λ r. ⌜ (parsedAs (now (f .entry)) r ≡ compact (now (f .entry))) × parsedWithin (length (now (f .entry))) r ⌝ }
 {
     if f.len() < 6 {
         return Parsed::Refused(CUT_SHORT);
@@ -135,7 +135,7 @@ pub fn read_compact(f: &[u8]) -> Parsed
 
 // A frame of either format, up to its content.
 pub fn parse(s: Settings, f: &[u8]) -> Parsed
-    ensures { λ r. ⌜ parsedAs (now (f .entry)) r ≡ parsed s (now (f .entry)) ⌝ }
+    ensures { λ r. ⌜ (parsedAs (now (f .entry)) r ≡ parsed s (now (f .entry))) × parsedWithin (length (now (f .entry))) r ⌝ }
 {
     let n = f.len();
     if n < 14 {

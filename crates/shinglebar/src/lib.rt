@@ -2,16 +2,23 @@
 // alone; otherwise the low byte is the kind, and the other bits are the values.
 ghost use Prim.Native.Nat.{_^_, _<_, _≤_};
 ghost use mathlib.Core.Path.{_≡_};
-ghost use Rattle.numbers.specs.After.{onTable, tableAs, onBoth, bothAs};
+ghost use Rattle.numbers.specs.After.{onTable, tableAs, onArea, areaAs, onBoth, bothAs};
 ghost use Rattle.table.specs.Record.{labelNumber};
 ghost use Rattle.table.specs.Table.{lookedUp, aged, lowestSpoilt};
 ghost use Rattle.table.specs.Words.{lookupWord, ageWord, spoiltWord, learningNumber};
 ghost use Rattle.flush.specs.Flush.{flushed};
 ghost use Rattle.flush.specs.Words.{flushWord};
-ghost use Rattle.frame.specs.Settings.{settingsOf};
 ghost use Rattle.receive.specs.Receive.{received};
 ghost use Rattle.receive.specs.Words.{readWord, LabelFits};
 ghost use Rattle.receive.specs.declared.ReadAnswer.the-variants.{Delivered};
+ghost use Rattle.convert.specs.Compaction.{compacted};
+ghost use Rattle.convert.specs.Expansion.{expanded};
+ghost use Rattle.convert.specs.Sending.{sent};
+ghost use Rattle.convert.specs.Words.{convertWord, sendWord};
+ghost use Rattle.shinglebar.specs.Arguments.{settingsOf, outerOf};
+use convert::ConvertAnswer;
+use convert::SendAnswer;
+use expanding::Outer;
 use flush::FlushAnswer;
 use frame::Settings;
 use receive::ReadAnswer;
@@ -87,6 +94,27 @@ pub extern "C" fn shinglebar_flush(ingress: u32, payload: &[u8], table: &mut [u8
     flush_word(flushing::flush(ingress, payload, table))
 }
 
+// The settings of a port, from the six numbers of every call that has them.
+fn settings(
+    port: u64,
+    inner: u64,
+    nickname: u32,
+    compact: u32,
+    confidence: u32,
+    seconds: u32,
+) -> Settings
+    ensures { λ r. ⌜ r ≡ settingsOf port inner nickname compact confidence seconds ⌝ }
+{
+    Settings {
+        port: port,
+        inner: inner,
+        nickname: nickname,
+        compact: compact,
+        confidence: confidence,
+        seconds: seconds,
+    }
+}
+
 fn learning_number(l: Learning) -> u64
     ensures { λ r. ⌜ (r ≡ learningNumber l) × (r ≤ 3) ⌝ }
 {
@@ -139,13 +167,84 @@ pub extern "C" fn shinglebar_receive(
 ) -> u64
     ensures { λ r. ⌜ onBoth r (now (table .exit)) (now (out .exit)) ≡ bothAs readWord (received (settingsOf port inner nickname compact confidence seconds) (now (frame .entry)) (now (table .entry)) (now (out .entry))) ⌝ }
 {
-    let s = Settings {
-        port: port,
-        inner: inner,
-        nickname: nickname,
-        compact: compact,
-        confidence: confidence,
-        seconds: seconds,
-    };
+    let s = settings(port, inner, nickname, compact, confidence, seconds);
     read_word(receiving::receive(s, frame, table, out))
+}
+
+fn convert_word(a: ConvertAnswer) -> u64
+    ensures { λ r. ⌜ r ≡ convertWord a ⌝ }
+{
+    match a {
+        ConvertAnswer::Refused(n) => n as u64,
+        ConvertAnswer::Written(k) => 64 + k as u64 * 0x100,
+    }
+}
+
+#[no_mangle]
+pub extern "C" fn shinglebar_compact(
+    port: u64,
+    inner: u64,
+    nickname: u32,
+    compact: u32,
+    confidence: u32,
+    seconds: u32,
+    frame: &[u8],
+    out: &mut [u8],
+) -> u64
+    ensures { λ r. ⌜ onArea r (now (out .exit)) ≡ areaAs convertWord (compacted (settingsOf port inner nickname compact confidence seconds) (now (frame .entry)) (now (out .entry))) ⌝ }
+{
+    let s = settings(port, inner, nickname, compact, confidence, seconds);
+    convert_word(compacting::compact(s, frame, out))
+}
+
+#[no_mangle]
+pub extern "C" fn shinglebar_expand(
+    port: u64,
+    inner: u64,
+    nickname: u32,
+    compact: u32,
+    confidence: u32,
+    seconds: u32,
+    source: u64,
+    tagged: u32,
+    tag: u32,
+    frame: &[u8],
+    out: &mut [u8],
+) -> u64
+    ensures { λ r. ⌜ onArea r (now (out .exit)) ≡ areaAs convertWord (expanded (settingsOf port inner nickname compact confidence seconds) (outerOf source tagged tag) (now (frame .entry)) (now (out .entry))) ⌝ }
+{
+    let s = settings(port, inner, nickname, compact, confidence, seconds);
+    let u = Outer {
+        source: source,
+        tagged: tagged,
+        tag: tag,
+    };
+    convert_word(expanding::expand(s, u, frame, out))
+}
+
+fn send_word(a: SendAnswer) -> u64
+    ensures { λ r. ⌜ r ≡ sendWord a ⌝ }
+{
+    match a {
+        SendAnswer::Refused(n) => n as u64,
+        SendAnswer::Compacted(k) => 64 + k as u64 * 0x100,
+        SendAnswer::Itself => 65,
+    }
+}
+
+#[no_mangle]
+pub extern "C" fn shinglebar_send(
+    port: u64,
+    inner: u64,
+    nickname: u32,
+    compact: u32,
+    confidence: u32,
+    seconds: u32,
+    frame: &[u8],
+    work: &mut [u8],
+) -> u64
+    ensures { λ r. ⌜ onArea r (now (work .exit)) ≡ areaAs sendWord (sent (settingsOf port inner nickname compact confidence seconds) (now (frame .entry)) (now (work .entry))) ⌝ }
+{
+    let s = settings(port, inner, nickname, compact, confidence, seconds);
+    send_word(sending::send(s, frame, work))
 }

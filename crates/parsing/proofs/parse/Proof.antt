@@ -6,10 +6,10 @@ use Rattle.parsing.proofs.parse.Statement.{statement}
 use Rattle.parsing.proofs.parse.Tie as tie
 
 returns : tie.Need-returns
-returns c = search too-short
+returns c = (search too-short, tt)
 
 returns-2 : tie.Need-returns-2
-returns-2 c = search too-long
+returns-2 c = (search too-long, tt)
 
 be6-requires : tie.Need-be6-requires
 be6-requires c κs = search needs
@@ -39,19 +39,19 @@ read-compact-requires : tie.Need-read-compact-requires
 read-compact-requires c κs = search needs
 
 returns-3 : tie.Need-returns-3
-returns-3 c = search compact-on
+returns-3 c = (search compact-on, search needs)
 
 returns-4 : tie.Need-returns-4
-returns-4 c = search to-port
+returns-4 c = (search to-port, search needs)
 
 returns-5 : tie.Need-returns-5
-returns-5 c = search to-all
+returns-5 c = (search to-all, search needs)
 
 returns-6 : tie.Need-returns-6
-returns-6 c = search not-here
+returns-6 c = (search not-here, tt)
 
 returns-7 : tie.Need-returns-7
-returns-7 c = search compact-off
+returns-7 c = (search compact-off, tt)
 
 pub parse-spec : {M : Type 1} → statement M
 parse-spec =

@@ -33,14 +33,14 @@ enum-known-p c = search needs
 
 act-requires : tie.Need-act-requires
 act-requires c κs = let a = c .before .before .before .before .before .before .before .before .before .before .before .before .before .before .args in
-    read-is (a .s) (a .f .now) (a .table .now) (a .out .now) _ (c .before .before .before .before .before .before .before .before .before .before .settings-good .ensures) (c .before .before .before .before .before .before .before .before .before .if1 .left) _ (c .before .before .before .before .before .before .before .table-good .ensures) (c .before .before .before .before .before .before .if2 .left) _ (c .before .before .before .before .before .parse .ensures) _ (c .before .before .before .p .given .1)
+    read-is (a .s) (a .f .now) (a .table .now) (a .out .now) _ (c .before .before .before .before .before .before .before .before .before .before .settings-good .ensures) (c .before .before .before .before .before .before .before .before .before .if1 .left) _ (c .before .before .before .before .before .before .before .table-good .ensures) (c .before .before .before .before .before .before .if2 .left) _ (c .before .before .before .before .before .parse .ensures .0) _ (c .before .before .before .p .given .1)
 
 same-length-2 : tie.Need-same-length-2
 same-length-2 c = search needs
 
 returns-3 : tie.Need-returns-3
 returns-3 c = let a = c .before .before .before .before .before .before .before .before .before .before .before .before .args in
-    parse-out (a .s) (a .f .now) (a .table .now) (a .out .now) _ (c .before .before .before .before .before .before .before .before .settings-good .ensures) (c .before .before .before .before .before .before .before .if1 .left) _ (c .before .before .before .before .before .table-good .ensures) (c .before .before .before .before .if2 .left) _ (c .before .before .before .parse .ensures) _ (c .before .n .given .1)
+    parse-out (a .s) (a .f .now) (a .table .now) (a .out .now) _ (c .before .before .before .before .before .before .before .before .settings-good .ensures) (c .before .before .before .before .before .before .before .if1 .left) _ (c .before .before .before .before .before .table-good .ensures) (c .before .before .before .before .if2 .left) _ (c .before .before .before .parse .ensures .0) _ (c .before .n .given .1)
 
 same-length-3 : tie.Need-same-length-3
 same-length-3 c = search needs
@@ -50,7 +50,7 @@ same-length-4 c = search needs
 
 returns-4 : tie.Need-returns-4
 returns-4 c = let a = c .before .before .before .before .before .before .before .before .before .before .before .before .before .before .before .before .before .before .before .args in
-    acted-out (a .s) (a .f .now) (a .table .now) (a .out .now) _ (c .before .before .before .before .before .before .before .before .before .before .before .before .before .before .before .settings-good .ensures) (c .before .before .before .before .before .before .before .before .before .before .before .before .before .before .if1 .left) _ (c .before .before .before .before .before .before .before .before .before .before .before .before .table-good .ensures) (c .before .before .before .before .before .before .before .before .before .before .before .if2 .left) _ (c .before .before .before .before .before .before .before .before .before .before .parse .ensures) _ (c .before .before .before .before .before .before .before .before .p .given .1) _ (c .before .before .before .before .act .ensures)
+    acted-out (a .s) (a .f .now) (a .table .now) (a .out .now) _ (c .before .before .before .before .before .before .before .before .before .before .before .before .before .before .before .settings-good .ensures) (c .before .before .before .before .before .before .before .before .before .before .before .before .before .before .if1 .left) _ (c .before .before .before .before .before .before .before .before .before .before .before .before .table-good .ensures) (c .before .before .before .before .before .before .before .before .before .before .before .if2 .left) _ (c .before .before .before .before .before .before .before .before .before .before .parse .ensures .0) _ (c .before .before .before .before .before .before .before .before .p .given .1) _ (c .before .before .before .before .act .ensures)
 
 pub receive-spec : {M : Type 1} → statement M
 receive-spec =

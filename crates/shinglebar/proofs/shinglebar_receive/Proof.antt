@@ -2,12 +2,17 @@
 -- Assumes nothing.
 use Rattle.receive.proofs.Outcomes.{read-fits}
 use Rattle.receive.specs.declared.ReadAnswer.{ReadAnswer}
+use Rattle.frame.specs.declared.Settings.{Settings}
+use Rattle.receive.specs.Receive.{received}
 use Rattle.receive.specs.Words.{readWord, LabelFits}
 use Rattle.numbers.specs.After.{OnBoth, bothAs}
-use mathlib.Core.Path.{sym, ap, subst}
+use mathlib.Core.Path.{sym, ap, subst, _∙_}
 use borrow.Author.Needs.{needs}
 use Rattle.shinglebar.proofs.shinglebar_receive.Statement.{statement}
 use Rattle.shinglebar.proofs.shinglebar_receive.Tie as tie
+
+settings-requires : tie.Need-settings-requires
+settings-requires c κs = search needs
 
 receive-requires : tie.Need-receive-requires
 receive-requires c κs = search needs
@@ -23,8 +28,13 @@ same-length-2 : tie.Need-same-length-2
 same-length-2 c = search needs
 
 returns : tie.Need-returns
-returns c = rw (c .read-word .ensures) (ap (bothAs readWord) (c .before .before .before .before .before .receive .ensures))
+returns c =
+    let a = c .before .before .before .before .before .before .before .before .before .before .before .before .args in
+    rw (c .read-word .ensures)
+    (ap (bothAs readWord) (c .before .before .before .before .before .receive .ensures)
+    ∙ ap (λ (s : Settings). bothAs readWord (received s (a .frame .now) (a .table .now) (a .out .now))) (c .before .before .before .before .before .before .before .before .settings .ensures))
 
 pub shinglebar-receive-spec : {M : Type 1} → statement M
 shinglebar-receive-spec =
-    tie.close (tie.spec receive-requires read-word-requires same-length same-length-2 returns)
+    tie.close
+    (tie.spec settings-requires receive-requires read-word-requires same-length same-length-2 returns)

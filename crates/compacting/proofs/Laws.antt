@@ -1,0 +1,133 @@
+-- Each outcome of compaction, from facts as the code finds them; the pieces that it writes are the Compact frame.
+-- Assumes nothing.
+use Prim.Native.Nat.{ℕ, _+_, _-_, _≤_, _<_}
+use mathlib.Core.Bool.{Bool, true, false, not}
+use mathlib.Core.List.{List, _++_, append-assoc}
+use mathlib.Core.Path.{_≡_, sym, ap, _∙_}
+use native.Mathlib.Omega.{arith}
+use lib.ListN.{length, take, drop, length-append, length-drop}
+use borrow.Author.Tests.{not-true, not-false}
+use Rattle.numbers.specs.Result.{refused, got, check, andThen, settled}
+use Rattle.numbers.specs.After.{onArea}
+use Rattle.numbers.specs.Bytes.{num, laid}
+use Rattle.numbers.proofs.Truth.{between-below, between-above, between-is}
+use Rattle.numbers.proofs.Answers.{check-got}
+use Rattle.frame.specs.Settings.{settingsGood}
+use Rattle.frame.specs.Fields.{Fields}
+use Rattle.frame.specs.Labels.{trillType}
+use Rattle.frame.specs.Formats.{longestFrame, sizeGood, general}
+use Rattle.frame.specs.declared.Settings.{Settings}
+use Rattle.fields.specs.Meaning.{frontAs, frontAt}
+use Rattle.fields.specs.declared.Front.{Front}
+use Rattle.fields.specs.declared.Front.the-variants as front
+use Rattle.parsing.specs.Meaning.{Within, fieldsIn, parsedAs}
+use Rattle.parsing.specs.declared.Parts.{Parts}
+use Rattle.parsing.specs.declared.Parsed.{Parsed}
+use Rattle.parsing.specs.declared.Parsed.the-variants as parsed
+use Rattle.parsing.proofs.Outcomes.{front-at, size-in}
+use Rattle.parsing.proofs.Places.{inner-piece, inner-long, header-long}
+use Rattle.copying.specs.Areas.{pasted}
+use Rattle.copying.proofs.Copying.{paste-behind, paste-laid}
+use Rattle.convert.specs.Compaction.{compactBytes, staysGeneral, generalOnly, generalFields, compacting, written, compacted}
+use Rattle.convert.specs.declared.ConvertAnswer.{ConvertAnswer}
+use Rattle.convert.specs.declared.ConvertAnswer.the-variants.{Refused}
+use Rattle.compacting.specs.Meaning.{compactLength, putOn}
+
+-- ---- the parts of a General frame
+
+module _ (s : Settings) (f : List ℕ) (g : Bool) (eg : g ≡ settingsGood s) where
+  pub bad-settings : not g ≡ true → refused 1 ≡ generalFields s f
+  unfolding generalFields check
+  bad-settings h = rw (← eg, not-true g h)
+
+  module _ (ok : not g ≡ false) where
+    pub too-short : length f < 14 → refused 3 ≡ generalFields s f
+    unfolding generalFields sizeGood check
+    too-short p = rw (← eg, not-false g ok, between-below 14 9216 (length f) p)
+
+    module _ (lo : 14 ≤ length f) where
+      pub too-long : 9216 < length f → refused 3 ≡ generalFields s f
+      unfolding generalFields sizeGood check
+      too-long p = rw (← eg, not-false g ok, between-above 14 9216 (length f) p)
+
+      module _ (hi : length f ≤ 9216) (a : ℕ) (ea : a ≡ num (take 6 f)) (r : Front) (er : frontAs r ≡ frontAt (s .port) a) where
+        pub not-here : r ≡ front.Refused → refused 5 ≡ generalFields s f
+        unfolding generalFields generalOnly check
+        not-here p = rw (← eg, not-false g ok, size-in (length f) lo hi, ← ea, ← front-at s a, ← er, p)
+
+        pub compact-front : r ≡ front.Inner → refused 17 ≡ generalFields s f
+        unfolding generalFields generalOnly check
+        compact-front p = rw (← eg, not-false g ok, size-in (length f) lo hi, ← ea, ← front-at s a, ← er, p)
+
+        pub to-port : (x : Parsed) → r ≡ front.Unicast → parsedAs f x ≡ general (frontAs r) f → parsedAs f x ≡ generalFields s f
+        unfolding generalFields generalOnly check
+        to-port x p e = rw (← eg, not-false g ok, size-in (length f) lo hi, ← ea, ← front-at s a, ← er, p) (rw p at e)
+
+        pub to-all : (x : Parsed) → r ≡ front.Multicast → parsedAs f x ≡ general (frontAs r) f → parsedAs f x ≡ generalFields s f
+        unfolding generalFields generalOnly check
+        to-all x p e = rw (← eg, not-false g ok, size-in (length f) lo hi, ← ea, ← front-at s a, ← er, p) (rw p at e)
+
+-- ---- what is written
+
+module _ (f : List ℕ) (p : Parts) where
+  -- the frame as it is written, piece by piece
+  pieces : List ℕ
+  pieces = ((take (12 + p .label) (drop (p .dst) f) ++ trillType) ++ take (p .size) (drop (p .header) f)) ++ drop (p .content) f
+
+  pieces-are : pieces ≡ compactBytes (fieldsIn f p)
+  unfolding pieces compactBytes
+  pieces-are = rw (inner-piece f p) (simp append-assoc)
+
+  module _ (w : Within (length f) p) where
+    pub compact-long : length (compactBytes (fieldsIn f p)) ≡ compactLength (length f) p
+    unfolding pieces
+    compact-long =
+        rw (← pieces-are)
+        (simp (length-append, inner-long f p w, header-long f p w, length-drop (p .content) f) (omega arith))
+
+    pub wrote-compact : (out p₁ p₂ p₃ o₁ o₂ o₃ o₄ : List ℕ)
+        → p₁ ≡ take (12 + p .label) (drop (p .dst) f)
+        → o₁ ≡ pasted out 0 p₁
+        → o₂ ≡ pasted o₁ (12 + p .label) trillType
+        → p₂ ≡ take (p .size) (drop (p .header) f)
+        → o₃ ≡ pasted o₂ (12 + p .label + 2) p₂
+        → p₃ ≡ drop (p .content) f
+        → o₄ ≡ pasted o₃ (12 + p .label + 2 + p .size) p₃
+        → o₄ ≡ laid (compactBytes (fieldsIn f p)) out
+    unfolding pieces
+    wrote-compact out p₁ p₂ p₃ o₁ o₂ o₃ o₄ e₁ w₁ w₂ e₂ w₃ e₃ w₄ =
+        let n : ℕ = 12 + p .label in
+        let x₁ : List ℕ = take n (drop (p .dst) f) in
+        let x₂ : List ℕ = x₁ ++ trillType in
+        let h : List ℕ = take (p .size) (drop (p .header) f) in
+        let x₃ : List ℕ = x₂ ++ h in
+        let l₁ : length x₁ ≡ n = inner-long f p w in
+        let l₂ : length x₂ ≡ n + 2 = rw (length-append, l₁) (omega arith) in
+        let l₃ : length x₃ ≡ n + 2 + p .size = rw (length-append, l₂, header-long f p w) (omega arith) in
+        simp (w₄, w₃, w₂, w₁, e₁, e₂, e₃, paste-behind out x₁ trillType n l₁, paste-behind out x₂ h (n + 2) l₂, paste-behind out x₃ (drop (p .content) f) (n + 2 + p .size) l₃)
+        (paste-laid out pieces ∙ ap (λ (b : List ℕ). laid b out) pieces-are)
+
+-- ---- the call
+
+module _ (s : Settings) (f area : List ℕ) (x : Parsed) (ex : parsedAs f x ≡ generalFields s f) where
+  pub call-refused : (n : ℕ) → x ≡ parsed.Refused n → onArea (Refused n) area ≡ compacted s f area
+  unfolding compacted compacting settled andThen
+  call-refused n e = rw (← ex, e)
+
+  module _ (p : Parts) (e : x ≡ parsed.Fields p) where
+    fields-got : generalFields s f ≡ got (fieldsIn f p)
+    fields-got = sym ex ∙ ap (parsedAs f) e
+
+    -- an accepted frame is not too long
+    pub fields-short : length f ≤ longestFrame
+    unfolding generalFields sizeGood
+    fields-short = between-is 14 longestFrame (length f) (check-got _ _ _ _ (check-got _ _ _ _ fields-got .1) .0) .1
+
+    module _ (a : ℕ) (ea : a ≡ num (take 6 (drop (p .dst) f))) (b : Bool) (eb : b ≡ staysGeneral s a) where
+      pub call-stays : b ≡ true → onArea (Refused 17) area ≡ compacted s f area
+      unfolding compacted compacting settled andThen check
+      call-stays h = rw (fields-got, ← ea, ← eb, h)
+
+      pub call-put : b ≡ false → (r : ConvertAnswer) (o : List ℕ) → onArea r o ≡ putOn (compactBytes (fieldsIn f p)) area → onArea r o ≡ compacted s f area
+      unfolding compacted compacting settled andThen check putOn
+      call-put h r o q = q ∙ rw (fields-got, ← ea, ← eb, h)

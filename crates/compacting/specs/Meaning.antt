@@ -1,0 +1,18 @@
+-- What the code's own steps mean, in the terms of convert/specs.
+-- Assumes nothing.
+use Prim.Native.Nat.{ℕ, _+_, _-_}
+use mathlib.Core.List.{List}
+use Rattle.numbers.specs.Result.{settled}
+use Rattle.numbers.specs.After.{OnArea, onArea}
+use Rattle.parsing.specs.declared.Parts.{Parts}
+use Rattle.convert.specs.Compaction.{written}
+use Rattle.convert.specs.declared.ConvertAnswer.{ConvertAnswer}
+use Rattle.convert.specs.declared.ConvertAnswer.the-variants.{Refused, Written}
+
+-- the length of the Compact frame of a frame of n bytes with these parts
+abbrev pub compactLength : ℕ → Parts → ℕ
+compactLength n p = 14 + p .label + p .size + (n - p .content)
+
+-- an area with a frame written at its start, or 16
+unfoldable pub putOn : List ℕ → List ℕ → OnArea ConvertAnswer
+putOn b area = settled (λ n. onArea (Refused n) area) (written Written b area)

@@ -1,0 +1,91 @@
+// Compaction: a General frame as a Compact one.
+ghost use Prim.Native.Nat.{_+_, _-_, _≤_};
+ghost use mathlib.Core.Path.{_≡_};
+ghost use lib.ListN.{length};
+ghost use Rattle.numbers.specs.After.{onArea};
+ghost use Rattle.numbers.specs.Bytes.{laid};
+ghost use Rattle.frame.specs.Formats.{longestFrame};
+ghost use Rattle.parsing.specs.Meaning.{Within, fieldsIn, parsedAs, parsedWithin};
+ghost use Rattle.convert.specs.Compaction.{compactBytes, staysGeneral, generalFields, compacted};
+ghost use Rattle.compacting.specs.Meaning.{compactLength, putOn};
+use convert::ConvertAnswer;
+use fields::Front;
+use frame::Settings;
+use numbers::refusals::AREA_SHORT;
+use numbers::refusals::FRAME_LENGTH_BAD;
+use numbers::refusals::NOT_COMPACTABLE;
+use numbers::refusals::NOT_FOR_PORT;
+use numbers::refusals::SETTINGS_BAD;
+use parsing::Parsed;
+use parsing::Parts;
+
+// The parts of a General frame; a Compact frame in front is 17.
+pub fn general_fields(s: Settings, f: &[u8]) -> Parsed
+    ensures { λ r. ⌜ (parsedAs (now (f .entry)) r ≡ generalFields s (now (f .entry))) × parsedWithin (length (now (f .entry))) r ⌝ }
+{
+    if !fields::settings_good(s) {
+        return Parsed::Refused(SETTINGS_BAD);
+    }
+    let n = f.len();
+    if n < 14 {
+        return Parsed::Refused(FRAME_LENGTH_BAD);
+    }
+    if 9216 < n {
+        return Parsed::Refused(FRAME_LENGTH_BAD);
+    }
+    let d = fields::front_of(s.port, numbers::be6(f, 0));
+    match d {
+        Front::Unicast => parsing::read_general(d, f),
+        Front::Multicast => parsing::read_general(d, f),
+        Front::Refused => Parsed::Refused(NOT_FOR_PORT),
+        Front::Inner => Parsed::Refused(NOT_COMPACTABLE),
+    }
+}
+
+// Whether an inner destination would not mean Compact in front: :40 to :4F, or the far port's address.
+pub fn stays_general(s: Settings, a: u64) -> bool
+    ensures { λ r. ⌜ r ≡ staysGeneral s a ⌝ }
+{
+    fields::is_trill_group(a) | (a == s.port)
+}
+
+// Writes the Compact frame: inner addresses and label, 22F3, header, content.
+fn write_compact(f: &[u8], p: Parts, out: &mut [u8])
+    requires { ⌜ Within (length (now f)) p × (compactLength (length (now f)) p ≤ length (now out)) ⌝ }
+    ensures { λ _. ⌜ now (out .exit) ≡ laid (compactBytes (fieldsIn (now (f .entry)) p)) (now (out .entry)) ⌝ }
+{
+    let n = 12 + p.label;
+    let k = p.size;
+    copying::copy_at(copying::part(f, p.dst, n), out, 0);
+    copying::copy_at(b"\x22\xF3", out, n);
+    copying::copy_at(copying::part(f, p.header, k), out, n + 2);
+    copying::copy_at(fields::rest(f, p.content), out, n + 2 + k);
+}
+
+// Writes the Compact frame where there is room for it.
+pub fn put_compact(f: &[u8], p: Parts, out: &mut [u8]) -> ConvertAnswer
+    requires { ⌜ Within (length (now f)) p × (length (now f) ≤ longestFrame) ⌝ }
+    ensures { λ r. ⌜ onArea r (now (out .exit)) ≡ putOn (compactBytes (fieldsIn (now (f .entry)) p)) (now (out .entry)) ⌝ }
+{
+    let n = 14 + p.label + p.size + (f.len() - p.content);
+    if out.len() < n {
+        return ConvertAnswer::Refused(AREA_SHORT);
+    }
+    write_compact(f, p, out);
+    ConvertAnswer::Written(n as u16)
+}
+
+// The compaction call, with the far port's settings.
+pub fn compact(s: Settings, frame: &[u8], out: &mut [u8]) -> ConvertAnswer
+    ensures { λ r. ⌜ onArea r (now (out .exit)) ≡ compacted s (now (frame .entry)) (now (out .entry)) ⌝ }
+{
+    match general_fields(s, frame) {
+        Parsed::Refused(n) => ConvertAnswer::Refused(n),
+        Parsed::Fields(p) => {
+            if stays_general(s, numbers::be6(frame, p.dst)) {
+                return ConvertAnswer::Refused(NOT_COMPACTABLE);
+            }
+            put_compact(frame, p, out)
+        }
+    }
+}

@@ -1,0 +1,28 @@
+-- `expanding::write_outer` meets its contract: the pieces, one behind the other.
+-- Assumes nothing.
+use Rattle.expanding.specs.Meaning.{outerAs}
+use Rattle.expanding.proofs.Pieces.{outer-room, outer-written}
+use native.Mathlib.Omega.{arith}
+use borrow.Author.Needs.{needs}
+use Rattle.expanding.proofs.write_outer.Statement.{statement}
+use Rattle.expanding.proofs.write_outer.Tie as tie
+
+put-number-requires : tie.Need-put-number-requires
+put-number-requires c κs = omega (arith, outer-room (outerAs (c .before .before .args .u)) _ (c .before .before .pre))
+
+put-number-requires-2 : tie.Need-put-number-requires-2
+put-number-requires-2 c κs = omega (arith, outer-room (outerAs (c .before .before .before .before .before .before .args .u)) _ (c .before .before .before .before .before .before .pre))
+
+write-tag-requires : tie.Need-write-tag-requires
+write-tag-requires c κs = search needs
+
+same-length : tie.Need-same-length
+same-length c = search needs
+
+returns : tie.Need-returns
+returns c = search outer-written
+
+pub write-outer-spec : {M : Type 1} → statement M
+write-outer-spec =
+    tie.close
+    (tie.spec put-number-requires put-number-requires-2 write-tag-requires same-length returns)

@@ -1,0 +1,11 @@
+-- `sending::claims` meets its contract: what the choosing function shows.
+-- Assumes nothing.
+use Rattle.sending.proofs.Shown.{chosen-sent}
+use Rattle.sending.proofs.claims.Statement.{statement}
+use Rattle.sending.proofs.claims.Tie as tie
+
+returns : tie.Need-returns
+returns c = chosen-sent
+
+pub claims-spec : {M : Type 1} → statement M
+claims-spec = tie.close (tie.spec returns)

@@ -1,0 +1,16 @@
+-- `sending::may_compact` meets its contract: the tests are the definition's.
+-- Assumes nothing.
+use Rattle.numbers.specs.Tests.{both}
+use borrow.Author.Needs.{needs}
+use Rattle.sending.proofs.may_compact.Statement.{statement}
+use Rattle.sending.proofs.may_compact.Tie as tie
+
+stays-general-requires : tie.Need-stays-general-requires
+stays-general-requires c κs = search needs
+
+returns : tie.Need-returns
+unfolding both
+returns c = cc
+
+pub may-compact-spec : {M : Type 1} → statement M
+may-compact-spec = tie.close (tie.spec stays-general-requires returns)

@@ -1,0 +1,34 @@
+-- `shinglebar::shinglebar_compact` meets its contract: the word of the answer, and the area that the call left.
+-- Assumes nothing.
+use mathlib.Core.Path.{ap, _∙_}
+use Rattle.numbers.specs.After.{areaAs}
+use Rattle.frame.specs.declared.Settings.{Settings}
+use Rattle.convert.specs.Compaction.{compacted}
+use Rattle.convert.specs.Words.{convertWord}
+use borrow.Author.Needs.{needs}
+use Rattle.shinglebar.proofs.shinglebar_compact.Statement.{statement}
+use Rattle.shinglebar.proofs.shinglebar_compact.Tie as tie
+
+settings-requires : tie.Need-settings-requires
+settings-requires c κs = search needs
+
+compact-requires : tie.Need-compact-requires
+compact-requires c κs = search needs
+
+convert-word-requires : tie.Need-convert-word-requires
+convert-word-requires c κs = search needs
+
+same-length : tie.Need-same-length
+same-length c = search needs
+
+returns : tie.Need-returns
+returns c =
+    let a = c .before .before .before .before .before .before .before .before .args in
+    rw (c .convert-word .ensures)
+    (ap (areaAs convertWord) (c .before .before .before .compact .ensures)
+    ∙ ap (λ (s : Settings). areaAs convertWord (compacted s (a .frame .now) (a .out .now))) (c .before .before .before .before .before .settings .ensures))
+
+pub shinglebar-compact-spec : {M : Type 1} → statement M
+shinglebar-compact-spec =
+    tie.close
+    (tie.spec settings-requires compact-requires convert-word-requires same-length returns)

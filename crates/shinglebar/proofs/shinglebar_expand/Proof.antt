@@ -1,0 +1,35 @@
+-- `shinglebar::shinglebar_expand` meets its contract: the word of the answer, and the area that the call left.
+-- Assumes nothing.
+use mathlib.Core.Path.{ap, _∙_}
+use Rattle.numbers.specs.After.{areaAs}
+use Rattle.frame.specs.declared.Settings.{Settings}
+use Rattle.convert.specs.Expansion.{expanded}
+use Rattle.convert.specs.Words.{convertWord}
+use Rattle.shinglebar.specs.Arguments.{outerOf}
+use borrow.Author.Needs.{needs}
+use Rattle.shinglebar.proofs.shinglebar_expand.Statement.{statement}
+use Rattle.shinglebar.proofs.shinglebar_expand.Tie as tie
+
+settings-requires : tie.Need-settings-requires
+settings-requires c κs = search needs
+
+expand-requires : tie.Need-expand-requires
+expand-requires c κs = search needs
+
+convert-word-requires : tie.Need-convert-word-requires
+convert-word-requires c κs = search needs
+
+same-length : tie.Need-same-length
+same-length c = search needs
+
+returns : tie.Need-returns
+returns c =
+    let a = c .before .before .before .before .before .before .before .before .args in
+    rw (c .convert-word .ensures)
+    (ap (areaAs convertWord) (c .before .before .before .expand .ensures)
+    ∙ ap (λ (s : Settings). areaAs convertWord (expanded s (outerOf (a .source) (a .tagged) (a .tag)) (a .frame .now) (a .out .now))) (c .before .before .before .before .before .settings .ensures))
+
+pub shinglebar-expand-spec : {M : Type 1} → statement M
+shinglebar-expand-spec =
+    tie.close
+    (tie.spec settings-requires expand-requires convert-word-requires same-length returns)

@@ -1,0 +1,206 @@
+//! Whole call lists, once as they are and once with frames compacted, through the C boundary.
+
+use shinglebar_tests::boundary;
+use shinglebar_tests::compare::hex;
+use shinglebar_tests::generate::{self, Pool};
+use shinglebar_tests::random::Random;
+use shinglebar_tests::reference::{self, Settings};
+use shinglebar_tests::run::{self, Tally};
+
+/// A call of the list of demand 3.
+enum Call {
+    Receive { frame: Vec<u8>, out: Vec<u8> },
+    Age { seconds: u16 },
+    Lookup { kind: u32, label: u32, mac: u64 },
+    Spoilt,
+}
+
+fn call(random: &mut Random, pool: &Pool, settings: &Settings, table: &[u8]) -> Call {
+    match random.below(10) {
+        0 => Call::Age {
+            seconds: generate::seconds(random, table),
+        },
+        1..=2 => {
+            let (kind, label, mac) = generate::key(random, pool, table);
+            Call::Lookup { kind, label, mac }
+        }
+        3 => Call::Spoilt,
+        _ => {
+            let mut frame = generate::frame(random, pool, settings);
+            if !random.one_in(6) {
+                frame.compact = false;
+            }
+            // A channel frame to :42 is not compacted, one to the own inner address is.
+            if frame.content.starts_with(&[0x89, 0x46]) && !random.one_in(4) {
+                frame.inner_destination = settings.inner & ((1 << 48) - 1);
+            }
+            let out_length = generate::area_length(random, 12 + frame.content.len());
+            let frame = generate::damage(random, frame.bytes());
+            Call::Receive {
+                frame,
+                out: random.bytes(out_length),
+            }
+        }
+    }
+}
+
+/// What a call of the list gives: the word and the output area.
+fn make(
+    random: &mut Random,
+    settings: &Settings,
+    call: &Call,
+    frame: &[u8],
+    table: &mut [u8],
+) -> (u64, Vec<u8>) {
+    match call {
+        Call::Receive { out, .. } => {
+            let mut out = out.clone();
+            let word = boundary::receive(random, settings, frame, table, &mut out);
+            (word, out)
+        }
+        Call::Age { seconds } => (boundary::age(random, *seconds, table), Vec::new()),
+        Call::Lookup { kind, label, mac } => (
+            boundary::lookup(random, *kind, *label, *mac, table),
+            Vec::new(),
+        ),
+        Call::Spoilt => (boundary::spoilt(random, table), Vec::new()),
+    }
+}
+
+/// The same of the second implementation.
+fn make_by_paper(
+    settings: &Settings,
+    call: &Call,
+    frame: &[u8],
+    table: &mut [u8],
+) -> (u64, Vec<u8>) {
+    match call {
+        Call::Receive { out, .. } => {
+            let mut out = out.clone();
+            let word = reference::receive(settings, frame, table, &mut out);
+            (word, out)
+        }
+        Call::Age { seconds } => (reference::age(*seconds, table), Vec::new()),
+        Call::Lookup { kind, label, mac } => {
+            (reference::lookup(*kind, *label, *mac, table), Vec::new())
+        }
+        Call::Spoilt => (reference::spoilt(table), Vec::new()),
+    }
+}
+
+fn count_replaced(tally: &mut Tally, word: u64) {
+    tally.situation(match word & 0xFF {
+        2 => "compacted: refusal 2",
+        8 => "compacted: refusal 8",
+        9 => "compacted: refusal 9",
+        11 => "compacted: refusal 11",
+        6 => "compacted: refusal 6 behind 8946",
+        14 => "compacted: refusal 14",
+        15 => "compacted: refusal 15",
+        16 => "compacted: refusal 16",
+        64 => "compacted: onward",
+        65 => match word >> 24 & 3 {
+            0 => "compacted: delivered, learned",
+            1 => "compacted: delivered, refreshed",
+            2 => "compacted: delivered, kept",
+            _ => "compacted: delivered, full",
+        },
+        66 => "compacted: other channel",
+        67 if word >> 8 == 0 => "compacted: flushed none",
+        67 => "compacted: flushed some",
+        other => panic!("{other} for a compacted frame"),
+    });
+}
+
+#[test]
+fn call_lists_give_the_same_with_frames_compacted() {
+    run::cases(
+        "call_lists_give_the_same_with_frames_compacted",
+        8,
+        &[],
+        &[
+            "compacted: refusal 2",
+            "compacted: refusal 6 behind 8946",
+            "compacted: refusal 8",
+            "compacted: refusal 9",
+            "compacted: refusal 11",
+            "compacted: refusal 14",
+            "compacted: refusal 15",
+            "compacted: refusal 16",
+            "compacted: onward",
+            "compacted: delivered, learned",
+            "compacted: delivered, refreshed",
+            "compacted: delivered, kept",
+            "compacted: delivered, full",
+            "compacted: other channel",
+            "compacted: flushed none",
+            "compacted: flushed some",
+            "accepted but left as it is",
+            "refused by compaction",
+            "receive",
+            "age",
+            "lookup",
+            "spoilt",
+        ],
+        |random, tally| {
+            let pool = Pool::new(random);
+            let mut settings = generate::settings(random, &pool);
+            settings.compact = 1;
+            let start = generate::table(random, &pool);
+            let (mut plain, mut mixed, mut paper) = (start.clone(), start.clone(), start.clone());
+            for step in 0..random.length(1, 16) {
+                let call = call(random, &pool, &settings, &start);
+                let mut given: &[u8] = &[];
+                let mut compacted = None;
+                match &call {
+                    Call::Receive { frame, .. } => {
+                        given = frame;
+                        tally.situation("receive");
+                        let mut work = random.bytes(9204);
+                        let word = boundary::compact(random, &settings, frame, &mut work);
+                        if word & 0xFF != 64 {
+                            tally.situation("refused by compaction");
+                        } else if random.one_in(4) {
+                            tally.situation("accepted but left as it is");
+                        } else {
+                            work.truncate((word >> 8) as usize);
+                            compacted = Some(work);
+                        }
+                    }
+                    Call::Age { .. } => tally.situation("age"),
+                    Call::Lookup { .. } => tally.situation("lookup"),
+                    Call::Spoilt => tally.situation("spoilt"),
+                }
+                let replaced = compacted.as_deref().unwrap_or(given);
+                let first = make(random, &settings, &call, given, &mut plain);
+                let second = make(random, &settings, &call, replaced, &mut mixed);
+                let third = make_by_paper(&settings, &call, given, &mut paper);
+                let context = || {
+                    format!(
+                        "call {step}\n{settings:#x?}\nframe {}\ncompacted {}\ntable at the start {}",
+                        hex(given),
+                        compacted.as_deref().map_or("no".to_string(), hex),
+                        hex(&start)
+                    )
+                };
+                assert!(
+                    first == second && plain == mixed,
+                    "the two runs differ: words {:#x} and {:#x}, {}",
+                    first.0,
+                    second.0,
+                    context()
+                );
+                assert!(
+                    first == third && plain == paper,
+                    "the paper differs: words {:#x} and {:#x}, {}",
+                    first.0,
+                    third.0,
+                    context()
+                );
+                if compacted.is_some() {
+                    count_replaced(tally, first.0);
+                }
+            }
+        },
+    );
+}
