@@ -6,6 +6,7 @@ use std::collections::BTreeMap;
 use crate::generate::{self, Pool};
 use crate::random::Random;
 use crate::reference::{self, Settings, RECORD};
+use crate::run::{self, Answers};
 
 /// What each of the program's areas holds at most.
 const ROOM: usize = 1024;
@@ -36,21 +37,36 @@ enum Call {
         mac: u64,
     },
     Spoilt,
+    Compact {
+        settings: Settings,
+        room: usize,
+        frame: Vec<u8>,
+    },
+    Expand {
+        settings: Settings,
+        source: u64,
+        tagged: u32,
+        tag: u32,
+        room: usize,
+        frame: Vec<u8>,
+    },
+    Send {
+        settings: Settings,
+        room: usize,
+        frame: Vec<u8>,
+    },
 }
 
-/// The calls' numbers, and the low bytes of the words that each must give in some vector: its
-/// refusals and the kinds of its answers.
-pub const ANSWERS: &[(u8, &[u8])] = &[
-    (
-        1,
-        &[
-            1, 2, 3, 4, 5, 6, 7, 8, 9, 10, 11, 12, 13, 14, 15, 16, 64, 65, 66, 67,
-        ],
-    ),
-    (2, &[2, 15, 67]),
-    (3, &[2, 64]),
-    (4, &[2, 64, 65]),
-    (5, &[2, 64, 65]),
+/// The calls' numbers, and the answers that each must give in some vector.
+pub const ANSWERS: &[(u8, Answers)] = &[
+    (1, run::RECEIVE),
+    (2, run::FLUSH),
+    (3, run::AGE),
+    (4, run::LOOKUP),
+    (5, run::SPOILT),
+    (6, run::COMPACT),
+    (7, run::EXPAND),
+    (8, run::SEND),
 ];
 
 fn settings_bytes(settings: &Settings) -> Vec<u8> {
@@ -64,9 +80,21 @@ fn settings_bytes(settings: &Settings) -> Vec<u8> {
     bytes
 }
 
+fn length(room: usize) -> [u8; 2] {
+    (room as u16).to_be_bytes()
+}
+
+/// Settings, a frame and room for about as much.
+fn conversion(random: &mut Random, pool: &Pool) -> (Settings, Vec<u8>, usize) {
+    let settings = generate::settings(random, pool);
+    let frame = generate::frame(random, pool, &settings).bytes();
+    let room = generate::area_length(random, frame.len());
+    (settings, generate::damage(random, frame), room)
+}
+
 impl Call {
     fn random(random: &mut Random, pool: &Pool, table: &[u8]) -> Call {
-        match random.below(10) {
+        match random.below(16) {
             0..=1 => Call::Flush {
                 ingress: generate::ingress(random, pool),
                 payload: generate::payload(random, pool),
@@ -79,6 +107,34 @@ impl Call {
                 Call::Lookup { kind, label, mac }
             }
             4 => Call::Spoilt,
+            5..=6 => {
+                let (settings, frame, room) = conversion(random, pool);
+                Call::Compact {
+                    settings,
+                    room,
+                    frame,
+                }
+            }
+            7..=8 => {
+                let (settings, frame, room) = conversion(random, pool);
+                let (source, tagged, tag) = generate::outer(random, pool);
+                Call::Expand {
+                    settings,
+                    source,
+                    tagged,
+                    tag,
+                    room,
+                    frame,
+                }
+            }
+            9..=10 => {
+                let (settings, frame, room) = conversion(random, pool);
+                Call::Send {
+                    settings,
+                    room,
+                    frame,
+                }
+            }
             _ => {
                 let settings = generate::settings(random, pool);
                 let frame = generate::frame(random, pool, &settings);
@@ -99,14 +155,20 @@ impl Call {
             Call::Age { .. } => 3,
             Call::Lookup { .. } => 4,
             Call::Spoilt => 5,
+            Call::Compact { .. } => 6,
+            Call::Expand { .. } => 7,
+            Call::Send { .. } => 8,
         }
     }
 
     /// How much of the area it is lent.
     fn room(&self) -> usize {
         match self {
-            Call::Receive { room, .. } => *room,
-            _ => 0,
+            Call::Receive { room, .. }
+            | Call::Compact { room, .. }
+            | Call::Expand { room, .. }
+            | Call::Send { room, .. } => *room,
+            Call::Flush { .. } | Call::Age { .. } | Call::Lookup { .. } | Call::Spoilt => 0,
         }
     }
 
@@ -116,10 +178,33 @@ impl Call {
                 settings,
                 room,
                 frame,
-            } => {
-                let length = (*room as u16).to_be_bytes();
-                [&settings_bytes(settings)[..], &length, frame].concat()
             }
+            | Call::Compact {
+                settings,
+                room,
+                frame,
+            }
+            | Call::Send {
+                settings,
+                room,
+                frame,
+            } => [&settings_bytes(settings)[..], &length(*room), frame].concat(),
+            Call::Expand {
+                settings,
+                source,
+                tagged,
+                tag,
+                room,
+                frame,
+            } => [
+                &settings_bytes(settings)[..],
+                &source.to_be_bytes(),
+                &tagged.to_be_bytes(),
+                &tag.to_be_bytes(),
+                &length(*room),
+                frame,
+            ]
+            .concat(),
             Call::Flush { ingress, payload } => [&ingress.to_be_bytes()[..], payload].concat(),
             Call::Age { seconds } => seconds.to_be_bytes().to_vec(),
             Call::Lookup { kind, label, mac } => [
@@ -144,6 +229,35 @@ impl Call {
             Call::Age { seconds } => reference::age(*seconds, table),
             Call::Lookup { kind, label, mac } => reference::lookup(*kind, *label, *mac, table),
             Call::Spoilt => reference::spoilt(table),
+            Call::Compact {
+                settings,
+                room,
+                frame,
+            } => reference::compact(settings, frame, &mut area[..*room]),
+            Call::Expand {
+                settings,
+                source,
+                tagged,
+                tag,
+                room,
+                frame,
+            } => reference::expand(settings, *source, *tagged, *tag, frame, &mut area[..*room]),
+            Call::Send {
+                settings,
+                room,
+                frame,
+            } => reference::send(settings, frame, &mut area[..*room]),
+        }
+    }
+
+    /// What is sent after an answer of sending: document 01 lets the caller choose a part of the
+    /// working area or the frame itself; nothing after a refusal.
+    fn chosen(&self, word: u64, area: &[u8]) -> Option<Vec<u8>> {
+        match (self, word as u8) {
+            (Call::Send { .. }, 64) => Some(area[..(word >> 8) as usize].to_vec()),
+            (Call::Send { frame, .. }, 65) => Some(frame.clone()),
+            (Call::Send { .. }, _) => Some(Vec::new()),
+            _ => None,
         }
     }
 }
@@ -186,16 +300,20 @@ impl Replay {
         }
         self.input += &input_line(call.number(), &body);
         let lent = &area[..call.room()];
-        self.output += &format!("{word:016x} {} {}\n", hex(&after), hex(lent));
+        self.output += &format!("{word:016x} {} {}", hex(&after), hex(lent));
+        if let Some(sent) = call.chosen(word, lent) {
+            self.output += &format!(" {}", hex(&sent));
+        }
+        self.output += "\n";
         (self.table, self.area) = (after, area);
     }
 
     fn is_whole(&self) -> bool {
-        let kept = |number: u8, answer: &u8| self.answers.contains_key(&(number, *answer));
+        let kept = |number, answer| self.answers.contains_key(&(number, answer));
         self.vectors >= AT_LEAST
             && ANSWERS
                 .iter()
-                .all(|(number, answers)| answers.iter().all(|answer| kept(*number, answer)))
+                .all(|(number, answers)| answers.iter().all(|(answer, _)| kept(*number, *answer)))
     }
 }
 

@@ -44,7 +44,7 @@ fn every_answer_of_every_call_occurs() {
     let found: BTreeSet<(u8, u8)> = calls.into_iter().zip(answers).collect();
     let wanted: BTreeSet<(u8, u8)> = vectors::ANSWERS
         .iter()
-        .flat_map(|(call, answers)| answers.iter().map(|answer| (*call, *answer)))
+        .flat_map(|(call, answers)| answers.iter().map(|(answer, _)| (*call, *answer)))
         .collect();
     assert_eq!(found, wanted);
 }

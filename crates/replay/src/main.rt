@@ -1,5 +1,6 @@
 ghost use Prim.Native.Nat.{_≤_};
 ghost use lib.ListN.{length};
+use frame::Settings;
 // Replays calls on one table: reads them from standard input in hex, and writes each answer and the bytes it left. docs/REPLAY.md
 // describes the form.
 
@@ -90,24 +91,43 @@ fn print_bytes(b: &[u8]) {
 }
 
 // Writes a line: the answer's word, the table, and the area that was lent.
-fn print_call(word: u64, table: &[u8], out: &[u8]) {
+fn print_areas(word: u64, table: &[u8], out: &[u8]) {
     io::print_hex(1, word, 16);
     print_bytes(table);
     print_bytes(out);
+}
+
+fn print_call(word: u64, table: &[u8], out: &[u8]) {
+    print_areas(word, table, out);
     io::write_all(1, &[b'\n']);
 }
 
-// 01: settings, the output area's length, the frame.
-fn read_frame(b: &[u8], table: &mut [u8], out: &mut [u8])
-    requires { ⌜ 34 ≤ length (now b) ⌝ }
+// The six settings, at the start of a call's bytes.
+fn settings_in(b: &[u8]) -> Settings
+    requires { ⌜ 32 ≤ length (now b) ⌝ }
 {
-    let word = shinglebar::shinglebar_receive(
+    shinglebar::settings(
         numbers::be8(b, 0),
         numbers::be8(b, 8),
         numbers::be4(b, 16) as u32,
         numbers::be4(b, 20) as u32,
         numbers::be4(b, 24) as u32,
         numbers::be4(b, 28) as u32,
+    )
+}
+
+// 01: settings, the output area's length, the frame.
+fn read_frame(b: &[u8], table: &mut [u8], out: &mut [u8])
+    requires { ⌜ 34 ≤ length (now b) ⌝ }
+{
+    let s = settings_in(b);
+    let word = shinglebar::shinglebar_receive(
+        s.port,
+        s.inner,
+        s.nickname,
+        s.compact,
+        s.confidence,
+        s.seconds,
         &b[34..],
         table,
         out,
@@ -169,6 +189,93 @@ fn replay_spoilt(b: &[u8], table: &[u8]) -> bool {
     true
 }
 
+// 06: settings, the output area's length, the frame.
+fn compact_frame(b: &[u8], table: &[u8], out: &mut [u8])
+    requires { ⌜ 34 ≤ length (now b) ⌝ }
+{
+    let s = settings_in(b);
+    let word = shinglebar::shinglebar_compact(
+        s.port,
+        s.inner,
+        s.nickname,
+        s.compact,
+        s.confidence,
+        s.seconds,
+        &b[34..],
+        out,
+    );
+    print_call(word, table, out);
+}
+
+fn replay_compact(b: &[u8], table: &[u8], area: &mut [u8]) -> bool {
+    if b.len() < 34 {
+        return false;
+    }
+    let n = numbers::be2(b, 32) as usize;
+    if area.len() < n {
+        return false;
+    }
+    compact_frame(b, table, &mut area[0..n]);
+    true
+}
+
+// 07: settings, the outer source, whether it is tagged, the tag, the output area's length, the frame.
+fn expand_frame(b: &[u8], table: &[u8], out: &mut [u8])
+    requires { ⌜ 50 ≤ length (now b) ⌝ }
+{
+    let s = settings_in(b);
+    let word = shinglebar::shinglebar_expand(
+        s.port,
+        s.inner,
+        s.nickname,
+        s.compact,
+        s.confidence,
+        s.seconds,
+        numbers::be8(b, 32),
+        numbers::be4(b, 40) as u32,
+        numbers::be4(b, 44) as u32,
+        &b[50..],
+        out,
+    );
+    print_call(word, table, out);
+}
+
+fn replay_expand(b: &[u8], table: &[u8], area: &mut [u8]) -> bool {
+    if b.len() < 50 {
+        return false;
+    }
+    let n = numbers::be2(b, 48) as usize;
+    if area.len() < n {
+        return false;
+    }
+    expand_frame(b, table, &mut area[0..n]);
+    true
+}
+
+// 08: settings, the working area's length, the frame. What the choosing function returns ends the line.
+fn send_frame(b: &[u8], table: &[u8], work: &mut [u8])
+    requires { ⌜ 34 ≤ length (now b) ⌝ }
+{
+    let s = settings_in(b);
+    let frame = &b[34..];
+    let answer = sending::send(s, frame, work);
+    print_areas(shinglebar::send_word(answer), table, work);
+    print_bytes(sending::choose(answer, work, frame));
+    io::write_all(1, &[b'\n']);
+}
+
+fn replay_send(b: &[u8], table: &[u8], area: &mut [u8]) -> bool {
+    if b.len() < 34 {
+        return false;
+    }
+    let n = numbers::be2(b, 32) as usize;
+    if area.len() < n {
+        return false;
+    }
+    send_frame(b, table, &mut area[0..n]);
+    true
+}
+
 // Makes a call and writes what it gave; false where there is no such call.
 fn replay_call(kind: u64, b: &[u8], table: &mut [u8], area: &mut [u8]) -> bool {
     if kind == 1 {
@@ -185,6 +292,15 @@ fn replay_call(kind: u64, b: &[u8], table: &mut [u8], area: &mut [u8]) -> bool {
     }
     if kind == 5 {
         return replay_spoilt(b, table);
+    }
+    if kind == 6 {
+        return replay_compact(b, table, area);
+    }
+    if kind == 7 {
+        return replay_expand(b, table, area);
+    }
+    if kind == 8 {
+        return replay_send(b, table, area);
     }
     false
 }

@@ -95,7 +95,7 @@ pub extern "C" fn shinglebar_flush(ingress: u32, payload: &[u8], table: &mut [u8
 }
 
 // The settings of a port, from the six numbers of every call that has them.
-fn settings(
+pub fn settings(
     port: u64,
     inner: u64,
     nickname: u32,
@@ -222,7 +222,7 @@ pub extern "C" fn shinglebar_expand(
     convert_word(expanding::expand(s, u, frame, out))
 }
 
-fn send_word(a: SendAnswer) -> u64
+pub fn send_word(a: SendAnswer) -> u64
     ensures { λ r. ⌜ r ≡ sendWord a ⌝ }
 {
     match a {
