@@ -3,7 +3,7 @@
 use Prim.Native.Nat.{ℕ, _+_, _-_, _≤_, _<_}
 use mathlib.Core.Bool.{Bool, true, false, not}
 use mathlib.Core.List.{List, _++_, append-assoc}
-use mathlib.Core.Path.{_≡_, sym, ap, _∙_}
+use mathlib.Core.Path.{_≡_, refl, sym, ap, _∙_}
 use native.Mathlib.Omega.{arith}
 use lib.ListN.{length, take, drop, length-append, length-drop}
 use borrow.Author.Tests.{not-true, not-false}
@@ -14,12 +14,12 @@ use Rattle.numbers.proofs.Truth.{between-below, between-above, between-is}
 use Rattle.numbers.proofs.Answers.{check-got}
 use Rattle.frame.specs.Settings.{settingsGood}
 use Rattle.frame.specs.Fields.{Fields}
+use Rattle.frame.specs.Front as spec
 use Rattle.frame.specs.Labels.{trillType}
 use Rattle.frame.specs.Formats.{longestFrame, sizeGood, general}
 use Rattle.frame.specs.declared.Settings.{Settings}
 use Rattle.fields.specs.Meaning.{frontAs, frontAt}
 use Rattle.fields.specs.declared.Front.{Front}
-use Rattle.fields.specs.declared.Front.the-variants as front
 use Rattle.parsing.specs.Meaning.{Within, fieldsIn, parsedAs}
 use Rattle.parsing.specs.declared.Parts.{Parts}
 use Rattle.parsing.specs.declared.Parsed.{Parsed}
@@ -31,9 +31,23 @@ use Rattle.copying.proofs.Copying.{paste-behind, paste-laid}
 use Rattle.convert.specs.Compaction.{compactBytes, staysGeneral, generalOnly, generalFields, compacting, written, compacted}
 use Rattle.convert.specs.declared.ConvertAnswer.{ConvertAnswer}
 use Rattle.convert.specs.declared.ConvertAnswer.the-variants.{Refused}
-use Rattle.compacting.specs.Meaning.{compactLength, putOn}
+use Rattle.compacting.specs.Meaning.{frontRefusal, compactLength, putOn}
 
 -- ---- the parts of a General frame
+
+other-front : (d : spec.Front) (f : List ℕ) → (frontRefusal d ≡ 0 → ⊥) → generalOnly d f ≡ refused (frontRefusal d)
+unfolding frontRefusal generalOnly
+other-front spec.unicast f h = absurd (h refl)
+other-front spec.multicast f h = absurd (h refl)
+other-front spec.refusedFront f h = refl
+other-front spec.inner f h = refl
+
+own-front : (d : spec.Front) (f : List ℕ) → frontRefusal d ≡ 0 → generalOnly d f ≡ general d f
+unfolding frontRefusal generalOnly
+own-front spec.unicast f h = refl
+own-front spec.multicast f h = refl
+own-front spec.refusedFront f h = absurd (omega arith)
+own-front spec.inner f h = absurd (omega arith)
 
 module _ (s : Settings) (f : List ℕ) (g : Bool) (eg : g ≡ settingsGood s) where
   pub bad-settings : not g ≡ true → refused 1 ≡ generalFields s f
@@ -51,21 +65,14 @@ module _ (s : Settings) (f : List ℕ) (g : Bool) (eg : g ≡ settingsGood s) wh
       too-long p = rw (← eg, not-false g ok, between-above 14 9216 (length f) p)
 
       module _ (hi : length f ≤ 9216) (a : ℕ) (ea : a ≡ num (take 6 f)) (r : Front) (er : frontAs r ≡ frontAt (s .port) a) where
-        pub not-here : r ≡ front.Refused → refused 5 ≡ generalFields s f
-        unfolding generalFields generalOnly check
-        not-here p = rw (← eg, not-false g ok, size-in (length f) lo hi, ← ea, ← front-at s a, ← er, p)
+        module _ (e : ℕ) (ee : e ≡ frontRefusal (frontAs r)) where
+          pub not-general : (e ≡ 0 → ⊥) → refused e ≡ generalFields s f
+          unfolding generalFields check
+          not-general h = rw (← eg, not-false g ok, size-in (length f) lo hi, ← ea, ← front-at s a, ← er, other-front (frontAs r) f (λ k. h (ee ∙ k)), ee)
 
-        pub compact-front : r ≡ front.Inner → refused 17 ≡ generalFields s f
-        unfolding generalFields generalOnly check
-        compact-front p = rw (← eg, not-false g ok, size-in (length f) lo hi, ← ea, ← front-at s a, ← er, p)
-
-        pub to-port : (x : Parsed) → r ≡ front.Unicast → parsedAs f x ≡ general (frontAs r) f → parsedAs f x ≡ generalFields s f
-        unfolding generalFields generalOnly check
-        to-port x p e = rw (← eg, not-false g ok, size-in (length f) lo hi, ← ea, ← front-at s a, ← er, p) (rw p at e)
-
-        pub to-all : (x : Parsed) → r ≡ front.Multicast → parsedAs f x ≡ general (frontAs r) f → parsedAs f x ≡ generalFields s f
-        unfolding generalFields generalOnly check
-        to-all x p e = rw (← eg, not-false g ok, size-in (length f) lo hi, ← ea, ← front-at s a, ← er, p) (rw p at e)
+          pub is-general : e ≡ 0 → (x : Parsed) → parsedAs f x ≡ general (frontAs r) f → parsedAs f x ≡ generalFields s f
+          unfolding generalFields check
+          is-general h x q = rw (← eg, not-false g ok, size-in (length f) lo hi, ← ea, ← front-at s a, ← er, own-front (frontAs r) f (sym ee ∙ h)) q
 
 -- ---- what is written
 

@@ -17,6 +17,26 @@ pub fn copy_at(src: &[u8], out: &mut [u8], at: usize)
     }
 }
 
+// The same of a long part of a frame, by way of an array: since that overlaps neither, the compiler makes one block move of both loops
+// and needs no array.
+pub fn copy_block(src: &[u8], out: &mut [u8], at: usize)
+    requires { ⌜ (at + length (now src) ≤ length (now out)) × (length (now src) ≤ 9216) ⌝ }
+    ensures { λ _. ⌜ now (out .exit) ≡ pasted (now (out .entry)) at (now (src .entry)) ⌝ }
+{
+    let mut block = [0u8; 9216];
+    let n = src.len();
+    let mut i = 0;
+    while i < n {
+        block[i] = src[i];
+        i += 1;
+    }
+    let mut j = 0;
+    while j < n {
+        out[at + j] = block[j];
+        j += 1;
+    }
+}
+
 // The part of len bytes from start on.
 pub fn part<'a>(f: &'a [u8], start: usize, len: usize) -> &'a [u8]
     requires { ⌜ start + len ≤ length (now f) ⌝ }

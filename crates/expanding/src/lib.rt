@@ -112,7 +112,7 @@ fn write_outer(dst: u64, u: Outer, out: &mut [u8])
 
 // Writes what is behind them: 22F3, header, inner addresses and label, content.
 fn write_tail(f: &[u8], p: Parts, out: &mut [u8], at: usize)
-    requires { ⌜ Within (length (now f)) p × (at + compactLength (length (now f)) p ≤ length (now out)) ⌝ }
+    requires { ⌜ Within (length (now f)) p × ((length (now f) ≤ longestFrame) × (at + compactLength (length (now f)) p ≤ length (now out))) ⌝ }
     ensures { λ _. ⌜ now (out .exit) ≡ pasted (now (out .entry)) at (generalTail (fieldsIn (now (f .entry)) p)) ⌝ }
 {
     let n = 12 + p.label;
@@ -120,7 +120,7 @@ fn write_tail(f: &[u8], p: Parts, out: &mut [u8], at: usize)
     copying::copy_at(b"\x22\xF3", out, at);
     copying::copy_at(copying::part(f, p.header, k), out, at + 2);
     copying::copy_at(copying::part(f, p.dst, n), out, at + 2 + k);
-    copying::copy_at(fields::rest(f, p.content), out, at + 2 + k + n);
+    copying::copy_block(fields::rest(f, p.content), out, at + 2 + k + n);
 }
 
 // Writes the General frame to an outer destination where there is room for it.

@@ -32,14 +32,14 @@ copy-at-requires-3 c κs = search needs
 rest-requires : tie.Need-rest-requires
 rest-requires c κs = search needs
 
-add-copy-at-2 : tie.Need-add-copy-at-2
-add-copy-at-2 c = search needs
+add-copy-block : tie.Need-add-copy-block
+add-copy-block c = search needs
 
-add-copy-at-3 : tie.Need-add-copy-at-3
-add-copy-at-3 c = search needs
+add-copy-block-2 : tie.Need-add-copy-block-2
+add-copy-block-2 c = search needs
 
-copy-at-requires-4 : tie.Need-copy-at-requires-4
-copy-at-requires-4 c κs = search needs
+copy-block-requires : tie.Need-copy-block-requires
+copy-block-requires c κs = search needs
 
 same-length : tie.Need-same-length
 same-length c = search needs
@@ -54,7 +54,7 @@ returns c =
     let k₁ = k₂ .before .before .before .before .before in
     let q₁ = k₁ .before .before in
     let st = q₁ .before .before .before .before in
-    wrote-compact _ _ (st .pre .0) _ _ _ _ _ _ _ _ (q₁ .part .ensures .0) (k₁ .copy-at .ensures) (k₂ .copy-at2 .ensures) (q₂ .part2 .ensures .0) (k₃ .copy-at3 .ensures) (rs .rest .ensures .0) (k₄ .copy-at4 .ensures)
+    wrote-compact _ _ (st .pre .0) _ _ _ _ _ _ _ _ (q₁ .part .ensures .0) (k₁ .copy-at .ensures) (k₂ .copy-at2 .ensures) (q₂ .part2 .ensures .0) (k₃ .copy-at3 .ensures) (rs .rest .ensures .0) (k₄ .copy-block .ensures)
 
 pub write-compact-spec : {M : Type 1} → statement M
 write-compact-spec =
@@ -69,8 +69,8 @@ write-compact-spec =
     add-copy-at
     copy-at-requires-3
     rest-requires
-    add-copy-at-2
-    add-copy-at-3
-    copy-at-requires-4
+    add-copy-block
+    add-copy-block-2
+    copy-block-requires
     same-length
     returns)

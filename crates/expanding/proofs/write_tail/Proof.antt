@@ -38,17 +38,17 @@ copy-at-requires-3 c κs = search needs
 rest-requires : tie.Need-rest-requires
 rest-requires c κs = search needs
 
-add-copy-at-4 : tie.Need-add-copy-at-4
-add-copy-at-4 c = search needs
+add-copy-block : tie.Need-add-copy-block
+add-copy-block c = search needs
 
-add-copy-at-5 : tie.Need-add-copy-at-5
-add-copy-at-5 c = search needs
+add-copy-block-2 : tie.Need-add-copy-block-2
+add-copy-block-2 c = search needs
 
-add-copy-at-6 : tie.Need-add-copy-at-6
-add-copy-at-6 c = search needs
+add-copy-block-3 : tie.Need-add-copy-block-3
+add-copy-block-3 c = search needs
 
-copy-at-requires-4 : tie.Need-copy-at-requires-4
-copy-at-requires-4 c κs = search needs
+copy-block-requires : tie.Need-copy-block-requires
+copy-block-requires c κs = search needs
 
 same-length : tie.Need-same-length
 same-length c = search needs
@@ -63,7 +63,7 @@ returns c =
     let q₁ = k₂ .before .before in
     let k₁ = q₁ .before .before .before in
     let st = k₁ .before .before .before .before .before .before in
-    tail-written _ _ (st .pre .0) _ _ _ _ _ _ _ _ _ (st .pre .1) (k₁ .copy-at .ensures) (q₁ .part .ensures .0) (k₂ .copy-at2 .ensures) (q₂ .part2 .ensures .0) (k₃ .copy-at3 .ensures) (rs .rest .ensures .0) (k₄ .copy-at4 .ensures)
+    tail-written _ _ (st .pre .0) _ _ _ _ _ _ _ _ _ (st .pre .1 .1) (k₁ .copy-at .ensures) (q₁ .part .ensures .0) (k₂ .copy-at2 .ensures) (q₂ .part2 .ensures .0) (k₃ .copy-at3 .ensures) (rs .rest .ensures .0) (k₄ .copy-block .ensures)
 
 pub write-tail-spec : {M : Type 1} → statement M
 write-tail-spec =
@@ -80,9 +80,9 @@ write-tail-spec =
     add-copy-at-3
     copy-at-requires-3
     rest-requires
-    add-copy-at-4
-    add-copy-at-5
-    add-copy-at-6
-    copy-at-requires-4
+    add-copy-block
+    add-copy-block-2
+    add-copy-block-3
+    copy-block-requires
     same-length
     returns)
