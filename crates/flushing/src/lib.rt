@@ -7,7 +7,7 @@ ghost use Rattle.table.specs.Record.{recordBytes};
 ghost use Rattle.table.specs.Slots.{slotBytes};
 ghost use Rattle.flush.specs.Payload.{everyType, blockBytes, piecesOf};
 ghost use Rattle.flush.specs.Flush.{slotMeant, clearedBy, clearing, flushed};
-ghost use Rattle.flushing.specs.Clearing.{payloadFrom, Ready, candidate, Next, restMeant, ClearedOne, clearedOn};
+ghost use Rattle.flushing.specs.Clearing.{payloadFrom, Empty, Ready, candidate, Next, restMeant, slotAsked, ClearedOne, clearedOn};
 use flush::FlushAnswer;
 use numbers::refusals::PAYLOAD_CORRUPT;
 use numbers::refusals::TABLE_LENGTH_BAD;
@@ -19,24 +19,24 @@ pub enum Cleared {
 }
 
 // Whether the slot at a place may be meant: learned by its state bits, and its nickname meant.
-fn candidate_at(t: &[u8], at: usize, ingress: u32, nicks: &[u8]) -> bool
-    requires { ⌜ at + recordBytes ≤ length (now t) ⌝ }
-    ensures { λ b. ⌜ b ≡ candidate ingress (now (nicks .entry)) (drop at (now (t .entry))) ⌝ }
+fn candidate_at(t: &[u8], at: usize, names: &[u8]) -> bool
+    requires { ⌜ (at + recordBytes ≤ length (now t)) × (length (now names) ≡ 8192) ⌝ }
+    ensures { λ b. ⌜ b ≡ candidate (now (names .entry)) (drop at (now (t .entry))) ⌝ }
 {
     if records::state_at(t, at) != 1 {
         return false;
     }
-    payloads::nickname_meant(nicks, ingress, record_fields::nickname_at(t, at))
+    bits::has(names, record_fields::nickname_at(t, at))
 }
 
 // The next slot that may be meant, from a slot on; n where there is none before slot n.
-fn next_candidate(t: &[u8], from: usize, n: usize, ingress: u32, nicks: &[u8]) -> usize
-    requires { ⌜ (from ≤ n) × (slotBytes * n ≤ length (now t)) ⌝ }
-    ensures { λ k. ⌜ Next (candidate ingress (now (nicks .entry))) (now (t .entry)) from n k ⌝ }
+fn next_candidate(t: &[u8], from: usize, n: usize, names: &[u8]) -> usize
+    requires { ⌜ ((from ≤ n) × (slotBytes * n ≤ length (now t))) × (length (now names) ≡ 8192) ⌝ }
+    ensures { λ k. ⌜ Next (candidate (now (names .entry))) (now (t .entry)) from n k ⌝ }
 {
     let mut k = from;
     while k < n {
-        if candidate_at(t, 14 * k, ingress, nicks) {
+        if candidate_at(t, 14 * k, names) {
             return k;
         }
         k += 1;
@@ -44,28 +44,42 @@ fn next_candidate(t: &[u8], from: usize, n: usize, ingress: u32, nicks: &[u8]) -
     n
 }
 
-// Whether the rest of a slot is meant: its entry is good, and label and MAC are meant.
-fn rest_meant(slot: &[u8], rest: &[u8], blocks: usize, gathered: bool) -> bool
-    requires { ⌜ (length (now slot) ≡ slotBytes) × Ready (now rest) blocks gathered ⌝ }
+// Whether the rest of a slot is meant: label and MAC are meant, and its entry is good. The label tells most slots.
+fn rest_meant(
+    slot: &[u8],
+    rest: &[u8],
+    blocks: usize,
+    gathered: bool,
+    every: bool,
+    vlans: &[u8],
+) -> bool
+    requires { ⌜ (length (now slot) ≡ slotBytes) × Ready (now rest) blocks gathered every (now vlans) ⌝ }
     ensures { λ b. ⌜ b ≡ restMeant (piecesOf blocks (now (rest .entry))) (now (slot .entry)) ⌝ }
 {
-    if !records::good_at(slot, 0) {
-        return false;
-    }
     let kind = record_fields::kind_at(slot, 0);
     let label = record_fields::label_at(slot, 0);
-    if !payloads::label_meant(rest, blocks, kind, label) {
+    if !plans::label_meant(rest, blocks, every, vlans, kind, label) {
+        return false;
+    }
+    if !records::good_at(slot, 0) {
         return false;
     }
     payloads::mac_meant(rest, blocks, gathered, record_fields::mac_at(slot, 0))
 }
 
 // Frees a slot whose rest is meant, and says how many were freed.
-fn clear_slot(slot: &mut [u8], rest: &[u8], blocks: usize, gathered: bool) -> usize
-    requires { ⌜ (length (now slot) ≡ slotBytes) × Ready (now rest) blocks gathered ⌝ }
+fn clear_slot(
+    slot: &mut [u8],
+    rest: &[u8],
+    blocks: usize,
+    gathered: bool,
+    every: bool,
+    vlans: &[u8],
+) -> usize
+    requires { ⌜ (length (now slot) ≡ slotBytes) × Ready (now rest) blocks gathered every (now vlans) ⌝ }
     ensures { λ n. ⌜ ClearedOne (restMeant (piecesOf blocks (now (rest .entry)))) (now (slot .entry)) n (now (slot .exit)) ⌝ }
 {
-    if !rest_meant(slot, rest, blocks, gathered) {
+    if !rest_meant(slot, rest, blocks, gathered, every, vlans) {
         return 0;
     }
     records::clear(slot);
@@ -75,38 +89,60 @@ fn clear_slot(slot: &mut [u8], rest: &[u8], blocks: usize, gathered: bool) -> us
 // Clears every slot that is meant, and counts them. State bits and nickname tell most slots, so they are looked at first.
 fn clear_slots(
     table: &mut [u8],
-    ingress: u32,
-    nicks: &[u8],
+    names: &[u8],
     rest: &[u8],
     blocks: usize,
     gathered: bool,
+    every: bool,
+    vlans: &[u8],
 ) -> usize
-    requires { ⌜ Ready (now rest) blocks gathered ⌝ }
-    ensures { λ n. ⌜ onTable n (now (table .exit)) ≡ clearedBy (slotMeant everyType (payloadFrom (now (nicks .entry)) blocks (now (rest .entry))) ingress) (now (table .entry)) ⌝ }
+    requires { ⌜ (length (now names) ≡ 8192) × Ready (now rest) blocks gathered every (now vlans) ⌝ }
+    ensures { λ n. ⌜ onTable n (now (table .exit)) ≡ clearedBy (slotAsked (now (names .entry)) (piecesOf blocks (now (rest .entry)))) (now (table .entry)) ⌝ }
 {
     let n = table.len() / 14;
     let mut count = 0;
     let mut i = 0;
     while i < n {
-        let k = next_candidate(table, i, n, ingress, nicks);
+        let k = next_candidate(table, i, n, names);
         if n <= k {
             return count;
         }
         let a = 14 * k;
         let e = a + 14;
-        count += clear_slot(&mut table[a..e], rest, blocks, gathered);
+        count += clear_slot(&mut table[a..e], rest, blocks, gathered, every, vlans);
         i = k + 1;
     }
     count
 }
 
-// Clears what the pieces of a good payload mean. Whether a MAC was gathered is found once.
+// Prepares in empty sets what does not depend on a record, and clears.
+fn clear_prepared(
+    ingress: u32,
+    nicks: &[u8],
+    rest: &[u8],
+    blocks: usize,
+    names: &mut [u8],
+    vlans: &mut [u8],
+    table: &mut [u8],
+) -> usize
+    requires { ⌜ (blockBytes * blocks ≤ length (now rest)) × (Empty 8192 (now names) × Empty 512 (now vlans)) ⌝ }
+    ensures { λ n. ⌜ onTable n (now (table .exit)) ≡ clearedBy (slotMeant everyType (payloadFrom (now (nicks .entry)) blocks (now (rest .entry))) ingress) (now (table .entry)) ⌝ }
+{
+    let gathered = payloads::some_mac(rest, blocks);
+    let every = plans::every_label(rest, blocks);
+    bit_sets::nickname_set(nicks, ingress, names);
+    plans::vlan_set(rest, blocks, every, vlans);
+    clear_slots(table, names, rest, blocks, gathered, every, vlans)
+}
+
+// Clears what the pieces of a good payload mean.
 fn clear_pieces(ingress: u32, nicks: &[u8], rest: &[u8], blocks: usize, table: &mut [u8]) -> usize
     requires { ⌜ blockBytes * blocks ≤ length (now rest) ⌝ }
     ensures { λ n. ⌜ onTable n (now (table .exit)) ≡ clearedBy (slotMeant everyType (payloadFrom (now (nicks .entry)) blocks (now (rest .entry))) ingress) (now (table .entry)) ⌝ }
 {
-    let gathered = payloads::some_mac(rest, blocks);
-    clear_slots(table, ingress, nicks, rest, blocks, gathered)
+    let mut names = [0u8; 8192];
+    let mut vlans = [0u8; 512];
+    clear_prepared(ingress, nicks, rest, blocks, &mut names, &mut vlans, table)
 }
 
 // Judges a payload, and clears what it means; a corrupt one changes nothing.

@@ -14,8 +14,8 @@ returns c = search other-state
 nickname-at-requires : tie.Need-nickname-at-requires
 nickname-at-requires c κs = search needs
 
-nickname-meant-requires : tie.Need-nickname-meant-requires
-nickname-meant-requires c κs = search needs
+has-requires : tie.Need-has-requires
+has-requires c κs = search needs
 
 returns-2 : tie.Need-returns-2
 returns-2 c = search by-nickname
@@ -23,4 +23,4 @@ returns-2 c = search by-nickname
 pub candidate-at-spec : {M : Type 1} → statement M
 candidate-at-spec =
     tie.close
-    (tie.spec state-at-requires returns nickname-at-requires nickname-meant-requires returns-2)
+    (tie.spec state-at-requires returns nickname-at-requires has-requires returns-2)
