@@ -6,13 +6,13 @@ use mathlib.Core.List.{List}
 use mathlib.Core.Logic.{_⊎_, inl, inr}
 use mathlib.Core.Path.{_≡_, refl, sym, ap, _∙_}
 use native.Mathlib.Decide.{ℕ-discrete}
-use native.Mathlib.Nat.{mod-lt}
+use native.Mathlib.Nat.{mod-lt, zero-div}
 use native.Mathlib.Omega.{arith}
 use lib.Bits.{bitOr, or-shr, or-step}
 use lib.Dec.{leb, eqb}
 use lib.ListN.{length, getD, set, length-set}
 use lib.Seq.{getD-set-same, getD-set-other}
-use borrow.Author.Tests.{le-leb, lt-leb, leb-true, leb-false, eq-eqb, ne-eqb}
+use borrow.Author.Tests.{le-leb, lt-leb, leb-true, leb-false, eqb-true}
 use Rattle.numbers.specs.Tests.{both, either}
 use Rattle.numbers.specs.Numberings.{bitOf, bitAt}
 use Rattle.numbers.proofs.Truth.{both-true, both-right}
@@ -124,6 +124,10 @@ module _ (s : List ℕ) (i y x : ℕ) where
   pub byte-other : (x / 8 ≡ i → ⊥) → bitAt x (set s i y) ≡ bitAt x s
   unfolding bitAt
   byte-other d = ap (λ (n : ℕ). bitOf n (x % 8)) (getD-set-other s i (x / 8) y 0 d)
+
+pub byte-none : (s : List ℕ) (x : ℕ) → eqb (getD s (x / 8) 0) 0 ≡ true → bitAt x s ≡ false
+unfolding bitAt bitOf
+byte-none s x h = rw (eqb-true (getD s (x / 8) 0) 0 h, zero-div)
 
 -- bits added to a byte
 module _ (s : List ℕ) (i m : ℕ) (h : i < length s) (x : ℕ) where

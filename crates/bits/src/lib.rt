@@ -1,5 +1,6 @@
 // Sets of numbers as bits: number x is bit x % 8 of byte x / 8, the high bit first.
 ghost use Prim.Native.Nat.{_+_, _-_, _*_, _/_, _^_, _<_, _≤_};
+ghost use mathlib.Core.Bool.{true, false};
 ghost use mathlib.Core.Path.{_≡_};
 ghost use lib.Bits.{bitOr};
 ghost use lib.ListN.{length, getD, set};
@@ -13,6 +14,14 @@ pub fn has(s: &[u8], x: u64) -> bool
 {
     let k = (x % 8) as u8;
     (s[(x / 8) as usize] >> (7 - k)) % 2 == 1
+}
+
+// Whether the byte that would hold x is 0: then x is not in the set, and no number near it.
+pub fn none_near(s: &[u8], x: u64) -> bool
+    requires { ⌜ x < 8 * length (now s) ⌝ }
+    ensures { λ r. ⌜ (r ≡ true → bitAt x (now (s .entry)) ≡ false) ⌝ }
+{
+    s[(x / 8) as usize] == 0
 }
 
 // Adds the bits of a byte.

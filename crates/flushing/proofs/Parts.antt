@@ -42,6 +42,10 @@ module _ (names r : List ℕ) (s : ℕ) (state : s ≡ stateOf (recordOf r)) whe
   by-nickname h x field b told =
       rw (eq-eqb (stateOf (recordOf r)) 1 (sym state ∙ h)) (told ∙ ap (λ (n : ℕ). bitAt n names) field)
 
+pub none-named : (names r : List ℕ) (x : ℕ) → x ≡ nicknameOf (recordOf r) → (b : Bool) → (b ≡ true → bitAt x names ≡ false) → b ≡ true → false ≡ candidate names r
+unfolding candidate
+none-named names r x field b none h = sym (both-right _ _ (rw field at (none h)))
+
 pub candidate-near : (names : List ℕ) → Local (candidate names)
 unfolding candidate
 candidate-near names x =

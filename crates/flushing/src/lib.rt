@@ -18,15 +18,20 @@ pub enum Cleared {
     Count(usize),
 }
 
-// Whether the slot at a place may be meant: learned by its state bits, and its nickname meant.
+// Whether the slot at a place may be meant: learned by its state bits, and its nickname meant. One byte of the set tells most slots,
+// so it is looked at first.
 fn candidate_at(t: &[u8], at: usize, names: &[u8]) -> bool
     requires { ⌜ (at + recordBytes ≤ length (now t)) × (length (now names) ≡ 8192) ⌝ }
     ensures { λ b. ⌜ b ≡ candidate (now (names .entry)) (drop at (now (t .entry))) ⌝ }
 {
+    let x = record_fields::nickname_at(t, at);
+    if bits::none_near(names, x) {
+        return false;
+    }
     if records::state_at(t, at) != 1 {
         return false;
     }
-    bits::has(names, record_fields::nickname_at(t, at))
+    bits::has(names, x)
 }
 
 // The next slot that may be meant, from a slot on; n where there is none before slot n.
