@@ -41,7 +41,7 @@ gains-none s q e = record { long = refl; each = λ x. sym (ap (either (bitAt x s
 
 -- ---- one number
 
-one-is : (n x : ℕ) (a b : Bool) → leb n x ≡ a → leb (suc x) (n + 1) ≡ b → both a b ≡ eqb n x
+pub one-is : (n x : ℕ) (a b : Bool) → leb n x ≡ a → leb (suc x) (n + 1) ≡ b → both a b ≡ eqb n x
 unfolding both
 one-is n x true true h g =
     let p = leb-true n x h in
@@ -134,7 +134,7 @@ module _ (ingress : ℕ) (nicks s : List ℕ) (long : length s ≡ 8192) (none :
 
 -- ---- blocks of VLANs
 
-leb-next : (x e : ℕ) (t : Bool) → leb x e ≡ t → leb (suc x) (e + 1) ≡ t
+pub leb-next : (x e : ℕ) (t : Bool) → leb x e ≡ t → leb (suc x) (e + 1) ≡ t
 leb-next x e true h = let p = leb-true x e h in le-leb (suc x) (e + 1) (omega arith)
 leb-next x e false h = let p = leb-false x e h in lt-leb (suc x) (e + 1) (omega arith)
 

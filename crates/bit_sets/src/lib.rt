@@ -32,7 +32,7 @@ pub fn nickname_set(nicks: &[u8], ingress: u32, s: &mut [u8])
     }
 }
 
-fn at_least(m: u64, n: u64) -> u64
+pub fn at_least(m: u64, n: u64) -> u64
     ensures { λ r. ⌜ r ≡ atLeast m n ⌝ }
 {
     if m <= n {
@@ -41,7 +41,7 @@ fn at_least(m: u64, n: u64) -> u64
     m
 }
 
-fn at_most(m: u64, n: u64) -> u64
+pub fn at_most(m: u64, n: u64) -> u64
     ensures { λ r. ⌜ (r ≡ atMost m n) × (r ≤ m) ⌝ }
 {
     if n <= m {
