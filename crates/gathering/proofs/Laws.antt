@@ -61,25 +61,39 @@ pub item-span : (t : Bool) (w : Numbering) → t ≡ false → w .size ≡ spanF
 unfolding spanFor
 item-span t w h = rw h
 
-pub span-room : (t : Bool) (w : Numbering) → w .size ≤ spanFor t w
-unfolding spanFor
-span-room true w = omega arith
-span-room false w = omega arith
+module _ (t : Bool) (w : Numbering) (at m : ℕ) (room : at + spanFor t w ≤ m) where
+  pub first-room : at + w .size ≤ m
+  unfolding spanFor
+  first-room = go t room
+    where
+      go : (t : Bool) → at + spanFor t w ≤ m → at + w .size ≤ m
+      go true h = omega arith
+      go false h = h
+
+  pub second-room : t ≡ true → at + w .size + w .size ≤ m
+  unfolding spanFor
+  second-room h = let r : at + spanFor true w ≤ m = rw h at room in omega arith
+
+pub start-fits : (w : Numbering) (b : List ℕ) (n r : ℕ) → Narrow w → n ≡ numberOf w b → r ≡ atLeast (w .low) n → r < 2 ^ 48
+unfolding atLeast
+start-fits w b n r narrow en e = rw e (pick-small (leb (w .low) n) n (w .low) (2 ^ 48) (rw en (number-small w b narrow)) (narrow .low-le))
+
+pub number-fits : (w : Numbering) (b : List ℕ) (n : ℕ) → Narrow w → n ≡ numberOf w b → n < 2 ^ 48
+number-fits w b n narrow e = rw e (number-small w b narrow)
 
 module _ (t : Bool) (w : Numbering) (narrow : Narrow w) (v : List ℕ) (at : ℕ) where
   module _ (n : ℕ) (en : n ≡ numberOf w (drop at v)) where
-    pub item-low : t ≡ false → (n ≡ lowFor t w (drop at v)) × (n < 2 ^ 48)
+    pub item-low : t ≡ false → n ≡ lowFor t w (drop at v)
     unfolding lowFor
-    item-low h = (rw h en, rw en (number-small w (drop at v) narrow))
+    item-low h = rw h en
 
     pub item-past : t ≡ false → n + 1 ≡ pastFor t w (drop at v)
     unfolding pastFor
     item-past h = rw (h, en)
 
-    pub block-low : t ≡ true → (r : ℕ) → r ≡ atLeast (w .low) n → (r ≡ lowFor t w (drop at v)) × (r < 2 ^ 48)
-    unfolding lowFor startOf atLeast
-    block-low h r e =
-        (e ∙ rw (h, en), rw e (pick-small (leb (w .low) n) n (w .low) (2 ^ 48) (rw en (number-small w (drop at v) narrow)) (narrow .low-le)))
+    pub block-low : t ≡ true → (r : ℕ) → r ≡ atLeast (w .low) n → r ≡ lowFor t w (drop at v)
+    unfolding lowFor startOf
+    block-low h r e = e ∙ rw (h, en)
 
   pub block-past : t ≡ true → (n r : ℕ) → n ≡ numberOf w (drop (at + w .size) v) → r ≡ atMost (w .high) n → r + 1 ≡ pastFor t w (drop at v)
   unfolding pastFor endOf
