@@ -1,7 +1,7 @@
 -- Laws of the parts of a slot that is meant: state bits and nickname make it a candidate; a good entry, its label and its MAC are the
 -- rest.
 -- Assumes nothing.
-use Prim.Native.Nat.{ℕ, zero, suc, _/_}
+use Prim.Native.Nat.{ℕ, zero, suc, _+_, _/_, _≤_}
 use mathlib.Core.Bool.{Bool, true, false}
 use mathlib.Core.List.{List}
 use mathlib.Core.Path.{_≡_, refl, sym, ap, _∙_, fun-ext}
@@ -28,7 +28,7 @@ use Rattle.flush.specs.Meaning.{nicknameMeant, labelMeant, macMeant, entryMeant
 use Rattle.flush.specs.Flush.{heldMeant, slotMeant, clearedBy}
 use Rattle.flush.proofs.Lists.{false-true}
 use Rattle.bit_sets.specs.Gains.{NicknamesTold}
-use Rattle.flushing.specs.Clearing.{Empty, candidate, restMeant, slotAsked}
+use Rattle.flushing.specs.Clearing.{Empty, Areas, candidate, restMeant, slotAsked}
 
 -- ---- a candidate
 
@@ -129,3 +129,10 @@ zeros-empty n = record { long = length-replicate n 0; none = λ x. rw (zeros n (
     zeros zero i = refl
     zeros (suc n) zero = refl
     zeros (suc n) (suc i) = zeros n i
+
+pub zeros-areas : (n : ℕ) → n ≤ 4096 → Areas (replicate n 0) (replicate n 0) (replicate (n + 1) 0)
+zeros-areas n h = record {
+  few = rw (length-replicate {A = ℕ} n 0) h;
+  same = refl;
+  more = rw (length-replicate {A = ℕ} n 0, length-replicate {A = ℕ} (n + 1) 0);
+}

@@ -1,6 +1,6 @@
 -- A good payload in the parts that the code holds, and what clearing leaves.
 -- Assumes nothing.
-use Prim.Native.Nat.{ℕ, _*_, _<_, _≤_}
+use Prim.Native.Nat.{ℕ, _+_, _*_, _<_, _≤_}
 use mathlib.Core.Bool.{Bool, true, false}
 use mathlib.Core.List.{List}
 use mathlib.Core.Path.{_≡_}
@@ -16,7 +16,7 @@ use Rattle.flush.specs.Payload.{everyType, Piece, Payload, blockBytes, piecesOf
 use Rattle.flush.specs.Meaning.{labelMeant, gathersMac, macMeant}
 use Rattle.flush.specs.Flush.{clearedSlot}
 use Rattle.bit_sets.specs.Gains.{None}
-use Rattle.plans.specs.Plans.{VlansTold}
+use Rattle.plans.specs.Plans.{isType, VlansTold, FinesTold, MacsTold}
 use Rattle.flushing.specs.declared.Cleared.{Cleared}
 use Rattle.flushing.specs.declared.Cleared.the-variants.{Refused, Count}
 
@@ -29,11 +29,32 @@ pub record Empty (n : ℕ) (s : List ℕ) : Type 0 where
   pub long : length s ≡ n
   pub none : None s
 
--- the blocks are there, and it is known whether a MAC was gathered and which VLANs are meant
-pub record Ready (rest : List ℕ) (blocks : ℕ) (gathered every : Bool) (vlans : List ℕ) : Type 0 where
+-- areas for intervals
+pub record Areas (keys past tops : List ℕ) : Type 0 where
+  pub few : length keys ≤ 4096
+  pub same : length past ≡ length keys
+  pub more : length tops ≡ length keys + 1
+
+-- the blocks are there, it is known whether every label is meant and whether a MAC was gathered, and the VLANs are prepared
+pub record ReadyVlans (rest : List ℕ) (blocks : ℕ) (every : Bool) (vlans : List ℕ) (gathered : Bool) : Type 0 where
   pub room : blockBytes * blocks ≤ length rest
-  pub told : gathered ≡ anyOf (gathersMac everyType) (piecesOf blocks rest)
-  pub labels : VlansTold (piecesOf blocks rest) every vlans
+  pub all : every ≡ anyOf (isType 6) (piecesOf blocks rest)
+  pub by-vlan : VlansTold (piecesOf blocks rest) every vlans
+  pub some : gathered ≡ anyOf (gathersMac everyType) (piecesOf blocks rest)
+
+-- and the fine-grained labels
+pub record ReadyLabels (rest : List ℕ) (blocks : ℕ) (every : Bool) (vlans : List ℕ) (maps : Bool) (fine-keys fine-tops : List ℕ) (fines : ℕ) (gathered : Bool) : Type 0 where
+  pub room : blockBytes * blocks ≤ length rest
+  pub by-vlan : VlansTold (piecesOf blocks rest) every vlans
+  pub by-fine : FinesTold (piecesOf blocks rest) every maps fine-keys fine-tops fines
+  pub some : gathered ≡ anyOf (gathersMac everyType) (piecesOf blocks rest)
+
+-- and the MACs
+pub record Ready (rest : List ℕ) (blocks : ℕ) (every : Bool) (vlans : List ℕ) (maps : Bool) (fine-keys fine-tops : List ℕ) (fines : ℕ) (gathered : Bool) (mac-keys mac-tops : List ℕ) (macs : ℕ) : Type 0 where
+  pub room : blockBytes * blocks ≤ length rest
+  pub by-vlan : VlansTold (piecesOf blocks rest) every vlans
+  pub by-fine : FinesTold (piecesOf blocks rest) every maps fine-keys fine-tops fines
+  pub by-mac : MacsTold (piecesOf blocks rest) gathered mac-keys mac-tops macs
 
 -- a slot may be meant: learned by its state bits, and its nickname in the set
 unfoldable pub candidate : List ℕ → List ℕ → Bool
