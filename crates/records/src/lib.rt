@@ -146,10 +146,8 @@ fn good_behind(t: &[u8], at: usize, k: u64) -> bool
     if k < 0x20 {
         return false;
     }
-    if record_fields::group_at(t, at) != 0 {
-        return false;
-    }
-    if (0x1_ffe0 <= k) & (k <= 0x1fff_ffff) {
+    let above = (0x1_ffe0 <= k) & (k <= 0x1fff_ffff);
+    if (record_fields::group_at(t, at) != 0) | above {
         return false;
     }
     nickname_good_at(t, at)

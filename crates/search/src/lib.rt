@@ -100,17 +100,17 @@ pub fn find_free(t: &[u8]) -> Place
     Place::Nowhere
 }
 
-// The lowest spoilt slot.
+// The lowest spoilt slot. Each slot is looked at by its place a.
 fn find_spoilt(t: &[u8]) -> Place
     ensures { λ r. ⌜ r ≡ lowest spoiltSlot (now (t .entry)) ⌝ }
 {
-    let n = t.len() / 14;
-    let mut k = 0;
-    while k < n {
-        if records::spoilt_at(t, 14 * k) {
-            return Place::At(k);
+    let n = t.len() / 14 * 14;
+    let mut a = 0;
+    while a < n {
+        if records::spoilt_at(t, a) {
+            return Place::At(a / 14);
         }
-        k += 1;
+        a += 14;
     }
     Place::Nowhere
 }
