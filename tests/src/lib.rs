@@ -20,6 +20,7 @@
 
 pub mod boundary;
 pub mod c_program;
+pub mod captures;
 pub mod compare;
 pub mod generate;
 pub mod random;
