@@ -71,7 +71,7 @@ int whole_ready(struct whole *whole)
 {
     if (whole->file == NULL)
         return 0;
-    int bad = fflush(whole->file) != 0 || fsync(fileno(whole->file)) != 0;
+    int bad = ferror(whole->file) || fflush(whole->file) != 0 || fsync(fileno(whole->file)) != 0;
     int status = bad ? failed(whole) : 0;
     if (fclose(whole->file) != 0 && !bad)
         status = failed(whole);
