@@ -6,6 +6,7 @@
 #include <sys/stat.h>
 
 #include "message.h"
+#include "process.h"
 
 #define HEADER_BYTES 24
 #define RECORD_HEADER_BYTES 16
@@ -96,6 +97,10 @@ int capture_next(struct capture_reader *reader, struct captured *frame)
 {
     uint8_t header[RECORD_HEADER_BYTES];
     size_t got = fread(header, 1, RECORD_HEADER_BYTES, reader->file);
+    if (stop_asked()) {
+        bad_data("interrupted after %lu frames", reader->number);
+        return -1;
+    }
     if (got == 0 && !ferror(reader->file))
         return 0;
     reader->number++;
@@ -124,12 +129,8 @@ int capture_next(struct capture_reader *reader, struct captured *frame)
     if (frame->length < held)
         return bad_record(reader, "the capture ends inside the frame", frame->length, held);
     reader->at += RECORD_HEADER_BYTES + (long long)held;
+    progress_show(reader->number, reader->size <= 0 ? -1 : (int)(100 * reader->at / reader->size));
     return 1;
-}
-
-int capture_percent(const struct capture_reader *reader)
-{
-    return reader->size <= 0 ? -1 : (int)(100 * reader->at / reader->size);
 }
 
 void capture_close(struct capture_reader *reader)

@@ -36,11 +36,9 @@ struct capture_reader {
 /* Opens a capture and reads its header: 0, or says what is wrong and returns 1. */
 int capture_open(struct capture_reader *reader, const char *name);
 
-/* Reads the next frame: 1, or 0 at the end; -1 if the capture is bad, which is said. `reader->number` counts from 1. */
+/* Reads the next frame and shows progress: 1, or 0 at the end; -1 if the capture is bad or a signal has come, which is said.
+ * `reader->number` counts from 1. */
 int capture_next(struct capture_reader *reader, struct captured *frame);
-
-/* How much of the capture is read, in percent; -1 where its size is not known. */
-int capture_percent(const struct capture_reader *reader);
 
 void capture_close(struct capture_reader *reader);
 

@@ -12,10 +12,4 @@ int check_command(const struct options *options);
 int live_command(const struct options *options);
 int send_command(const struct options *options);
 
-/* 1 once SIGINT or SIGTERM has come. */
-int stop_asked(void);
-
-/* Brings what was printed to standard output: 0, or 1 and said. */
-int output_ready(void);
-
 #endif

@@ -5,6 +5,7 @@
 #include "commands.h"
 #include "frame.h"
 #include "message.h"
+#include "process.h"
 #include "shinglebar.h"
 #include "words.h"
 
@@ -45,9 +46,6 @@ static int run(const struct options *options, struct capture_reader *reader, str
             line_print(options, reader->number, &frame, answer);
         if (kept && capture_add(out, reader->form, &frame, written, shinglebar_written_length(answer)) != 0)
             return 1;
-        if (stop_asked())
-            return bad_data("interrupted at frame %lu", reader->number);
-        progress_show(reader->number, capture_percent(reader));
     }
     if (got < 0)
         return 1;

@@ -3,6 +3,7 @@
 
 #include "commands.h"
 #include "message.h"
+#include "process.h"
 #include "table.h"
 #include "words.h"
 

@@ -8,6 +8,7 @@
 #include "commands.h"
 #include "interface.h"
 #include "message.h"
+#include "process.h"
 #include "receiver.h"
 
 #define WAIT_MILLISECONDS 100

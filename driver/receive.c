@@ -10,13 +10,9 @@ static int run(struct receiver *receiver, struct capture_reader *reader, const s
     receiver->form = reader->form;
     if (capture_create(&receiver->out, options->out, reader->form) != 0)
         return 1;
-    while ((got = capture_next(reader, &frame)) > 0) {
+    while ((got = capture_next(reader, &frame)) > 0)
         if (receiver_take(receiver, &frame) != 0)
             return 1;
-        if (stop_asked())
-            return bad_data("interrupted at frame %lu", reader->number);
-        progress_show(reader->number, capture_percent(reader));
-    }
     return got < 0 ? 1 : receiver_finish(receiver, options->table);
 }
 

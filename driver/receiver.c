@@ -2,9 +2,9 @@
 
 #include <string.h>
 
-#include "commands.h"
 #include "frame.h"
 #include "message.h"
+#include "process.h"
 
 /* How many cleared slots a line names. */
 #define SLOTS_NAMED 8

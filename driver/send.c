@@ -11,6 +11,7 @@
 #include "frame.h"
 #include "interface.h"
 #include "message.h"
+#include "process.h"
 #include "shinglebar.h"
 #include "words.h"
 
@@ -43,13 +44,9 @@ static int send_all(int file, const struct options *options, struct capture_read
     static struct captured frame;
     unsigned long sent = 0;
     int got;
-    while ((got = capture_next(reader, &frame)) > 0) {
+    while ((got = capture_next(reader, &frame)) > 0)
         if (send_frame(file, options, &frame, reader->number, &sent) != 0)
             return 1;
-        if (stop_asked())
-            return bad_data("interrupted at frame %lu", reader->number);
-        progress_show(reader->number, capture_percent(reader));
-    }
     progress_clear();
     printf("%lu of %lu frames sent\n", sent, reader->number);
     return got < 0 || output_ready() != 0;
