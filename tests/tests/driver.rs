@@ -468,14 +468,17 @@ fn files_are_replaced_whole_or_not_at_all() {
         "standard output cannot be written: No space left",
     );
     stay(&["in", "table"]);
-    // the output's folder is missing, and a device is not replaced
+    // The output's folder is missing; a pipe is not replaced. The pipe stands for a device and lies in the test's own folder: a driver
+    // that did replace it would do so to /dev/null as well, were it named here and the test run by root.
+    let pipe = Command::new("mkfifo").arg(folder.join("pipe")).status();
+    assert!(pipe.expect("mkfifo").success());
     for (out, said) in [
         ("no/out", "no/out cannot be written: No such file"),
-        ("/dev/null", "/dev/null is not a regular file"),
+        ("pipe", "pipe is not a regular file"),
     ] {
         let output = run_in(&folder, &[&alone[..], &["--out", out]].concat());
         bad(&output, 1, said);
-        stay(&["in", "table"]);
+        stay(&["in", "pipe", "table"]);
     }
     let output = shell_in(
         &folder,
@@ -483,11 +486,11 @@ fn files_are_replaced_whole_or_not_at_all() {
         &["age", "--table", "table", "--by", "9"],
     );
     bad(&output, 1, "table cannot be written: File too large");
-    stay(&["in", "table"]);
+    stay(&["in", "pipe", "table"]);
     // and with nothing in the way it is replaced
     good(&run_in(&folder, &words));
     assert!(bytes(&folder.join("table")) != old);
-    assert_eq!(names(&folder), ["in", "out", "table"]);
+    assert_eq!(names(&folder), ["in", "out", "pipe", "table"]);
 }
 
 #[test]
@@ -581,17 +584,20 @@ fn lookup_age_and_check_answer_of_a_table_file() {
 
     let good_check = good(&run_in(&folder, &["check", "--table", "table"]));
     assert!(good_check.starts_with("no slot is spoilt\n"));
+    // state 3; and a learned record with a group address
     table[2 * RECORD] = 0xC0;
+    table.extend(record(true, vlan(1), 0x0300_0000_0001, 0, 9));
     fs::write(folder.join("table"), &table).expect("a table");
     let output = run_in(&folder, &["check", "--table", "table"]);
     assert_eq!(output.status.code(), Some(1));
     assert_eq!(
         text(&output.stdout),
         "lowest spoilt slot: 2\n\
-         table: 4 slots, 1 learned, 1 configured, 1 spoilt, 1 free\n  \
+         table: 5 slots, 1 learned, 1 configured, 2 spoilt, 1 free\n  \
          slot 1: configured FGL 70000 02-00-00-00-00-02 behind 1234, confidence 7, 0 s\n  \
          slot 2: spoilt C0 00 00 00 00 00 00 00 00 00 00 00 00 00\n  \
-         slot 3: learned VLAN 10 02-00-00-00-00-03 behind 1234, confidence 255, 7891 s\n"
+         slot 3: learned VLAN 10 02-00-00-00-00-03 behind 1234, confidence 255, 7891 s\n  \
+         slot 4: spoilt 40 00 00 20 60 00 00 00 00 22 46 80 00 09\n"
     );
     assert!(bytes(&folder.join("table")) == table);
 }
