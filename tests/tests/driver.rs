@@ -498,11 +498,13 @@ fn a_signal_leaves_no_temporary_file_and_the_old_table() {
     let folder = folder("signal");
     let old = vec![0; 16 * RECORD];
     fs::write(folder.join("table"), &old).expect("a table");
+    fs::create_dir(folder.join("made")).expect("a folder");
     let made = Command::new("mkfifo").arg(folder.join("in")).status();
     assert!(made.expect("mkfifo").success());
     let driver = Command::new(program())
         .current_dir(&folder)
-        .args(receive_words("in"))
+        .args(["receive", "in", "--table", "table", "--out", "made/out"])
+        .args(SETTINGS)
         .stdout(Stdio::piped())
         .stderr(Stdio::piped())
         .spawn()
@@ -514,9 +516,17 @@ fn a_signal_leaves_no_temporary_file_and_the_old_table() {
         .expect("the pipe");
     pipe.write_all(&captures::capture(USUAL, &frames("hall")))
         .expect("frames");
-    while names(&folder).len() < 3 {
+    // it is written beside the file it is to replace, so that the renaming is one step
+    let temporary = || {
+        names(&folder.join("made"))
+            .iter()
+            .any(|name| name.starts_with("out."))
+    };
+    let tries = (0..1_000).take_while(|_| {
         thread::sleep(Duration::from_millis(5));
-    }
+        !temporary()
+    });
+    assert!(tries.count() < 1_000, "no temporary file in made/");
     let killed = Command::new("kill")
         .args(["-INT", &driver.id().to_string()])
         .status();
@@ -527,7 +537,8 @@ fn a_signal_leaves_no_temporary_file_and_the_old_table() {
     bad(&output, 1, "table stays as it was");
     assert!(text(&output.stderr).contains("interrupted after "));
     assert!(bytes(&folder.join("table")) == old);
-    assert_eq!(names(&folder), ["in", "table"]);
+    assert_eq!(names(&folder), ["in", "made", "table"]);
+    assert_eq!(names(&folder.join("made")), [""; 0]);
 }
 
 #[test]
@@ -633,7 +644,7 @@ fn bad_command_lines_get_a_message_and_status_2() {
         ),
         (and(&receive, &["--confidence", "-1"]), "not `-1`"),
         (
-            and(&receive, &["--confidence", "99999999999999999999"]),
+            and(&receive, &["--confidence", "18446744073709551621"]),
             "--confidence takes a number",
         ),
         (
