@@ -1,5 +1,12 @@
 # Shinglebar. `make test` is the gate that every change passes.
-.PHONY: test fuzz bench archive vectors fmt
+.PHONY: test run driver lab fuzz bench archive vectors captures fmt
+
+# What `make run` says first: the minutes that `rt staticlib shinglebar` takes from nothing on two cores.
+PROVING_MINUTES = 3
+
+ARCHIVE = target/staticlib/libshinglebar.a
+DRIVER = target/driver/shinglebar-port
+CFLAGS = -O2 -g
 
 # Proves every crate from nothing, tries every must-fail edit and runs the tests.
 test:
@@ -8,6 +15,27 @@ test:
 # Proves the crates and writes the static library target/staticlib/libshinglebar.a.
 archive:
 	rt staticlib shinglebar
+
+$(ARCHIVE):
+	rt staticlib shinglebar
+
+# Builds everything and runs the port driver on the captures of driver/data.
+run:
+	@echo "make run: proving the library takes about $(PROVING_MINUTES) minutes, the rest a few seconds"
+	@$(MAKE) --no-print-directory archive
+	@$(MAKE) --no-print-directory driver
+	@driver/run.sh
+
+# Builds the port driver; proves the library only where there is no archive.
+driver: $(DRIVER)
+
+$(DRIVER): $(wildcard driver/*.c driver/*.h) include/shinglebar.h $(ARCHIVE)
+	@mkdir -p $(@D)
+	$(CC) -std=c99 $(CFLAGS) -Wall -Wextra -Werror -pedantic -Iinclude driver/*.c $(ARCHIVE) -o $@
+
+# Two drivers on a link between two network namespaces. Needs root and iproute2; status 77 where namespaces are not permitted.
+lab: driver
+	@driver/lab.sh
 
 # Compares the library with the second implementation on a million random inputs for each call. SHINGLEBAR_SEED and SHINGLEBAR_CASES
 # set the seed and the count.
@@ -21,6 +49,10 @@ bench: archive
 # Writes the calls that the program `replay` makes and what the second implementation says they give (docs/REPLAY.md).
 vectors: archive
 	cd tests && cargo run --offline --locked --bin vectors
+
+# Writes the captures of the port driver, driver/data/*.pcap.
+captures: $(ARCHIVE)
+	cd tests && cargo run --offline --locked --bin captures
 
 # Lays out the Rattle and antt files.
 fmt:

@@ -10,6 +10,7 @@
 //! | tests/flush.rs | flush |
 //! | tests/receive.rs | receive |
 //! | tests/convert.rs | compact, expand, send |
+//! | tests/driver.rs | all, through the port driver |
 //! | tests/lists.rs | receive, compact, lookup, age, spoilt: whole call lists |
 //!
 //! Environment: `SHINGLEBAR_SEED` the seed, `SHINGLEBAR_CASES` the number of cases of each call,
@@ -20,6 +21,7 @@
 
 pub mod boundary;
 pub mod c_program;
+pub mod captures;
 pub mod compare;
 pub mod generate;
 pub mod random;
