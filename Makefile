@@ -1,5 +1,5 @@
 # Shinglebar. `make test` is the gate that every change passes.
-.PHONY: test fuzz bench archive vectors fmt
+.PHONY: test fuzz bench archive vectors outside outside-write fmt
 
 # Proves every crate from nothing, tries every must-fail edit and runs the tests.
 test:
@@ -21,6 +21,18 @@ bench: archive
 # Writes the calls that the program `replay` makes and what the second implementation says they give (docs/REPLAY.md).
 vectors: archive
 	cd tests && cargo run --offline --locked --bin vectors
+
+# Compares what tshark reads of the frames in tests/outside with what is stored there. It needs tshark and nothing else.
+outside:
+	@read=$$(tests/outside/dissect) || exit 1; \
+	printf '%s\n' "$$read" | diff tests/outside/tshark.txt - || \
+	  { echo "outside: $$(tshark --version 2>/dev/null | head -n 1) reads the frames otherwise than tests/outside/tshark.txt says" >&2; exit 1; }
+	@echo "outside: tshark reads the frames as stored"
+
+# Writes those frames again through the library, and what tshark reads of them.
+outside-write: archive
+	cd tests && cargo run --offline --locked --bin outside
+	tests/outside/dissect >tests/outside/tshark.txt
 
 # Lays out the Rattle and antt files.
 fmt:
