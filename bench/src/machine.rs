@@ -1,7 +1,32 @@
-//! Where and when the benchmark ran.
+//! Where and when the benchmark runs.
 
 use std::fs;
-use std::time::{SystemTime, UNIX_EPOCH};
+use std::time::{Duration, SystemTime, UNIX_EPOCH};
+
+/// The `struct timespec` of 64-bit Linux.
+#[repr(C)]
+struct Timespec {
+    seconds: i64,
+    nanoseconds: i64,
+}
+
+extern "C" {
+    fn clock_gettime(clock: i32, time: *mut Timespec) -> i32;
+}
+
+const THREAD_CPU_CLOCK: i32 = 3;
+
+/// The time that this thread had a CPU.
+pub fn cpu_time() -> Duration {
+    let mut time = Timespec {
+        seconds: 0,
+        nanoseconds: 0,
+    };
+    // SAFETY: the pointer is to a place that the call may write.
+    let status = unsafe { clock_gettime(THREAD_CPU_CLOCK, &mut time) };
+    assert!(status == 0, "no clock of the thread's CPU time");
+    Duration::new(time.seconds as u64, time.nanoseconds as u32)
+}
 
 /// The CPU's name and the number of CPUs.
 pub fn name() -> String {

@@ -1,6 +1,7 @@
 //! The check and the timing.
 
 use crate::buffer::Buffer;
+use crate::machine;
 use std::hint::black_box;
 use std::time::{Duration, Instant};
 
@@ -13,6 +14,10 @@ const WARM_UP_ROUNDS: usize = 3;
 /// The least time that a batch of short calls takes, so that reading the clock costs nothing beside it.
 const BATCH_TIME: Duration = Duration::from_micros(20);
 const LONGEST_BATCH: u32 = 1 << 14;
+
+/// A sample from here on is likely to hold times in which other work had the CPU: what counts is the
+/// CPU time of the thread. Asking for that takes too long for a shorter one.
+pub const LONG: Duration = Duration::from_micros(200);
 
 /// The areas that a call may write. Both calls of a case get the same memory.
 #[derive(Clone)]
@@ -135,11 +140,16 @@ impl<C> Bench<'_, C> {
         self.areas.restore(self.start);
         let function = black_box(function);
         let mut lent = black_box(self.areas.lend());
+        let began_on_cpu = machine::cpu_time();
         let began = Instant::now();
         for _ in 0..self.batch {
             black_box((self.call)(function, &mut lent));
         }
-        began.elapsed().as_nanos() as f64 / f64::from(self.batch)
+        let mut took = began.elapsed();
+        if took > LONG {
+            took = machine::cpu_time().saturating_sub(began_on_cpu);
+        }
+        took.as_nanos() as f64 / f64::from(self.batch)
     }
 
     /// Doubles the batch until it takes the time that a batch should.

@@ -57,7 +57,7 @@ impl Drawing {
         let _ = writeln!(
             self.text,
             "<text x=\"{:.1}\" y=\"{:.1}\" font-size=\"{size}\" text-anchor=\"{anchor}\" \
-             fill=\"{colour}\">{words}</text>",
+             fill=\"{colour}\" stroke=\"white\" stroke-width=\"3\" paint-order=\"stroke\">{words}</text>",
             at.0, at.1
         );
     }
@@ -102,7 +102,7 @@ fn call(row: &Row) -> &str {
 /// The ratio of each row, on a logarithmic axis, with the target.
 pub fn ratios(rows: &[Row]) -> String {
     const WIDTH: f64 = 960.0;
-    const LEFT: f64 = 400.0;
+    const LEFT: f64 = 350.0;
     const TOP: f64 = 96.0;
     const STEP: f64 = 17.0;
     const GAP: f64 = 8.0;
@@ -119,7 +119,7 @@ pub fn ratios(rows: &[Row]) -> String {
     };
 
     let mut drawing = Drawing::new(WIDTH, bottom + 40.0);
-    let title = "Time of the library by time of the hand-written version";
+    let title = "Time of the library divided by time of the hand-written version";
     drawing.write((20.0, 26.0), 16.0, Anchor::Start, INK, title);
     let mut legend = 20.0;
     for (colour, words, width) in [
@@ -202,14 +202,15 @@ fn round_time(nanoseconds: f64) -> String {
     time(nanoseconds).replace(".0 ", " ")
 }
 
-const PANEL: (f64, f64) = (290.0, 250.0);
+const PANEL: (f64, f64) = (320.0, 250.0);
 const COLUMNS: usize = 3;
 
 /// Cost by size, a panel for each curve, both axes logarithmic. Panels with the same horizontal axis
 /// have the same vertical one.
 pub fn curves(curves: &[(Curve, Vec<(usize, Times)>)]) -> String {
     const TOP: f64 = 66.0;
-    let rows = curves.len().div_ceil(COLUMNS);
+    let places = panel_places(curves);
+    let rows = places.last().map_or(0, |place| place.1 + 1);
     let (width, height) = (COLUMNS as f64 * PANEL.0, rows as f64 * PANEL.1);
     let mut drawing = Drawing::new(width, TOP + height + 10.0);
     let title = "Time of a call by size of the table and of the flush message";
@@ -219,11 +220,8 @@ pub fn curves(curves: &[(Curve, Vec<(usize, Times)>)]) -> String {
         drawing.circle((x + 9.0, 46.0), 3.5, colour);
         drawing.write((x + 24.0, 50.0), 12.0, Anchor::Start, INK, words);
     }
-    for (number, (curve, points)) in curves.iter().enumerate() {
-        let corner = (
-            (number % COLUMNS) as f64 * PANEL.0,
-            TOP + (number / COLUMNS) as f64 * PANEL.1,
-        );
+    for ((curve, points), (column, row)) in curves.iter().zip(places) {
+        let corner = (column as f64 * PANEL.0, TOP + row as f64 * PANEL.1);
         let same_axis = curves.iter().filter(|(other, _)| other.axis == curve.axis);
         let times = same_axis
             .flat_map(|(_, points)| points)
@@ -240,6 +238,26 @@ pub fn curves(curves: &[(Curve, Vec<(usize, Times)>)]) -> String {
     drawing.finish()
 }
 
+/// Column and row of each panel. Another horizontal axis begins a row.
+fn panel_places(curves: &[(Curve, Vec<(usize, Times)>)]) -> Vec<(usize, usize)> {
+    let mut places: Vec<(usize, usize)> = Vec::new();
+    for (number, (curve, _)) in curves.iter().enumerate() {
+        let place = match places.last() {
+            None => (0, 0),
+            Some((column, row)) => {
+                let same = curves[number - 1].0.axis == curve.axis;
+                if same && column + 1 < COLUMNS {
+                    (column + 1, *row)
+                } else {
+                    (0, row + 1)
+                }
+            }
+        };
+        places.push(place);
+    }
+    places
+}
+
 fn panel(
     drawing: &mut Drawing,
     corner: (f64, f64),
@@ -247,7 +265,7 @@ fn panel(
     curve: Curve,
     points: &[(usize, Times)],
 ) {
-    let (left, right) = (corner.0 + 62.0, corner.0 + PANEL.0 - 34.0);
+    let (left, right) = (corner.0 + 62.0, corner.0 + PANEL.0 - 50.0);
     let (top, bottom) = (corner.1 + 30.0, corner.1 + PANEL.1 - 48.0);
     let sizes = points.iter().map(|(size, _)| *size as f64);
     let across = Scale {
@@ -284,10 +302,11 @@ fn panel(
     let middle = ((left + right) / 2.0, bottom + 30.0);
     drawing.write(middle, 10.0, Anchor::Middle, INK, unit);
 
-    let library = |times: &Times| times.ours;
-    let by_hand = |times: &Times| times.baseline;
-    let lines: [(&str, &dyn Fn(&Times) -> f64); 2] = [(BASELINE, &by_hand), (OURS, &library)];
-    for (colour, value) in lines {
+    for colour in [BASELINE, OURS] {
+        let value = |times: &Times| match colour {
+            OURS => times.ours,
+            _ => times.baseline,
+        };
         let places: Vec<(f64, f64)> = points
             .iter()
             .map(|(size, times)| (across.place(*size as f64), up.place(value(times))))
@@ -300,17 +319,14 @@ fn panel(
         }
     }
     if let Some((size, times)) = points.last() {
-        let x = across.place(*size as f64) + 8.0;
-        // The slower above its point, the faster below.
-        let above = |time: f64| (x, up.place(time) - 8.0);
-        let below = |time: f64| (x, up.place(time) + 16.0);
-        let (ours_at, baseline_at) = if times.ours >= times.baseline {
-            (above(times.ours), below(times.baseline))
-        } else {
-            (below(times.ours), above(times.baseline))
-        };
-        drawing.write(ours_at, 10.0, Anchor::End, OURS, &time(times.ours));
+        let x = across.place(*size as f64) + 10.0;
+        // Beside the points, but never on one another.
+        let (ours, baseline) = (up.place(times.ours), up.place(times.baseline));
+        let apart = ((14.0 - (baseline - ours).abs()) / 2.0).max(0.0);
+        let apart = if ours <= baseline { apart } else { -apart };
+        let (ours_at, baseline_at) = ((x, ours - apart + 4.0), (x, baseline + apart + 4.0));
+        drawing.write(ours_at, 10.0, Anchor::Start, OURS, &time(times.ours));
         let words = time(times.baseline);
-        drawing.write(baseline_at, 10.0, Anchor::End, BASELINE, &words);
+        drawing.write(baseline_at, 10.0, Anchor::Start, BASELINE, &words);
     }
 }

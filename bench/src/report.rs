@@ -4,13 +4,13 @@ use std::cell::RefCell;
 use std::fmt::Write;
 
 use crate::machine;
-use crate::measure::{time, Areas, Lent, Pair, Samples};
+use crate::measure::{time, Areas, Lent, Pair, Samples, LONG};
 
 /// What the ratio of an ordinary row should not exceed.
 pub const TARGET: f64 = 1.2;
 
 /// What grows along a curve.
-#[derive(Clone, Copy, PartialEq, Eq)]
+#[derive(Clone, Copy, PartialEq, Eq, PartialOrd, Ord)]
 pub enum Axis {
     Slots,
     PayloadBytes,
@@ -132,7 +132,7 @@ impl Report {
         rows.collect()
     }
 
-    /// The curves with their points, in order of size.
+    /// The curves, those along one axis together, with their points in order of size.
     pub fn curves(&self) -> Vec<(Curve, Vec<(usize, Times)>)> {
         let mut curves: Vec<(Curve, Vec<(usize, Times)>)> = Vec::new();
         for (case, samples) in self.cases.borrow().iter() {
@@ -148,6 +148,7 @@ impl Report {
         for (_, points) in &mut curves {
             points.sort_by_key(|(size, _)| *size);
         }
+        curves.sort_by_key(|(curve, _)| curve.axis);
         curves
     }
 
@@ -156,7 +157,8 @@ impl Report {
         format!(
             "{}; {}; load average {} at the start and {} at the end, the benchmark itself included; {}, \
              hand-written versions with {}. Nanoseconds per call: medians of calls of both made in \
-             turn, in {passes} passes over all cases. Buffers are warm and not cleared; a table that \
+             turn, in {passes} passes over all cases; of calls of more than {} us the time that they had a \
+             CPU. Buffers are warm and not cleared; a table that \
              a call changes is restored before each call, outside the timed region.\n",
             machine::date(),
             machine::name(),
@@ -164,6 +166,7 @@ impl Report {
             machine::load(),
             env!("BENCH_RUSTC"),
             env!("BENCH_FLAGS"),
+            LONG.as_micros(),
         )
     }
 
@@ -267,7 +270,7 @@ pub fn thousands(number: u64) -> String {
     let digits = number.to_string();
     let mut text = String::new();
     for (place, digit) in digits.chars().enumerate() {
-        if place > 0 && (digits.len() - place) % 3 == 0 {
+        if place > 0 && (digits.len() - place).is_multiple_of(3) {
             text.push(',');
         }
         text.push(digit);
