@@ -14,7 +14,7 @@ archive:
 fuzz: archive
 	cd tests && SHINGLEBAR_CASES=$${SHINGLEBAR_CASES:-1000000} cargo test --offline --locked -- --nocapture
 
-# Times the calls beside hand-written Rust versions of them, on the same bytes in the same run.
+# Times the calls beside hand-written Rust versions of them, on the same bytes in the same run. Writes docs/BENCH.md and its plots.
 bench: archive
 	cd bench && cargo run --release --offline --locked
 
