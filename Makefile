@@ -1,5 +1,5 @@
 # Shinglebar. `make test` is the gate that every change passes.
-.PHONY: test run driver lab fuzz bench archive vectors captures fmt
+.PHONY: test run driver lab fuzz bench archive vectors captures outside outside-write fmt
 
 # What `make run` says first: the minutes that `rt staticlib shinglebar` takes from nothing on two cores.
 PROVING_MINUTES = 3
@@ -42,7 +42,7 @@ lab: driver
 fuzz: archive
 	cd tests && SHINGLEBAR_CASES=$${SHINGLEBAR_CASES:-1000000} cargo test --offline --locked -- --nocapture
 
-# Times the calls beside hand-written Rust versions of them, on the same bytes in the same run.
+# Times the calls beside hand-written Rust versions of them, on the same bytes in the same run. Writes docs/BENCH.md and its plots.
 bench: archive
 	cd bench && cargo run --release --offline --locked
 
@@ -53,6 +53,18 @@ vectors: archive
 # Writes the captures of the port driver, driver/data/*.pcap.
 captures: $(ARCHIVE)
 	cd tests && cargo run --offline --locked --bin captures
+
+# Compares what tshark reads of the frames in tests/outside with what is stored there. It needs tshark and nothing else.
+outside:
+	@read=$$(tests/outside/dissect) || exit 1; \
+	printf '%s\n' "$$read" | diff tests/outside/tshark.txt - || \
+	  { echo "outside: $$(tshark --version 2>/dev/null | head -n 1) reads the frames otherwise than tests/outside/tshark.txt says" >&2; exit 1; }
+	@echo "outside: tshark reads the frames as stored"
+
+# Writes those frames again through the library, and what tshark reads of them.
+outside-write: archive
+	cd tests && cargo run --offline --locked --bin outside
+	tests/outside/dissect >tests/outside/tshark.txt
 
 # Lays out the Rattle and antt files.
 fmt:

@@ -12,6 +12,7 @@
 //! | tests/convert.rs | compact, expand, send |
 //! | tests/driver.rs | all, through the port driver |
 //! | tests/lists.rs | receive, compact, lookup, age, spoilt: whole call lists |
+//! | tests/outside.rs | compact, expand, receive, lookup: what tshark says of the frames |
 //!
 //! Environment: `SHINGLEBAR_SEED` the seed, `SHINGLEBAR_CASES` the number of cases of each call,
 //! `SHINGLEBAR_CASE` the only case to run, and for build.rs `SHINGLEBAR_ARCHIVE_DIR` the folder of
@@ -24,6 +25,7 @@ pub mod c_program;
 pub mod captures;
 pub mod compare;
 pub mod generate;
+pub mod outside;
 pub mod random;
 pub mod reference;
 pub mod run;
