@@ -26,7 +26,7 @@ use Rattle.parsing.specs.Meaning.{Within, fieldsIn, parsedAs, parsedWithin}
 use Rattle.parsing.specs.declared.Parts.{Parts}
 use Rattle.parsing.specs.declared.Parsed.{Parsed}
 use Rattle.parsing.specs.declared.Parsed.the-variants as parsed
-use Rattle.parsing.proofs.Outcomes.{front-at, size-in}
+use Rattle.parsing.proofs.Outcomes.{size-in}
 use Rattle.parsing.proofs.Places.{fields-within, inner-piece, inner-long, header-long, fixed-bytes, label-bytes}
 use Rattle.copying.specs.Areas.{pasted}
 use Rattle.copying.proofs.Copying.{paste-behind, paste-laid}
@@ -34,7 +34,7 @@ use Rattle.convert.specs.Compaction.{compactBytes, staysGeneral, generalOnly, g
 use Rattle.convert.proofs.Fronts.{general-front}
 use Rattle.convert.specs.declared.ConvertAnswer.{ConvertAnswer}
 use Rattle.convert.specs.declared.ConvertAnswer.the-variants.{Refused}
-use Rattle.compacting.specs.Meaning.{frontRefusal, Copyable, compactLength, putOn}
+use Rattle.compacting.specs.Meaning.{frontRefusal, fieldsAt, Copyable, compactLength, putOn}
 
 -- ---- the parts of a General frame
 
@@ -52,30 +52,34 @@ own-front spec.multicast f h = refl
 own-front spec.refusedFront f h = absurd (omega arith)
 own-front spec.inner f h = absurd (omega arith)
 
+module _ (port : ℕ) (f : List ℕ) where
+  pub too-short : length f < 14 → refused 3 ≡ fieldsAt port f
+  unfolding fieldsAt sizeGood check
+  too-short p = rw (between-below 14 9216 (length f) p)
+
+  module _ (lo : 14 ≤ length f) where
+    pub too-long : 9216 < length f → refused 3 ≡ fieldsAt port f
+    unfolding fieldsAt sizeGood check
+    too-long p = rw (between-above 14 9216 (length f) p)
+
+    module _ (hi : length f ≤ 9216) (a : ℕ) (ea : a ≡ num (take 6 f)) (r : Front) (er : frontAs r ≡ frontAt port a) (e : ℕ) (ee : e ≡ frontRefusal (frontAs r)) where
+      pub not-general : (e ≡ 0 → ⊥) → refused e ≡ fieldsAt port f
+      unfolding fieldsAt check
+      not-general h = rw (size-in (length f) lo hi, ← ea, ← er, other-front (frontAs r) f (λ k. h (ee ∙ k)), ee)
+
+      pub is-general : e ≡ 0 → (x : Parsed) → parsedAs f x ≡ general (frontAs r) f → parsedAs f x ≡ fieldsAt port f
+      unfolding fieldsAt check
+      is-general h x q = rw (size-in (length f) lo hi, ← ea, ← er, own-front (frontAs r) f (sym ee ∙ h)) q
+
+-- with the settings' test in front
 module _ (s : Settings) (f : List ℕ) (g : Bool) (eg : g ≡ settingsGood s) where
-  pub bad-settings : not g ≡ true → refused 1 ≡ generalFields s f
+  pub bad-settings : not g ≡ true → generalFields s f ≡ refused 1
   unfolding generalFields check
   bad-settings h = rw (← eg, not-true g h)
 
-  module _ (ok : not g ≡ false) where
-    pub too-short : length f < 14 → refused 3 ≡ generalFields s f
-    unfolding generalFields sizeGood check
-    too-short p = rw (← eg, not-false g ok, between-below 14 9216 (length f) p)
-
-    module _ (lo : 14 ≤ length f) where
-      pub too-long : 9216 < length f → refused 3 ≡ generalFields s f
-      unfolding generalFields sizeGood check
-      too-long p = rw (← eg, not-false g ok, between-above 14 9216 (length f) p)
-
-      module _ (hi : length f ≤ 9216) (a : ℕ) (ea : a ≡ num (take 6 f)) (r : Front) (er : frontAs r ≡ frontAt (s .port) a) where
-        module _ (e : ℕ) (ee : e ≡ frontRefusal (frontAs r)) where
-          pub not-general : (e ≡ 0 → ⊥) → refused e ≡ generalFields s f
-          unfolding generalFields check
-          not-general h = rw (← eg, not-false g ok, size-in (length f) lo hi, ← ea, ← front-at s a, ← er, other-front (frontAs r) f (λ k. h (ee ∙ k)), ee)
-
-          pub is-general : e ≡ 0 → (x : Parsed) → parsedAs f x ≡ general (frontAs r) f → parsedAs f x ≡ generalFields s f
-          unfolding generalFields check
-          is-general h x q = rw (← eg, not-false g ok, size-in (length f) lo hi, ← ea, ← front-at s a, ← er, own-front (frontAs r) f (sym ee ∙ h)) q
+  pub good-settings : not g ≡ false → fieldsAt (s .port) f ≡ generalFields s f
+  unfolding generalFields fieldsAt frontAt spec.frontOf check
+  good-settings h = rw (← eg, not-false g h)
 
 -- ---- what is written
 
@@ -117,7 +121,15 @@ module _ (f : List ℕ) (p : Parts) where
 
 -- ---- the call
 
-module _ (s : Settings) (f area : List ℕ) (x : Parsed) (ex : parsedAs f x ≡ generalFields s f) where
+module _ (s : Settings) (f area : List ℕ) (g : Bool) (eg : g ≡ settingsGood s) where
+  pub call-settings : not g ≡ true → onArea (Refused 1) area ≡ compacted s f area
+  unfolding compacted compacting settled andThen
+  call-settings h = rw (bad-settings s f g eg h)
+
+module _ (s : Settings) (f area : List ℕ) (g : Bool) (eg : g ≡ settingsGood s) (ok : not g ≡ false) (x : Parsed) (ef : parsedAs f x ≡ fieldsAt (s .port) f) where
+  ex : parsedAs f x ≡ generalFields s f
+  ex = ef ∙ good-settings s f g eg ok
+
   pub call-refused : (n : ℕ) → x ≡ parsed.Refused n → onArea (Refused n) area ≡ compacted s f area
   unfolding compacted compacting settled andThen
   call-refused n e = rw (← ex, e)

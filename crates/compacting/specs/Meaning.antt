@@ -2,14 +2,17 @@
 -- Assumes nothing.
 use Prim.Native.Nat.{ℕ, _+_, _-_, _≤_}
 use mathlib.Core.List.{List}
-use Rattle.numbers.specs.Result.{settled}
-use Rattle.numbers.specs.Refusals.{not-for-port, not-compactable}
+use lib.ListN.{length}
+use Rattle.numbers.specs.Result.{Result, check, settled}
+use Rattle.numbers.specs.Refusals.{frame-length-bad, not-for-port, not-compactable}
 use Rattle.numbers.specs.After.{OnArea, onArea}
-use Rattle.frame.specs.Front.{Front, unicast, multicast, refusedFront, inner}
-use Rattle.frame.specs.Formats.{longestFrame}
+use Rattle.frame.specs.Front.{addressIn, Front, unicast, multicast, refusedFront, inner}
+use Rattle.frame.specs.Formats.{longestFrame, sizeGood}
+use Rattle.frame.specs.Fields.{Fields}
+use Rattle.fields.specs.Meaning.{frontAt}
 use Rattle.parsing.specs.Meaning.{Within}
 use Rattle.parsing.specs.declared.Parts.{Parts}
-use Rattle.convert.specs.Compaction.{written}
+use Rattle.convert.specs.Compaction.{generalOnly, written}
 use Rattle.convert.specs.declared.ConvertAnswer.{ConvertAnswer}
 use Rattle.convert.specs.declared.ConvertAnswer.the-variants.{Refused, Written}
 
@@ -19,6 +22,10 @@ frontRefusal unicast = 0
 frontRefusal multicast = 0
 frontRefusal refusedFront = not-for-port
 frontRefusal inner = not-compactable
+
+-- `generalFields` behind the test of the settings: only the port address is used
+unfoldable pub fieldsAt : ℕ → List ℕ → Result Fields
+fieldsAt port f = check (sizeGood (length f)) frame-length-bad (generalOnly (frontAt port (addressIn f)) f)
 
 -- what is known of the parts of an accepted frame of n bytes, when its bytes are copied
 pub record Copyable (n : ℕ) (p : Parts) : Type 0 where

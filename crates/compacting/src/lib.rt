@@ -6,8 +6,8 @@ ghost use Rattle.numbers.specs.After.{onArea};
 ghost use Rattle.numbers.specs.Bytes.{laid};
 ghost use Rattle.fields.specs.Meaning.{frontAs};
 ghost use Rattle.parsing.specs.Meaning.{fieldsIn, parsedAs, parsedWithin};
-ghost use Rattle.convert.specs.Compaction.{compactBytes, staysGeneral, generalFields, compacted};
-ghost use Rattle.compacting.specs.Meaning.{frontRefusal, Copyable, compactLength, putOn};
+ghost use Rattle.convert.specs.Compaction.{compactBytes, staysGeneral, compacted};
+ghost use Rattle.compacting.specs.Meaning.{frontRefusal, fieldsAt, Copyable, compactLength, putOn};
 use convert::ConvertAnswer;
 use fields::Front;
 use frame::Settings;
@@ -31,13 +31,10 @@ fn front_refusal(d: Front) -> u8
     }
 }
 
-// The parts of a General frame; a Compact frame in front is 17.
-pub fn general_fields(s: Settings, f: &[u8]) -> Parsed
-    ensures { λ r. ⌜ (parsedAs (now (f .entry)) r ≡ generalFields s (now (f .entry))) × parsedWithin (length (now (f .entry))) r ⌝ }
+// The parts of a General frame, behind the test of the settings; a Compact frame in front is 17.
+pub fn general_fields(port: u64, f: &[u8]) -> Parsed
+    ensures { λ r. ⌜ (parsedAs (now (f .entry)) r ≡ fieldsAt port (now (f .entry))) × parsedWithin (length (now (f .entry))) r ⌝ }
 {
-    if !fields::settings_good(s) {
-        return Parsed::Refused(SETTINGS_BAD);
-    }
     let n = f.len();
     if n < 14 {
         return Parsed::Refused(FRAME_LENGTH_BAD);
@@ -45,7 +42,7 @@ pub fn general_fields(s: Settings, f: &[u8]) -> Parsed
     if 9216 < n {
         return Parsed::Refused(FRAME_LENGTH_BAD);
     }
-    let d = fields::front_of(s.port, numbers::be6(f, 0));
+    let d = fields::front_of(port, numbers::be6(f, 0));
     let e = front_refusal(d);
     if e != 0 {
         return Parsed::Refused(e);
@@ -90,7 +87,10 @@ pub fn put_compact(f: &[u8], p: Parts, out: &mut [u8]) -> ConvertAnswer
 pub fn compact(s: Settings, frame: &[u8], out: &mut [u8]) -> ConvertAnswer
     ensures { λ r. ⌜ onArea r (now (out .exit)) ≡ compacted s (now (frame .entry)) (now (out .entry)) ⌝ }
 {
-    match general_fields(s, frame) {
+    if !fields::settings_good(s) {
+        return ConvertAnswer::Refused(SETTINGS_BAD);
+    }
+    match general_fields(s.port, frame) {
         Parsed::Refused(n) => ConvertAnswer::Refused(n),
         Parsed::Fields(p) => {
             if stays_general(s, numbers::be6(frame, p.dst)) {

@@ -11,7 +11,7 @@ use Rattle.numbers.specs.Tests.{pick, both}
 use Rattle.numbers.specs.Result.{got, check, andThen, settled}
 use Rattle.numbers.specs.After.{OnArea, onArea, areaAs}
 use Rattle.numbers.specs.Bytes.{num, laid}
-use Rattle.frame.specs.Settings.{compactOn}
+use Rattle.frame.specs.Settings.{settingsGood, compactOn}
 use Rattle.frame.specs.declared.Settings.{Settings}
 use Rattle.parsing.specs.Meaning.{fieldsIn, parsedAs}
 use Rattle.parsing.specs.declared.Parts.{Parts}
@@ -23,7 +23,8 @@ use Rattle.convert.specs.declared.ConvertAnswer.{ConvertAnswer}
 use Rattle.convert.specs.declared.ConvertAnswer.the-variants as convert
 use Rattle.convert.specs.declared.SendAnswer.{SendAnswer}
 use Rattle.convert.specs.declared.SendAnswer.the-variants.{Refused, Compacted, Itself}
-use Rattle.compacting.specs.Meaning.{putOn}
+use Rattle.compacting.specs.Meaning.{fieldsAt, putOn}
+use Rattle.compacting.proofs.Laws.{bad-settings, good-settings}
 use Rattle.sending.specs.Meaning.{sendOf, sentWhere}
 
 -- a frame put into the working area, as sending answers it
@@ -38,7 +39,15 @@ put-sent : (b work : List ℕ) → areaAs sendOf (putOn b work) ≡ settled (λ 
 unfolding putOn written
 put-sent b work = put-cases (leb (length b) (length work)) _ b work
 
-module _ (on : Bool) (s : Settings) (f work : List ℕ) (x : Parsed) (ex : parsedAs f x ≡ generalFields s f) where
+module _ (on : Bool) (s : Settings) (f work : List ℕ) (g : Bool) (eg : g ≡ settingsGood s) where
+  pub send-settings : not g ≡ true → onArea (Refused 1) work ≡ sentWhere on s f work
+  unfolding sentWhere sending settled andThen
+  send-settings h = rw (bad-settings s f g eg h)
+
+module _ (on : Bool) (s : Settings) (f work : List ℕ) (g : Bool) (eg : g ≡ settingsGood s) (ok : not g ≡ false) (x : Parsed) (ef : parsedAs f x ≡ fieldsAt (s .port) f) where
+  ex : parsedAs f x ≡ generalFields s f
+  ex = ef ∙ good-settings s f g eg ok
+
   pub send-refused : (n : ℕ) → x ≡ parsed.Refused n → onArea (Refused n) work ≡ sentWhere on s f work
   unfolding sentWhere sending settled andThen
   send-refused n e = rw (← ex, e)

@@ -11,6 +11,7 @@ ghost use Rattle.sending.specs.Claims.{ChosenSent};
 use convert::ConvertAnswer;
 use convert::SendAnswer;
 use frame::Settings;
+use numbers::refusals::SETTINGS_BAD;
 use parsing::Parsed;
 
 // Whether a frame with this inner destination is compacted, `on` being whether the far port has Compact on.
@@ -34,7 +35,10 @@ fn send_of(a: ConvertAnswer) -> SendAnswer
 pub fn send_where(on: bool, s: Settings, frame: &[u8], work: &mut [u8]) -> SendAnswer
     ensures { λ r. ⌜ onArea r (now (work .exit)) ≡ sentWhere on s (now (frame .entry)) (now (work .entry)) ⌝ }
 {
-    match compacting::general_fields(s, frame) {
+    if !fields::settings_good(s) {
+        return SendAnswer::Refused(SETTINGS_BAD);
+    }
+    match compacting::general_fields(s.port, frame) {
         Parsed::Refused(n) => SendAnswer::Refused(n),
         Parsed::Fields(p) => {
             if !may_compact(on, s, numbers::be6(frame, p.dst)) {

@@ -1,10 +1,16 @@
 -- `compacting::compact` meets its contract: each way out is an outcome of the definition.
 -- Assumes nothing.
 use Rattle.parsing.proofs.Places.{dst-room}
-use Rattle.compacting.proofs.Laws.{call-refused, fields-copyable, call-stays, call-put}
+use Rattle.compacting.proofs.Laws.{call-settings, call-refused, fields-copyable, call-stays, call-put}
 use borrow.Author.Needs.{needs}
 use Rattle.compacting.proofs.compact.Statement.{statement}
 use Rattle.compacting.proofs.compact.Tie as tie
+
+settings-good-requires : tie.Need-settings-good-requires
+settings-good-requires c κs = search needs
+
+returns : tie.Need-returns
+returns c = search call-settings
 
 general-fields-requires : tie.Need-general-fields-requires
 general-fields-requires c κs = search needs
@@ -21,32 +27,34 @@ be6-requires c κs = search dst-room
 stays-general-requires : tie.Need-stays-general-requires
 stays-general-requires c κs = search needs
 
-returns : tie.Need-returns
-returns c = search call-stays
+returns-2 : tie.Need-returns-2
+returns-2 c = search call-stays
 
 put-compact-requires : tie.Need-put-compact-requires
 put-compact-requires c κs = search fields-copyable
 
-returns-2 : tie.Need-returns-2
-returns-2 c = search call-refused
+returns-3 : tie.Need-returns-3
+returns-3 c = search call-refused
 
 same-length : tie.Need-same-length
 same-length c = search needs
 
-returns-3 : tie.Need-returns-3
-returns-3 c = search call-put
+returns-4 : tie.Need-returns-4
+returns-4 c = search call-put
 
 pub compact-spec : {M : Type 1} → statement M
 compact-spec =
     tie.close
     (tie.spec
+    settings-good-requires
+    returns
     general-fields-requires
     enum-known-n
     enum-known-p
     be6-requires
     stays-general-requires
-    returns
-    put-compact-requires
     returns-2
+    put-compact-requires
+    returns-3
     same-length
-    returns-3)
+    returns-4)

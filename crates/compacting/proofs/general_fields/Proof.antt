@@ -1,21 +1,15 @@
 -- `compacting::general_fields` meets its contract: each way out is an outcome of the definition.
 -- Assumes nothing.
-use Rattle.compacting.proofs.Laws.{bad-settings, too-short, too-long, not-general, is-general}
+use Rattle.compacting.proofs.Laws.{too-short, too-long, not-general, is-general}
 use borrow.Author.Needs.{needs}
 use Rattle.compacting.proofs.general_fields.Statement.{statement}
 use Rattle.compacting.proofs.general_fields.Tie as tie
 
-settings-good-requires : tie.Need-settings-good-requires
-settings-good-requires c κs = search needs
-
 returns : tie.Need-returns
-returns c = (search bad-settings, tt)
+returns c = (search too-short, tt)
 
 returns-2 : tie.Need-returns-2
-returns-2 c = (search too-short, tt)
-
-returns-3 : tie.Need-returns-3
-returns-3 c = (search too-long, tt)
+returns-2 c = (search too-long, tt)
 
 be6-requires : tie.Need-be6-requires
 be6-requires c κs = search needs
@@ -26,26 +20,24 @@ front-of-requires c κs = search needs
 front-refusal-requires : tie.Need-front-refusal-requires
 front-refusal-requires c κs = search needs
 
-returns-4 : tie.Need-returns-4
-returns-4 c = (search not-general, tt)
+returns-3 : tie.Need-returns-3
+returns-3 c = (search not-general, tt)
 
 read-general-requires : tie.Need-read-general-requires
 read-general-requires c κs = search needs
 
-returns-5 : tie.Need-returns-5
-returns-5 c = (search is-general, search needs)
+returns-4 : tie.Need-returns-4
+returns-4 c = (search is-general, search needs)
 
 pub general-fields-spec : {M : Type 1} → statement M
 general-fields-spec =
     tie.close
     (tie.spec
-    settings-good-requires
     returns
     returns-2
-    returns-3
     be6-requires
     front-of-requires
     front-refusal-requires
-    returns-4
+    returns-3
     read-general-requires
-    returns-5)
+    returns-4)

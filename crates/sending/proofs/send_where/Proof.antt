@@ -2,10 +2,16 @@
 -- Assumes nothing.
 use Rattle.parsing.proofs.Places.{dst-room}
 use Rattle.compacting.proofs.Laws.{fields-copyable}
-use Rattle.sending.proofs.Laws.{send-refused, send-itself, send-put}
+use Rattle.sending.proofs.Laws.{send-settings, send-refused, send-itself, send-put}
 use borrow.Author.Needs.{needs}
 use Rattle.sending.proofs.send_where.Statement.{statement}
 use Rattle.sending.proofs.send_where.Tie as tie
+
+settings-good-requires : tie.Need-settings-good-requires
+settings-good-requires c κs = search needs
+
+returns : tie.Need-returns
+returns c = search send-settings
 
 general-fields-requires : tie.Need-general-fields-requires
 general-fields-requires c κs = search needs
@@ -22,8 +28,8 @@ be6-requires c κs = search dst-room
 may-compact-requires : tie.Need-may-compact-requires
 may-compact-requires c κs = search needs
 
-returns : tie.Need-returns
-returns c = search send-itself
+returns-2 : tie.Need-returns-2
+returns-2 c = search send-itself
 
 put-compact-requires : tie.Need-put-compact-requires
 put-compact-requires c κs = search fields-copyable
@@ -31,27 +37,29 @@ put-compact-requires c κs = search fields-copyable
 send-of-requires : tie.Need-send-of-requires
 send-of-requires c κs = search needs
 
-returns-2 : tie.Need-returns-2
-returns-2 c = search send-refused
+returns-3 : tie.Need-returns-3
+returns-3 c = search send-refused
 
 same-length : tie.Need-same-length
 same-length c = search needs
 
-returns-3 : tie.Need-returns-3
-returns-3 c = search send-put
+returns-4 : tie.Need-returns-4
+returns-4 c = search send-put
 
 pub send-where-spec : {M : Type 1} → statement M
 send-where-spec =
     tie.close
     (tie.spec
+    settings-good-requires
+    returns
     general-fields-requires
     enum-known-n
     enum-known-p
     be6-requires
     may-compact-requires
-    returns
+    returns-2
     put-compact-requires
     send-of-requires
-    returns-2
+    returns-3
     same-length
-    returns-3)
+    returns-4)
