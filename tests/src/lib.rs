@@ -1,7 +1,6 @@
 //! Comparison of the library with a second implementation, through the C boundary.
 //!
-//! Each test file belongs to one group of calls and refers to no other exports of the library, so
-//! that it links as soon as those are there:
+//! The library is called by the package in rust/. Each test file belongs to one group of calls:
 //!
 //! | file | calls |
 //! |---|---|
@@ -11,10 +10,13 @@
 //! | tests/receive.rs | receive |
 //! | tests/convert.rs | compact, expand, send |
 //! | tests/lists.rs | receive, compact, lookup, age, spoilt: whole call lists |
+//! | tests/words.rs | all, with typed answers; words that are no answers |
+//! | tests/replay.rs | flush: a good one cut at each of its lengths |
+//! | tests/vectors.rs | none: the files of the program `replay` |
 //!
 //! Environment: `SHINGLEBAR_SEED` the seed, `SHINGLEBAR_CASES` the number of cases of each call,
-//! `SHINGLEBAR_CASE` the only case to run, and for build.rs `SHINGLEBAR_ARCHIVE_DIR` the folder of
-//! libshinglebar.a. Seeds and counts go to standard error, past the capture of the test runner.
+//! `SHINGLEBAR_CASE` the only case to run, and for rust/build.rs `SHINGLEBAR_ARCHIVE_DIR` the folder
+//! of libshinglebar.a. Seeds and counts go to standard error, past the capture of the test runner.
 
 #![deny(unsafe_code)]
 
@@ -22,6 +24,7 @@ pub mod boundary;
 pub mod c_program;
 pub mod compare;
 pub mod generate;
+pub mod lend;
 pub mod random;
 pub mod reference;
 pub mod run;
