@@ -10,6 +10,7 @@
 //! | tests/receive.rs | receive |
 //! | tests/convert.rs | compact, expand, send |
 //! | tests/lists.rs | receive, compact, lookup, age, spoilt: whole call lists |
+//! | tests/pages.rs | all, with areas against memory that cannot be accessed |
 //! | tests/words.rs | all, with typed answers; words that are no answers |
 //! | tests/replay.rs | flush: a good one cut at each of its lengths |
 //! | tests/vectors.rs | none: the files of the program `replay` |
@@ -25,6 +26,7 @@ pub mod c_program;
 pub mod compare;
 pub mod generate;
 pub mod lend;
+pub mod pages;
 pub mod random;
 pub mod reference;
 pub mod run;
