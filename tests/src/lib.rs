@@ -12,6 +12,7 @@
 //! | tests/lists.rs | receive, compact, lookup, age, spoilt: whole call lists |
 //! | tests/pages.rs | all, with areas against memory that cannot be accessed |
 //! | tests/words.rs | all, with typed answers; words that are no answers |
+//! | tests/fuzz.rs | all, by the fuzz target of fuzz/ on its corpus |
 //! | tests/replay.rs | flush: a good one cut at each of its lengths |
 //! | tests/vectors.rs | none: the files of the program `replay` |
 //!
@@ -24,6 +25,7 @@
 pub mod boundary;
 pub mod c_program;
 pub mod compare;
+pub mod corpus;
 pub mod generate;
 pub mod lend;
 pub mod pages;
