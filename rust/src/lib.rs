@@ -222,3 +222,20 @@ pub fn age(seconds: u16, table: &mut [u8]) -> Result<Aged, Refusal> {
 pub fn spoilt(table: &[u8]) -> Result<Spoilt, Refusal> {
     answered(raw::spoilt(table))
 }
+
+#[cfg(test)]
+mod tests {
+    use super::*;
+
+    #[test]
+    fn a_word_of_the_call_is_its_answer() {
+        assert_eq!(answered(67), Ok(Flushed { count: 0 }));
+        assert_eq!(answered::<Flushed>(15), Err(Refusal::Payload));
+    }
+
+    #[test]
+    #[should_panic(expected = "libshinglebar.a: 0x0000000000000044 is no answer of this call")]
+    fn an_unknown_word_is_not_taken_for_an_answer() {
+        let _ = answered::<Received>(68);
+    }
+}

@@ -225,7 +225,7 @@ impl Access {
         0x45, 0x00,
     ];
 
-    /// Makes the access.
+    /// Makes the access. The process dies of it, but for the first.
     pub fn make(self) {
         let mut region = Region::new();
         // A byte short of a free record, of which every byte counts.
@@ -237,12 +237,7 @@ impl Access {
                 Access::AllThatIsLent => {
                     for side in [Side::Before, Side::Behind] {
                         region.lend(side, &table).fill(1);
-                        let sum: u32 = region
-                            .lend_to_read(side, &table)
-                            .iter()
-                            .map(|b| u32::from(*b))
-                            .sum();
-                        std::hint::black_box(sum);
+                        assert_eq!(region.lend_to_read(side, &table)[..], table);
                     }
                 }
                 Access::ReadBehind => {
