@@ -1,5 +1,12 @@
 # Shinglebar. `make test` is the gate that every change passes.
-.PHONY: test fuzz fuzzer bench archive vectors fmt
+.PHONY: test run driver lab fuzz fuzzer bench archive vectors captures outside outside-write fmt
+
+# What `make run` says first: the minutes that `rt staticlib shinglebar` takes from nothing on two cores.
+PROVING_MINUTES = 3
+
+ARCHIVE = target/staticlib/libshinglebar.a
+DRIVER = target/driver/shinglebar-port
+CFLAGS = -O2 -g
 
 # Proves every crate from nothing, tries every must-fail edit and runs the tests.
 test:
@@ -8,6 +15,27 @@ test:
 # Proves the crates and writes the static library target/staticlib/libshinglebar.a.
 archive:
 	rt staticlib shinglebar
+
+$(ARCHIVE):
+	rt staticlib shinglebar
+
+# Builds everything and runs the port driver on the captures of driver/data.
+run:
+	@echo "make run: proving the library takes about $(PROVING_MINUTES) minutes, the rest a few seconds"
+	@$(MAKE) --no-print-directory archive
+	@$(MAKE) --no-print-directory driver
+	@driver/run.sh
+
+# Builds the port driver; proves the library only where there is no archive.
+driver: $(DRIVER)
+
+$(DRIVER): $(wildcard driver/*.c driver/*.h) include/shinglebar.h $(ARCHIVE)
+	@mkdir -p $(@D)
+	$(CC) -std=c99 $(CFLAGS) -Wall -Wextra -Werror -pedantic -Iinclude driver/*.c $(ARCHIVE) -o $@
+
+# Two drivers on a link between two network namespaces. Needs root and iproute2; status 77 where namespaces are not permitted.
+lab: driver
+	@driver/lab.sh
 
 # Compares the library with the second implementation on a million random inputs for each call. SHINGLEBAR_SEED and SHINGLEBAR_CASES
 # set the seed and the count.
@@ -18,11 +46,11 @@ fuzz: archive
 fuzzer: archive
 	mkdir -p fuzz/target/corpus
 	clang -std=c99 -O2 -g -fsanitize=fuzzer -Wall -Wextra -Werror -I include fuzz/boundary.c fuzz/mutator.c \
-	    target/staticlib/libshinglebar.a -o fuzz/target/boundary
+	    $(ARCHIVE) -o fuzz/target/boundary
 	fuzz/target/boundary -max_total_time=$${SHINGLEBAR_FUZZ_SECONDS:-60} -max_len=16384 -dict=fuzz/boundary.dict \
 	    -artifact_prefix=fuzz/target/ -print_final_stats=1 fuzz/target/corpus fuzz/corpus
 
-# Times the calls beside hand-written Rust versions of them, on the same bytes in the same run.
+# Times the calls beside hand-written Rust versions of them, on the same bytes in the same run. Writes docs/BENCH.md and its plots.
 bench: archive
 	cd bench && cargo run --release --offline --locked
 
@@ -30,6 +58,22 @@ bench: archive
 # them the first inputs of the fuzz target.
 vectors: archive
 	cd tests && cargo run --offline --locked --bin vectors && cargo run --offline --locked --bin corpus
+
+# Writes the captures of the port driver, driver/data/*.pcap.
+captures: $(ARCHIVE)
+	cd tests && cargo run --offline --locked --bin captures
+
+# Compares what tshark reads of the frames in tests/outside with what is stored there. It needs tshark and nothing else.
+outside:
+	@read=$$(tests/outside/dissect) || exit 1; \
+	printf '%s\n' "$$read" | diff tests/outside/tshark.txt - || \
+	  { echo "outside: $$(tshark --version 2>/dev/null | head -n 1) reads the frames otherwise than tests/outside/tshark.txt says" >&2; exit 1; }
+	@echo "outside: tshark reads the frames as stored"
+
+# Writes those frames again through the library, and what tshark reads of them.
+outside-write: archive
+	cd tests && cargo run --offline --locked --bin outside
+	tests/outside/dissect >tests/outside/tshark.txt
 
 # Lays out the Rattle and antt files.
 fmt:

@@ -4,6 +4,8 @@ use crate::random::Random;
 
 /// The slots of the longest table.
 pub const SLOTS: usize = 4096;
+/// The slots of the tables along a curve.
+pub const SIZES: [usize; 4] = [64, 256, 1024, SLOTS];
 pub const RECORD: usize = 14;
 
 pub const LEARNED: u8 = 1;

@@ -8,13 +8,19 @@
 //! | `baseline` | the hand-written versions, complete calls with the same signatures |
 //! | `inputs` | tables, frames and payloads |
 //! | `buffer` | bytes at fixed places in memory |
-//! | `measure` | the check, the timing and the report |
-//! | `stages` | the rows, a module for each cargo feature |
+//! | `measure` | the check and the timing |
+//! | `report` | the cases with their times, the table and the page docs/BENCH.md |
+//! | `plot` | the plots of that page |
+//! | `machine` | where and when it ran |
+//! | `stages` | the cases, a module for each cargo feature |
 
 pub mod baseline;
 pub mod buffer;
 pub mod inputs;
 pub mod library;
+pub mod machine;
 pub mod measure;
+pub mod plot;
 pub mod random;
+pub mod report;
 pub mod stages;

@@ -1,10 +1,34 @@
-//! Prints the report. An argument limits it to the rows whose names contain that text.
+//! Prints the report and writes docs/BENCH.md and its plots. An argument limits it to the rows whose
+//! names contain that text; then nothing is written.
 
-use shinglebar_bench::measure::Report;
+use std::fs;
+use std::path::Path;
+
+use shinglebar_bench::plot;
+use shinglebar_bench::report::Report;
 use shinglebar_bench::stages;
 
+const PASSES: usize = 5;
+
 fn main() {
-    let report = Report::new(std::env::args().nth(1));
-    report.heading();
-    stages::run(&report);
+    let filter = std::env::args().nth(1);
+    let whole = filter.is_none();
+    let report = Report::new(filter);
+    for pass in 1..=PASSES {
+        eprintln!("bench: pass {pass} of {PASSES}");
+        stages::run(&report);
+    }
+    println!("{}\n{}", report.heading(PASSES), report.table());
+    if whole {
+        let folder = Path::new(env!("CARGO_MANIFEST_DIR")).join("../docs");
+        for (name, text) in [
+            ("BENCH.md", report.page(PASSES)),
+            ("bench-ratio.svg", plot::ratios(&report.rows())),
+            ("bench-size.svg", plot::curves(&report.curves())),
+        ] {
+            let file = folder.join(name);
+            fs::write(&file, text).unwrap_or_else(|error| panic!("{}: {error}", file.display()));
+            println!("written: docs/{name}");
+        }
+    }
 }

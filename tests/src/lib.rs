@@ -9,12 +9,14 @@
 //! | tests/flush.rs | flush |
 //! | tests/receive.rs | receive |
 //! | tests/convert.rs | compact, expand, send |
+//! | tests/driver.rs | all, through the port driver |
 //! | tests/lists.rs | receive, compact, lookup, age, spoilt: whole call lists |
 //! | tests/pages.rs | all, with areas against memory that cannot be accessed |
 //! | tests/words.rs | all, with typed answers; words that are no answers |
 //! | tests/fuzz.rs | all, by the fuzz target of fuzz/ on its corpus |
 //! | tests/replay.rs | flush: a good one cut at each of its lengths |
 //! | tests/vectors.rs | none: the files of the program `replay` |
+//! | tests/outside.rs | compact, expand, receive, lookup: what tshark says of the frames |
 //!
 //! Environment: `SHINGLEBAR_SEED` the seed, `SHINGLEBAR_CASES` the number of cases of each call,
 //! `SHINGLEBAR_CASE` the only case to run, and for rust/build.rs `SHINGLEBAR_ARCHIVE_DIR` the folder
@@ -24,10 +26,12 @@
 
 pub mod boundary;
 pub mod c_program;
+pub mod captures;
 pub mod compare;
 pub mod corpus;
 pub mod generate;
 pub mod lend;
+pub mod outside;
 pub mod pages;
 pub mod random;
 pub mod reference;

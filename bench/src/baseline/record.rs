@@ -32,9 +32,11 @@ pub fn nickname_good(nickname: u64) -> bool {
     nickname.wrapping_sub(1) < 0xFFBF
 }
 
-/// Whether a label with its kind is one that a good record can hold.
+/// Whether a label with its kind is one that a good record can hold. With the kind flipped, the good
+/// ones are all below VLAN FFF but VLAN 0: two tests that no mix of kinds makes hard to predict.
 pub fn label_good(label: u32) -> bool {
-    (label.wrapping_sub(1) < 0xFFE) | (label >= FINE)
+    let flipped = label ^ FINE;
+    flipped < FINE + 0xFFF && flipped != FINE
 }
 
 /// The eight bytes of a slot from a place on, as they lie in memory: one load.

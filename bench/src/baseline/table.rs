@@ -47,10 +47,35 @@ impl Key {
     /// The lowest slot with the label and address.
     #[inline(always)]
     fn find(&self, slots: &[Slot]) -> Option<usize> {
-        slots
-            .iter()
-            .position(|slot| eight::<1>(slot) == self.middle && self.is_in(slot))
+        lowest(
+            slots,
+            |slot| eight::<1>(slot) == self.middle,
+            |slot| self.is_in(slot),
+        )
     }
+}
+
+/// The slots of a round: one jump back for eight comparisons.
+const ROUND: usize = 8;
+
+/// The lowest slot that passes both tests. The first is a single comparison that few slots pass.
+#[inline(always)]
+fn lowest(
+    slots: &[Slot],
+    first: impl Fn(&Slot) -> bool,
+    second: impl Fn(&Slot) -> bool,
+) -> Option<usize> {
+    let (rounds, rest) = slots.as_chunks::<ROUND>();
+    let both = |slot: &Slot| first(slot) && second(slot);
+    for (number, round) in rounds.iter().enumerate() {
+        if round.iter().any(&first) {
+            if let Some(place) = round.iter().position(both) {
+                return Some(number * ROUND + place);
+            }
+        }
+    }
+    let place = rest.iter().position(both)?;
+    Some(rounds.len() * ROUND + place)
 }
 
 #[inline(never)]
@@ -145,7 +170,7 @@ pub fn learn(
         slots[slot] = record;
         return Learning::Refreshed;
     }
-    match slots.iter().position(is_free) {
+    match lowest(slots, |slot| eight::<0>(slot) == 0, is_free) {
         Some(slot) => {
             slots[slot] = record;
             Learning::Learned

@@ -4,7 +4,8 @@ use crate::baseline;
 use crate::buffer::Buffer;
 use crate::inputs::{Format, Frame, Settings, SETTINGS};
 use crate::library::{self, Compact, Expand};
-use crate::measure::{Areas, Pair, Report};
+use crate::measure::{Areas, Pair};
+use crate::report::Report;
 
 const COMPACT: Pair<Compact> = Pair {
     ours: library::shinglebar_compact,

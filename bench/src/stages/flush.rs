@@ -3,11 +3,12 @@
 use crate::baseline;
 use crate::buffer::Buffer;
 use crate::inputs::{
-    address, entries, fine, mac, table, vlan_blocks, Entry, Label, Payload, NICKNAMES,
+    address, entries, fine, mac, table, vlan_blocks, Entry, Label, Payload, NICKNAMES, SIZES,
 };
 use crate::library::{self, Flush};
-use crate::measure::{Areas, Pair, Report};
+use crate::measure::{Areas, Lent, Pair};
 use crate::random::Random;
+use crate::report::{Axis, Curve, Report};
 
 const FLUSH: Pair<Flush> = Pair {
     ours: library::shinglebar_flush,
@@ -27,6 +28,9 @@ pub fn run(report: &Report) {
     for worst in &WORST {
         worst.row(report);
     }
+    growth_with_table(report);
+    TYPE_4_LABELS.growth(report, "flush: type 4 labels");
+    TYPE_1_BLOCKS.growth(report, "flush: type 1 VLAN blocks");
 }
 
 fn row(report: &Report, name: &str, payload: &[u8], entries: &[Entry], clears: bool) {
@@ -36,17 +40,48 @@ fn row(report: &Report, name: &str, payload: &[u8], entries: &[Entry], clears: b
         FLUSH,
         Areas::new(&table(entries), &[]),
         |word| word & 0xFF == 67 && (word != NONE_CLEARED) == clears,
-        // SAFETY: the areas do not overlap and are as long as said.
-        |flush, lent| unsafe {
-            flush(
-                u32::from(INGRESS),
-                payload.as_ptr(),
-                payload.len(),
-                lent.table.as_mut_ptr(),
-                lent.table.len(),
-            )
-        },
+        |flush, lent| call(flush, payload, lent),
     );
+}
+
+#[inline(always)]
+fn call(flush: Flush, payload: &[u8], lent: &mut Lent) -> u64 {
+    // SAFETY: the areas do not overlap and are as long as said.
+    unsafe {
+        flush(
+            u32::from(INGRESS),
+            payload.as_ptr(),
+            payload.len(),
+            lent.table.as_mut_ptr(),
+            lent.table.len(),
+        )
+    }
+}
+
+/// The block of the ordinary row, beside records of which none is in it: the call can be repeated.
+fn growth_with_table(report: &Report) {
+    let mut entries = entries(&mut Random::new(4));
+    for entry in &mut entries {
+        if let Label::Vlan(vlan @ 0x100..=0x4FF) = entry.label {
+            entry.label = Label::Vlan(vlan + 0x400);
+        }
+    }
+    let payload = Payload::new(&NICKNAMES[3..4]).blocks(&[(0x100, 0x4FF)]);
+    let payload: &[u8] = &Buffer::input(&payload);
+    let curve = Curve {
+        name: "flush: one VLAN block, none in it",
+        axis: Axis::Slots,
+    };
+    for slots in SIZES {
+        report.point(
+            curve,
+            slots,
+            FLUSH,
+            Areas::new(&table(&entries[..slots]), &[]),
+            |word| word == NONE_CLEARED,
+            |flush, lent| call(flush, payload, lent),
+        );
+    }
 }
 
 fn ordinary_rows(report: &Report) {
@@ -168,16 +203,30 @@ struct Worst {
 }
 
 const WORST_LENGTH: usize = 9_000;
+/// The lengths of the messages along a curve.
+const LENGTHS: [usize; 5] = [100, 300, 1_000, 3_000, WORST_LENGTH];
+
+const TYPE_4_LABELS: Worst = Worst {
+    name: "type 4 labels",
+    kind: 4,
+    number: |random| random.between(0, 0xFF_FFFF),
+    element: |number| fine(number as u32).to_vec(),
+    elements: 85,
+    place: place_fine,
+};
+
+/// VLANs of the upper half; most records are of the lower.
+const TYPE_1_BLOCKS: Worst = Worst {
+    name: "type 1 blocks",
+    kind: 1,
+    number: |random| random.between(0x800, 0xFF0),
+    element: |number| vlan_blocks(&[(number as u16, number as u16 + 3)]),
+    elements: 63,
+    place: |entry, number| entry.label = Label::Vlan(number as u16),
+};
 
 const WORST: [Worst; 6] = [
-    Worst {
-        name: "type 4 labels",
-        kind: 4,
-        number: |random| random.between(0, 0xFF_FFFF),
-        element: |number| fine(number as u32).to_vec(),
-        elements: 85,
-        place: place_fine,
-    },
+    TYPE_4_LABELS,
     Worst {
         name: "type 3 blocks",
         kind: 3,
@@ -210,15 +259,7 @@ const WORST: [Worst; 6] = [
         elements: 1,
         place: place_fine,
     },
-    // VLANs of the upper half; most records are of the lower.
-    Worst {
-        name: "type 1 blocks",
-        kind: 1,
-        number: |random| random.between(0x800, 0xFF0),
-        element: |number| vlan_blocks(&[(number as u16, number as u16 + 3)]),
-        elements: 63,
-        place: |entry, number| entry.label = Label::Vlan(number as u16),
-    },
+    TYPE_1_BLOCKS,
 ];
 
 fn place_fine(entry: &mut Entry, number: u64) {
@@ -227,24 +268,52 @@ fn place_fine(entry: &mut Entry, number: u64) {
 
 impl Worst {
     fn row(&self, report: &Report) {
+        let (payload, entries) = self.message(WORST_LENGTH);
+        let name = format!("flush, worst: 9,000 bytes of {}", self.name);
+        row(report, &name, &payload, &entries, true);
+    }
+
+    fn growth(&self, report: &Report, name: &'static str) {
+        let curve = Curve {
+            name,
+            axis: Axis::PayloadBytes,
+        };
+        for length in LENGTHS {
+            let (payload, entries) = self.message(length);
+            let payload: &[u8] = &Buffer::input(&payload);
+            report.point(
+                curve,
+                length,
+                FLUSH,
+                Areas::new(&table(&entries), &[]),
+                |word| word & 0xFF == 67 && word != NONE_CLEARED,
+                |flush, lent| call(flush, payload, lent),
+            );
+        }
+    }
+
+    /// A payload of up to so many bytes, and the records.
+    fn message(&self, length: usize) -> (Vec<u8>, Vec<Entry>) {
         let mut random = Random::new(6);
         let mut tlvs: Vec<Tlv> = match self.kind {
             7 | 8 => vec![(6, Vec::new())],
             _ => Vec::new(),
         };
         let mut numbers = Vec::new();
-        let mut left = WORST_LENGTH - 4;
+        let mut left = length - 4;
+        let element_length = (self.element)(0).len();
         loop {
-            let chosen: Vec<u64> = (0..self.elements)
+            let room = left.saturating_sub(2) / element_length;
+            let chosen: Vec<u64> = (0..self.elements.min(room))
                 .map(|_| (self.number)(&mut random))
                 .collect();
+            if chosen.is_empty() {
+                break;
+            }
             let value: Vec<u8> = chosen
                 .iter()
                 .flat_map(|number| (self.element)(*number))
                 .collect();
-            if left < 2 + value.len() {
-                break;
-            }
             left -= 2 + value.len();
             tlvs.push((self.kind, value));
             numbers.extend(chosen);
@@ -261,8 +330,6 @@ impl Worst {
             };
             (self.place)(entry, number);
         }
-        let payload = Payload::new(&[]).tlvs(&tlvs);
-        let name = format!("flush, worst: 9,000 bytes of {}", self.name);
-        row(report, &name, &payload, &entries, true);
+        (Payload::new(&[]).tlvs(&tlvs), entries)
     }
 }

@@ -1,6 +1,6 @@
-//! The rows, a module for each cargo feature.
+//! The cases, a module for each cargo feature.
 
-use crate::measure::Report;
+use crate::report::Report;
 
 #[cfg(feature = "convert")]
 mod convert;

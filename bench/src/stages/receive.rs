@@ -4,11 +4,12 @@ use crate::baseline;
 use crate::buffer::Buffer;
 use crate::inputs::{
     entries, mac, table, Entry, Format, Frame, Label, Settings, DEFAULT_SECONDS, LEARNED, RECORD,
-    SETTINGS, SLOTS,
+    SETTINGS, SIZES, SLOTS,
 };
 use crate::library::{self, Receive};
-use crate::measure::{Areas, Pair, Report};
+use crate::measure::{Areas, Lent, Pair};
 use crate::random::Random;
+use crate::report::{Axis, Curve, Report};
 
 const RECEIVE: Pair<Receive> = Pair {
     ours: library::shinglebar_receive,
@@ -44,6 +45,7 @@ pub fn run(report: &Report) {
     rows.delivery();
     rows.onward();
     rows.refused();
+    rows.growth();
 }
 
 impl Rows<'_> {
@@ -140,14 +142,40 @@ impl Rows<'_> {
 
     fn deliver(&self, name: &str, format: Format, length: usize, table: &[u8], learning: Learning) {
         let bytes = self.frame.bytes(format, length);
+        let delivered = self.delivered(format, length, learning);
+        one(self.report, name, SETTINGS, &bytes, table, delivered);
+    }
+
+    /// The word of a delivery.
+    fn delivered(&self, format: Format, length: usize, learning: Learning) -> u64 {
         // What the native frame does not have: 22F3, header and label, and the outer addresses.
         let native = match format {
             Format::General => length - 24,
             Format::Compact => length - 12,
         };
-        let delivered =
-            65 | (native as u64) << 8 | (learning as u64) << 24 | u64::from(self.frame.vlan) << 40;
-        one(self.report, name, SETTINGS, &bytes, table, delivered);
+        65 | (native as u64) << 8 | (learning as u64) << 24 | u64::from(self.frame.vlan) << 40
+    }
+
+    /// A source that is not known, and a full table.
+    fn growth(&self) {
+        let bytes = self.frame.bytes(Format::General, 64);
+        let frame: &[u8] = &Buffer::input(&bytes);
+        let delivered = self.delivered(Format::General, 64, Learning::Full);
+        let curve = Curve {
+            name: "receive: source unknown, full",
+            axis: Axis::Slots,
+        };
+        for slots in SIZES {
+            let start = Areas::new(&self.full[..slots * RECORD], &[0xEE; 9216]);
+            self.report.point(
+                curve,
+                slots,
+                RECEIVE,
+                start,
+                |word| word == delivered,
+                |receive, lent| call(receive, SETTINGS, frame, lent),
+            );
+        }
     }
 }
 
@@ -158,22 +186,27 @@ fn one(report: &Report, name: &str, settings: Settings, bytes: &[u8], table: &[u
         RECEIVE,
         Areas::new(table, &[0xEE; 9216]),
         |word| word == expected,
-        // SAFETY: the areas do not overlap and are as long as said.
-        |receive, lent| unsafe {
-            receive(
-                settings.port,
-                settings.inner,
-                settings.nickname,
-                settings.compact,
-                settings.confidence,
-                settings.seconds,
-                frame.as_ptr(),
-                frame.len(),
-                lent.table.as_mut_ptr(),
-                lent.table.len(),
-                lent.out.as_mut_ptr(),
-                lent.out.len(),
-            )
-        },
+        |receive, lent| call(receive, settings, frame, lent),
     );
+}
+
+#[inline(always)]
+fn call(receive: Receive, settings: Settings, frame: &[u8], lent: &mut Lent) -> u64 {
+    // SAFETY: the areas do not overlap and are as long as said.
+    unsafe {
+        receive(
+            settings.port,
+            settings.inner,
+            settings.nickname,
+            settings.compact,
+            settings.confidence,
+            settings.seconds,
+            frame.as_ptr(),
+            frame.len(),
+            lent.table.as_mut_ptr(),
+            lent.table.len(),
+            lent.out.as_mut_ptr(),
+            lent.out.len(),
+        )
+    }
 }

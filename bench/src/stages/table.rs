@@ -1,10 +1,11 @@
 //! Lookup, ageing, the lowest spoilt slot.
 
 use crate::baseline;
-use crate::inputs::{entries, mac, table, Entry, CONFIGURED, SLOTS};
+use crate::inputs::{entries, mac, table, Entry, CONFIGURED, SIZES, SLOTS};
 use crate::library::{self, Age, Lookup, Spoilt};
-use crate::measure::{Areas, Pair, Report};
+use crate::measure::{Areas, Pair};
 use crate::random::Random;
+use crate::report::{Axis, Curve, Report};
 
 const LOOKUP: Pair<Lookup> = Pair {
     ours: library::shinglebar_lookup,
@@ -36,6 +37,9 @@ pub fn run(report: &Report) {
         // SAFETY: the area is as long as said.
         |spoilt, lent| unsafe { spoilt(lent.table.as_ptr(), lent.table.len()) },
     );
+    for slots in SIZES {
+        growth(report, &entries[..slots]);
+    }
 }
 
 fn lookup_rows(report: &Report, entries: &[Entry]) {
@@ -84,4 +88,47 @@ fn age_rows(report: &Report, entries: &[Entry]) {
     row("age: 4,096 learned, seconds left", 10, entries);
     row("age: 4,096 learned, all become free", 8191, entries);
     row("age: 4,096 configured", 10, &configured);
+}
+
+/// A miss, ageing by 0 seconds, which changes no record but reads and writes each, and none spoilt.
+fn growth(report: &Report, entries: &[Entry]) {
+    let point = |name| Curve {
+        name,
+        axis: Axis::Slots,
+    };
+    let areas = || Areas::new(&table(entries), &[]);
+    let key = Entry {
+        mac: mac(&mut Random::new(2)),
+        ..entries[0]
+    };
+    let (kind, label) = (key.label.kind(), key.label.number());
+    report.point(
+        point("lookup: miss"),
+        entries.len(),
+        LOOKUP,
+        areas(),
+        |word| word == NONE,
+        // SAFETY: the area is as long as said.
+        |lookup, lent| unsafe {
+            lookup(kind, label, key.mac, lent.table.as_ptr(), lent.table.len())
+        },
+    );
+    report.point(
+        point("age: all learned, by 0"),
+        entries.len(),
+        AGE,
+        areas(),
+        |word| word == DONE,
+        // SAFETY: the area is as long as said.
+        |age, lent| unsafe { age(0, lent.table.as_mut_ptr(), lent.table.len()) },
+    );
+    report.point(
+        point("spoilt: none"),
+        entries.len(),
+        SPOILT,
+        areas(),
+        |word| word == NONE,
+        // SAFETY: the area is as long as said.
+        |spoilt, lent| unsafe { spoilt(lent.table.as_ptr(), lent.table.len()) },
+    );
 }

@@ -1,25 +1,31 @@
 -- Laws of ageing a slot: which slots stay, and that only the last two bytes change where seconds are left.
 -- Assumes nothing.
-use Prim.Native.Nat.{ℕ, _+_, _-_, _*_, _%_, _^_, _<_, _≤_}
+use Prim.Native.Nat.{ℕ, zero, suc, _+_, _-_, _*_, _%_, _^_, _<_, _≤_}
 use mathlib.Core.Bool.{Bool, true, false}
 use mathlib.Core.List.{List, _++_, append-assoc}
 use mathlib.Core.Path.{_≡_, refl, sym, ap, _∙_}
+use native.Mathlib.Decide.{ℕ-discrete}
+use native.Mathlib.Nat.{zero-add, add-sub-cancel-left}
 use native.Mathlib.Omega.{arith}
-use lib.ListN.{length, take, drop}
+use lib.ListN.{length, take, drop, length-take, length-drop, take-append-drop}
 use lib.Seq.{drop-drop}
 use borrow.Author.Tests.{le-leb, lt-leb}
 use Rattle.numbers.specs.Tests.{pick}
 use Rattle.numbers.specs.Result.{check, settled}
 use Rattle.numbers.specs.After.{onTable}
 use Rattle.numbers.specs.Bytes.{num, bytesOf}
+use Rattle.numbers.proofs.Lists.{part-suffix}
 use Rattle.numbers.proofs.Truth.{not-true-false}
 use Rattle.numbers.specs.Bytes.{AreBytes}
 use Rattle.numbers.proofs.Bytes.{num-add, num-part-lt, bytesOf-join, bytesOf-part}
 use Rattle.table.specs.Record.{recordBytes, recordOf, stateOf, secondsOf, unpacked, isLearned}
-use Rattle.table.specs.Slots.{slotBytes, tableGood, slotsOf, freed, onSlots}
+use Rattle.table.specs.Slots.{slotBytes, tableGood, slotsOf, slotAt, freed, onSlots}
 use Rattle.table.specs.Table.{agedSlot, aged}
 use Rattle.table.specs.declared.AgeAnswer.the-variants as age
-use Rattle.records.proofs.Laws.{learned-state}
+use Rattle.table.proofs.Slots.{drop-onSlots, on-step}
+use Rattle.table.proofs.Unique.{aged-keeps}
+use Rattle.records.specs.Rounds.{InLearnedState, Passed}
+use Rattle.records.proofs.Laws.{record-near, unpacked-near, learned-state}
 
 module _ (s : ℕ) (r : List ℕ) where
   pub age-kept : (l : Bool) → l ≡ isLearned (unpacked r) → l ≡ false → r ≡ agedSlot s r
@@ -52,6 +58,55 @@ module _ (s : ℕ) (r : List ℕ) where
       age-less more x e =
           rw (learned, lt-leb (secondsOf (recordOf r)) s (omega arith), less-two more, e, drop-drop 2 12 r)
           (sym (append-assoc (take 12 r) (bytesOf 2 (w - s)) (drop 14 r)))
+
+-- ---- slot after slot, with slot i lent as `&mut t[a..e]`, a = 14 * i, e = a + 14
+
+pub length-at : (a : ℕ) (u : List ℕ) → a + slotBytes ≤ length u → length (take (a + slotBytes - a) (drop a u)) ≡ slotBytes
+length-at a u h = simp (length-take, length-drop) (omega arith)
+
+pub learned-lent : (a : ℕ) (u : List ℕ) → unpacked (take (a + slotBytes - a) (drop a u)) ≡ unpacked (drop a u)
+learned-lent a u = rw (add-sub-cancel-left a slotBytes) (unpacked-near (drop a u))
+
+module _ (s : ℕ) (t u : List ℕ) (i : ℕ) (so-far : u ≡ onSlots (agedSlot s) 0 i t) where
+  pub aged-at : (a : ℕ) → a ≡ slotBytes * i → a + slotBytes ≤ length t → (r : List ℕ) → r ≡ agedSlot s (take (a + slotBytes - a) (drop a u))
+      → take a u ++ (r ++ drop (a + slotBytes - a) (drop a u)) ≡ onSlots (agedSlot s) 0 (i + 1) t
+  aged-at a e h r f =
+      let g : r ≡ agedSlot s (take (slotBytes * i + slotBytes - slotBytes * i) (drop (slotBytes * i) u)) = rw e at f in
+      rw e (on-step (agedSlot s) (aged-keeps s) t 0 i i (omega arith) (omega arith) u so-far r g)
+
+  -- the slots that are not reached are as they were
+  unreached : (k : ℕ) → i ≤ k → slotBytes * i ≤ length t → drop (slotBytes * k) u ≡ drop (slotBytes * k) t
+  unreached k h l =
+      part-suffix u (slotBytes * k) (slotBytes * i) (omega arith)
+      ∙ ap (drop (slotBytes * k - slotBytes * i)) (rw so-far (rw (zero-add i) at (drop-onSlots (agedSlot s) (aged-keeps s) t 0 i (omega arith))))
+      ∙ sym (part-suffix t (slotBytes * k) (slotBytes * i) (omega arith))
+
+  -- slots that stay as they are
+  kept : (j : ℕ) → i ≤ j → slotBytes * j ≤ length t → ((k : ℕ) → i ≤ k → k < j → slotAt k u ≡ agedSlot s (slotAt k u)) → u ≡ onSlots (agedSlot s) 0 j t
+  kept j h l same = let far : j - i + i ≡ j = omega arith in rw far at (go (j - i) (omega arith))
+    where
+      whole : (n m : ℕ) → take n u ++ (take m (drop n u) ++ drop m (drop n u)) ≡ u
+      whole n m = ap (λ (y : List ℕ). take n u ++ y) (take-append-drop m (drop n u)) ∙ take-append-drop n u
+
+      go : (d : ℕ) → d + i ≤ j → u ≡ onSlots (agedSlot s) 0 (d + i) t
+      go zero b = rw (zero-add i) so-far
+      go (suc d) b =
+          let k : ℕ = d + i in
+          let next : suc d + i ≡ k + 1 = omega arith in
+          let m : slotBytes * k + slotBytes - slotBytes * k ≡ slotBytes = add-sub-cancel-left (slotBytes * k) slotBytes in
+          let here : take (slotBytes * k + slotBytes - slotBytes * k) (drop (slotBytes * k) u) ≡ agedSlot s (take (slotBytes * k + slotBytes - slotBytes * k) (drop (slotBytes * k) u)) = rw m (same k (omega arith) (omega arith)) in
+          rw next (sym (whole (slotBytes * k) (slotBytes * k + slotBytes - slotBytes * k)) ∙ on-step (agedSlot s) (aged-keeps s) t 0 k k (omega arith) (omega arith) u (go d (omega arith)) _ here)
+
+  -- one that is not learned, and then those of other states
+  pub passed-by : (a j : ℕ) → a ≡ slotBytes * i → i < j → slotBytes * j ≤ length t → (l : Bool) → l ≡ isLearned (unpacked (drop a u)) → l ≡ false → Passed InLearnedState (i + 1) j u → u ≡ onSlots (agedSlot s) 0 j t
+  passed-by a j e h room l is unlearned passed = kept j (omega arith) room (λ k low high. go k low high (ℕ-discrete k i))
+    where
+      go : (k : ℕ) → i ≤ k → k < j → Dec (k ≡ i) → slotAt k u ≡ agedSlot s (slotAt k u)
+      go k low high (yes same) =
+          let place : a ≡ slotBytes * k = omega arith in
+          age-kept s (slotAt k u) l (is ∙ ap isLearned (sym (unpacked-near (drop a u)) ∙ ap (λ (n : ℕ). unpacked (take slotBytes (drop n u))) place)) unlearned
+      go k low high (no other) =
+          age-other s (slotAt k u) (λ q. passed k (omega arith) high (sym (ap stateOf (record-near (drop (slotBytes * k) u))) ∙ q))
 
 -- ---- the call
 

@@ -3,7 +3,7 @@
 use Prim.Native.Nat.{ℕ, _+_, _-_, _≤_, _<_}
 use mathlib.Core.Bool.{Bool, true, false, not}
 use mathlib.Core.List.{List, _++_, append-assoc}
-use mathlib.Core.Path.{_≡_, sym, ap, _∙_}
+use mathlib.Core.Path.{_≡_, refl, sym, ap, _∙_}
 use native.Mathlib.Omega.{arith}
 use lib.ListN.{length, take, drop, length-append, length-drop}
 use borrow.Author.Tests.{not-true, not-false}
@@ -14,26 +14,43 @@ use Rattle.numbers.proofs.Truth.{between-below, between-above, between-is}
 use Rattle.numbers.proofs.Answers.{check-got}
 use Rattle.frame.specs.Settings.{settingsGood}
 use Rattle.frame.specs.Fields.{Fields}
+use Rattle.frame.specs.Front.{addressIn, frontOf}
+use Rattle.frame.specs.Front as spec
 use Rattle.frame.specs.Labels.{trillType}
 use Rattle.frame.specs.Formats.{longestFrame, sizeGood, general}
 use Rattle.frame.specs.declared.Settings.{Settings}
+use Rattle.frame.proofs.Parts.{Good, general-is}
 use Rattle.fields.specs.Meaning.{frontAs, frontAt}
 use Rattle.fields.specs.declared.Front.{Front}
-use Rattle.fields.specs.declared.Front.the-variants as front
-use Rattle.parsing.specs.Meaning.{Within, fieldsIn, parsedAs}
+use Rattle.parsing.specs.Meaning.{Within, fieldsIn, parsedAs, parsedWithin}
 use Rattle.parsing.specs.declared.Parts.{Parts}
 use Rattle.parsing.specs.declared.Parsed.{Parsed}
 use Rattle.parsing.specs.declared.Parsed.the-variants as parsed
 use Rattle.parsing.proofs.Outcomes.{front-at, size-in}
-use Rattle.parsing.proofs.Places.{inner-piece, inner-long, header-long}
+use Rattle.parsing.proofs.Places.{fields-within, inner-piece, inner-long, header-long, fixed-bytes, label-bytes}
 use Rattle.copying.specs.Areas.{pasted}
 use Rattle.copying.proofs.Copying.{paste-behind, paste-laid}
 use Rattle.convert.specs.Compaction.{compactBytes, staysGeneral, generalOnly, generalFields, compacting, written, compacted}
+use Rattle.convert.proofs.Fronts.{general-front}
 use Rattle.convert.specs.declared.ConvertAnswer.{ConvertAnswer}
 use Rattle.convert.specs.declared.ConvertAnswer.the-variants.{Refused}
-use Rattle.compacting.specs.Meaning.{compactLength, putOn}
+use Rattle.compacting.specs.Meaning.{frontRefusal, Copyable, compactLength, putOn}
 
 -- ---- the parts of a General frame
+
+other-front : (d : spec.Front) (f : List ℕ) → (frontRefusal d ≡ 0 → ⊥) → generalOnly d f ≡ refused (frontRefusal d)
+unfolding frontRefusal generalOnly
+other-front spec.unicast f h = absurd (h refl)
+other-front spec.multicast f h = absurd (h refl)
+other-front spec.refusedFront f h = refl
+other-front spec.inner f h = refl
+
+own-front : (d : spec.Front) (f : List ℕ) → frontRefusal d ≡ 0 → generalOnly d f ≡ general d f
+unfolding frontRefusal generalOnly
+own-front spec.unicast f h = refl
+own-front spec.multicast f h = refl
+own-front spec.refusedFront f h = absurd (omega arith)
+own-front spec.inner f h = absurd (omega arith)
 
 module _ (s : Settings) (f : List ℕ) (g : Bool) (eg : g ≡ settingsGood s) where
   pub bad-settings : not g ≡ true → refused 1 ≡ generalFields s f
@@ -51,21 +68,14 @@ module _ (s : Settings) (f : List ℕ) (g : Bool) (eg : g ≡ settingsGood s) wh
       too-long p = rw (← eg, not-false g ok, between-above 14 9216 (length f) p)
 
       module _ (hi : length f ≤ 9216) (a : ℕ) (ea : a ≡ num (take 6 f)) (r : Front) (er : frontAs r ≡ frontAt (s .port) a) where
-        pub not-here : r ≡ front.Refused → refused 5 ≡ generalFields s f
-        unfolding generalFields generalOnly check
-        not-here p = rw (← eg, not-false g ok, size-in (length f) lo hi, ← ea, ← front-at s a, ← er, p)
+        module _ (e : ℕ) (ee : e ≡ frontRefusal (frontAs r)) where
+          pub not-general : (e ≡ 0 → ⊥) → refused e ≡ generalFields s f
+          unfolding generalFields check
+          not-general h = rw (← eg, not-false g ok, size-in (length f) lo hi, ← ea, ← front-at s a, ← er, other-front (frontAs r) f (λ k. h (ee ∙ k)), ee)
 
-        pub compact-front : r ≡ front.Inner → refused 17 ≡ generalFields s f
-        unfolding generalFields generalOnly check
-        compact-front p = rw (← eg, not-false g ok, size-in (length f) lo hi, ← ea, ← front-at s a, ← er, p)
-
-        pub to-port : (x : Parsed) → r ≡ front.Unicast → parsedAs f x ≡ general (frontAs r) f → parsedAs f x ≡ generalFields s f
-        unfolding generalFields generalOnly check
-        to-port x p e = rw (← eg, not-false g ok, size-in (length f) lo hi, ← ea, ← front-at s a, ← er, p) (rw p at e)
-
-        pub to-all : (x : Parsed) → r ≡ front.Multicast → parsedAs f x ≡ general (frontAs r) f → parsedAs f x ≡ generalFields s f
-        unfolding generalFields generalOnly check
-        to-all x p e = rw (← eg, not-false g ok, size-in (length f) lo hi, ← ea, ← front-at s a, ← er, p) (rw p at e)
+          pub is-general : e ≡ 0 → (x : Parsed) → parsedAs f x ≡ general (frontAs r) f → parsedAs f x ≡ generalFields s f
+          unfolding generalFields check
+          is-general h x q = rw (← eg, not-false g ok, size-in (length f) lo hi, ← ea, ← front-at s a, ← er, own-front (frontAs r) f (sym ee ∙ h)) q
 
 -- ---- what is written
 
@@ -85,17 +95,15 @@ module _ (f : List ℕ) (p : Parts) where
         rw (← pieces-are)
         (simp (length-append, inner-long f p w, header-long f p w, length-drop (p .content) f) (omega arith))
 
-    pub wrote-compact : (out p₁ p₂ p₃ o₁ o₂ o₃ o₄ : List ℕ)
-        → p₁ ≡ take (12 + p .label) (drop (p .dst) f)
-        → o₁ ≡ pasted out 0 p₁
+    pub wrote-compact : (out c o₁ o₂ o₃ o₄ : List ℕ)
+        → o₁ ≡ pasted out 0 (take (12 + p .label) (drop (p .dst) f))
         → o₂ ≡ pasted o₁ (12 + p .label) trillType
-        → p₂ ≡ take (p .size) (drop (p .header) f)
-        → o₃ ≡ pasted o₂ (12 + p .label + 2) p₂
-        → p₃ ≡ drop (p .content) f
-        → o₄ ≡ pasted o₃ (12 + p .label + 2 + p .size) p₃
+        → o₃ ≡ pasted o₂ (12 + p .label + 2) (take (p .size) (drop (p .header) f))
+        → c ≡ drop (p .content) f
+        → o₄ ≡ pasted o₃ (12 + p .label + 2 + p .size) c
         → o₄ ≡ laid (compactBytes (fieldsIn f p)) out
     unfolding pieces
-    wrote-compact out p₁ p₂ p₃ o₁ o₂ o₃ o₄ e₁ w₁ w₂ e₂ w₃ e₃ w₄ =
+    wrote-compact out c o₁ o₂ o₃ o₄ w₁ w₂ w₃ e w₄ =
         let n : ℕ = 12 + p .label in
         let x₁ : List ℕ = take n (drop (p .dst) f) in
         let x₂ : List ℕ = x₁ ++ trillType in
@@ -104,7 +112,7 @@ module _ (f : List ℕ) (p : Parts) where
         let l₁ : length x₁ ≡ n = inner-long f p w in
         let l₂ : length x₂ ≡ n + 2 = rw (length-append, l₁) (omega arith) in
         let l₃ : length x₃ ≡ n + 2 + p .size = rw (length-append, l₂, header-long f p w) (omega arith) in
-        simp (w₄, w₃, w₂, w₁, e₁, e₂, e₃, paste-behind out x₁ trillType n l₁, paste-behind out x₂ h (n + 2) l₂, paste-behind out x₃ (drop (p .content) f) (n + 2 + p .size) l₃)
+        simp (w₄, w₃, w₂, w₁, e, paste-behind out x₁ trillType n l₁, paste-behind out x₂ h (n + 2) l₂, paste-behind out x₃ (drop (p .content) f) (n + 2 + p .size) l₃)
         (paste-laid out pieces ∙ ap (λ (b : List ℕ). laid b out) pieces-are)
 
 -- ---- the call
@@ -118,10 +126,22 @@ module _ (s : Settings) (f area : List ℕ) (x : Parsed) (ex : parsedAs f x ≡ 
     fields-got : generalFields s f ≡ got (fieldsIn f p)
     fields-got = sym ex ∙ ap (parsedAs f) e
 
-    -- an accepted frame is not too long
-    pub fields-short : length f ≤ longestFrame
+    -- an accepted frame is not too long, and its parts are good
+    fields-short : length f ≤ longestFrame
     unfolding generalFields sizeGood
     fields-short = between-is 14 longestFrame (length f) (check-got _ _ _ _ (check-got _ _ _ _ fields-got .1) .0) .1
+
+    fields-good : Good (fieldsIn f p)
+    unfolding generalFields
+    fields-good =
+        let d = frontOf s (addressIn f) in
+        let q = check-got _ _ _ _ (check-got _ _ _ _ fields-got .1) .1 in
+        general-is d f (fieldsIn f p) (general-front true d f (fieldsIn f p) q .0) .good
+
+    pub fields-copyable : parsedWithin (length f) x → Copyable (length f) p
+    fields-copyable v =
+        let w = fields-within (length f) x p v e in
+        record { within = w; label = label-bytes f p w fields-good; header = fixed-bytes f p w fields-good; short = fields-short }
 
     module _ (a : ℕ) (ea : a ≡ num (take 6 (drop (p .dst) f))) (b : Bool) (eb : b ≡ staysGeneral s a) where
       pub call-stays : b ≡ true → onArea (Refused 17) area ≡ compacted s f area

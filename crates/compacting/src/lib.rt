@@ -1,13 +1,13 @@
 // Compaction: a General frame as a Compact one.
-ghost use Prim.Native.Nat.{_+_, _-_, _≤_};
+ghost use Prim.Native.Nat.{_≤_};
 ghost use mathlib.Core.Path.{_≡_};
 ghost use lib.ListN.{length};
 ghost use Rattle.numbers.specs.After.{onArea};
 ghost use Rattle.numbers.specs.Bytes.{laid};
-ghost use Rattle.frame.specs.Formats.{longestFrame};
-ghost use Rattle.parsing.specs.Meaning.{Within, fieldsIn, parsedAs, parsedWithin};
+ghost use Rattle.fields.specs.Meaning.{frontAs};
+ghost use Rattle.parsing.specs.Meaning.{fieldsIn, parsedAs, parsedWithin};
 ghost use Rattle.convert.specs.Compaction.{compactBytes, staysGeneral, generalFields, compacted};
-ghost use Rattle.compacting.specs.Meaning.{compactLength, putOn};
+ghost use Rattle.compacting.specs.Meaning.{frontRefusal, Copyable, compactLength, putOn};
 use convert::ConvertAnswer;
 use fields::Front;
 use frame::Settings;
@@ -18,6 +18,18 @@ use numbers::refusals::NOT_FOR_PORT;
 use numbers::refusals::SETTINGS_BAD;
 use parsing::Parsed;
 use parsing::Parts;
+
+// The refusal of a destination in front that does not mean General, else 0.
+fn front_refusal(d: Front) -> u8
+    ensures { λ r. ⌜ r ≡ frontRefusal (frontAs d) ⌝ }
+{
+    match d {
+        Front::Unicast => 0,
+        Front::Multicast => 0,
+        Front::Refused => NOT_FOR_PORT,
+        Front::Inner => NOT_COMPACTABLE,
+    }
+}
 
 // The parts of a General frame; a Compact frame in front is 17.
 pub fn general_fields(s: Settings, f: &[u8]) -> Parsed
@@ -34,12 +46,11 @@ pub fn general_fields(s: Settings, f: &[u8]) -> Parsed
         return Parsed::Refused(FRAME_LENGTH_BAD);
     }
     let d = fields::front_of(s.port, numbers::be6(f, 0));
-    match d {
-        Front::Unicast => parsing::read_general(d, f),
-        Front::Multicast => parsing::read_general(d, f),
-        Front::Refused => Parsed::Refused(NOT_FOR_PORT),
-        Front::Inner => Parsed::Refused(NOT_COMPACTABLE),
+    let e = front_refusal(d);
+    if e != 0 {
+        return Parsed::Refused(e);
     }
+    parsing::read_general(d, f)
 }
 
 // Whether an inner destination would not mean Compact in front: :40 to :4F, or the far port's address.
@@ -51,20 +62,20 @@ pub fn stays_general(s: Settings, a: u64) -> bool
 
 // Writes the Compact frame: inner addresses and label, 22F3, header, content.
 fn write_compact(f: &[u8], p: Parts, out: &mut [u8])
-    requires { ⌜ Within (length (now f)) p × (compactLength (length (now f)) p ≤ length (now out)) ⌝ }
+    requires { ⌜ Copyable (length (now f)) p × (compactLength (length (now f)) p ≤ length (now out)) ⌝ }
     ensures { λ _. ⌜ now (out .exit) ≡ laid (compactBytes (fieldsIn (now (f .entry)) p)) (now (out .entry)) ⌝ }
 {
     let n = 12 + p.label;
     let k = p.size;
-    copying::copy_at(copying::part(f, p.dst, n), out, 0);
+    copying::copy_from_16(f, p.dst, n, out, 0);
     copying::copy_at(b"\x22\xF3", out, n);
-    copying::copy_at(copying::part(f, p.header, k), out, n + 2);
-    copying::copy_at(fields::rest(f, p.content), out, n + 2 + k);
+    copying::copy_from_6(f, p.header, k, out, n + 2);
+    copying::copy_block(fields::rest(f, p.content), out, n + 2 + k);
 }
 
 // Writes the Compact frame where there is room for it.
 pub fn put_compact(f: &[u8], p: Parts, out: &mut [u8]) -> ConvertAnswer
-    requires { ⌜ Within (length (now f)) p × (length (now f) ≤ longestFrame) ⌝ }
+    requires { ⌜ Copyable (length (now f)) p ⌝ }
     ensures { λ r. ⌜ onArea r (now (out .exit)) ≡ putOn (compactBytes (fieldsIn (now (f .entry)) p)) (now (out .entry)) ⌝ }
 {
     let n = 14 + p.label + p.size + (f.len() - p.content);

@@ -3,11 +3,11 @@
 use Prim.Native.Nat.{ℕ, _+_, _-_, _*_, _%_, _^_, _<_, _≤_}
 use mathlib.Core.Bool.{Bool, true, false}
 use mathlib.Core.List.{List, _++_, append-assoc}
-use mathlib.Core.Path.{_≡_, sym, ap, _∙_}
+use mathlib.Core.Path.{_≡_, sym, _∙_}
 use native.Mathlib.Omega.{arith}
 use lib.Dec.{eqb}
 use lib.ListN.{length, take, drop, length-drop, length-append}
-use lib.Seq.{drop-drop, length-take-le, take-add}
+use lib.Seq.{drop-drop, length-take-le}
 use borrow.Author.Tests.{le-leb, lt-leb, eq-eqb, ne-eqb}
 use Rattle.numbers.specs.Tests.{pick}
 use Rattle.numbers.specs.Result.{check, settled}
@@ -72,24 +72,34 @@ lesson-is s l m n k set a b e =
 -- ---- the native frame
 
 module _ (f : List ℕ) (p : Parts) (i : Inside f p) where
-  -- both inner addresses in one part
-  addresses-are : take 12 (drop (p .dst) f) ≡ take 6 (drop (p .dst) f) ++ take 6 (drop (p .dst + 6) f)
-  addresses-are = take-add 6 6 (drop (p .dst) f) ∙ ap (λ (x : List ℕ). take 6 (drop (p .dst) f) ++ take 6 x) (drop-drop 6 (p .dst) f)
-
-  native-is : take 12 (drop (p .dst) f) ++ drop (p .content) f ≡ nativeBytes (fieldsIn f p)
-  unfolding nativeBytes
-  native-is = rw addresses-are (append-assoc (take 6 (drop (p .dst) f)) (take 6 (drop (p .dst + 6) f)) (drop (p .content) f))
-
-  pub native-written : (o w x u e : List ℕ) → w ≡ take 12 (drop (p .dst) f) → length w ≡ 12 → x ≡ drop (p .content) f
-      → u ≡ pasted o 0 w → e ≡ pasted u 12 x → e ≡ laid (nativeBytes (fieldsIn f p)) o
-  native-written o w x u e a b c d g =
-      g ∙ rw (d, paste-behind o w x 12 b, paste-laid o (w ++ x), a, c, native-is)
-
-  native-length : length (nativeBytes (fieldsIn f p)) ≡ 12 + (length f - p .content)
-  native-length =
+  dst-bytes : length (take 6 (drop (p .dst) f)) ≡ 6
+  dst-bytes =
       let r = length-drop (p .dst) f in
       let h = i .addresses in
-      rw (← native-is, length-append, length-take-le 12 (drop (p .dst) f) (omega arith), length-drop (p .content) f)
+      length-take-le 6 (drop (p .dst) f) (omega arith)
+
+  src-bytes : length (take 6 (drop (p .dst + 6) f)) ≡ 6
+  src-bytes =
+      let r = length-drop (p .dst + 6) f in
+      let h = i .addresses in
+      length-take-le 6 (drop (p .dst + 6) f) (omega arith)
+
+  pub native-written : (o x u v e : List ℕ) → x ≡ drop (p .content) f
+      → u ≡ pasted o 0 (take 6 (drop (p .dst) f))
+      → v ≡ pasted u 6 (take 6 (drop (p .dst + 6) f))
+      → e ≡ pasted v 12 x
+      → e ≡ laid (nativeBytes (fieldsIn f p)) o
+  unfolding nativeBytes
+  native-written o x u v e a b c d =
+      let dst : List ℕ = take 6 (drop (p .dst) f) in
+      let src : List ℕ = take 6 (drop (p .dst + 6) f) in
+      d
+      ∙ rw (c, b, paste-behind o dst src 6 dst-bytes, a, paste-behind o (dst ++ src) (drop (p .content) f) 12 (simp (length-append, dst-bytes, src-bytes)), paste-laid o ((dst ++ src) ++ drop (p .content) f), append-assoc dst src (drop (p .content) f))
+
+  native-length : length (nativeBytes (fieldsIn f p)) ≡ 12 + (length f - p .content)
+  unfolding nativeBytes
+  native-length =
+      simp (length-append, dst-bytes, src-bytes, length-drop (p .content) f) (omega arith)
 
   -- ---- the outcomes
 

@@ -65,11 +65,12 @@ fn lesson(s: Settings, label: Label, mac: u64, nickname: u64) -> Entry
 
 // Writes the native frame to the start of the output area.
 fn write_native(f: &[u8], p: Parts, out: &mut [u8])
-    requires { ⌜ Inside (now f) p × (12 + (length (now f) - p .content) ≤ length (now out)) ⌝ }
+    requires { ⌜ Inside (now f) p × ((length (now f) ≤ 9216) × (12 + (length (now f) - p .content) ≤ length (now out))) ⌝ }
     ensures { λ _. ⌜ now (out .exit) ≡ laid (nativeBytes (fieldsIn (now (f .entry)) p)) (now (out .entry)) ⌝ }
 {
-    copying::copy_at(copying::part(f, p.dst, 12), out, 0);
-    copying::copy_at(fields::rest(f, p.content), out, 12);
+    copying::copy_from_6(f, p.dst, 6, out, 0);
+    copying::copy_from_6(f, p.dst + 6, 6, out, 6);
+    copying::copy_block(fields::rest(f, p.content), out, 12);
 }
 
 // Delivers a frame that is neither onward nor a channel frame.

@@ -22,18 +22,18 @@ use Rattle.frame.proofs.Parts.{compact-is}
 use Rattle.fields.specs.Meaning.{frontAs, frontAt}
 use Rattle.fields.specs.declared.Front.{Front}
 use Rattle.fields.specs.declared.Front.the-variants as front
-use Rattle.parsing.specs.Meaning.{Within, fieldsIn, parsedAs, parsedWithin}
+use Rattle.parsing.specs.Meaning.{fieldsIn, parsedAs, parsedWithin}
 use Rattle.parsing.specs.declared.Parts.{Parts}
 use Rattle.parsing.specs.declared.Parsed.{Parsed}
 use Rattle.parsing.specs.declared.Parsed.the-variants as parsed
 use Rattle.parsing.proofs.Outcomes.{front-at}
-use Rattle.parsing.proofs.Places.{fields-within, fixed-bytes}
+use Rattle.parsing.proofs.Places.{fields-within, fixed-bytes, label-bytes}
 use Rattle.convert.specs.Compaction.{compactBytes}
 use Rattle.convert.specs.Expansion as spec
 use Rattle.convert.specs.declared.ConvertAnswer.{ConvertAnswer}
 use Rattle.convert.specs.declared.ConvertAnswer.the-variants.{Refused}
 use Rattle.convert.proofs.Fronts as fronts
-use Rattle.compacting.specs.Meaning.{compactLength, putOn}
+use Rattle.compacting.specs.Meaning.{Copyable, compactLength, putOn}
 use Rattle.compacting.proofs.Laws.{compact-long}
 use Rattle.expanding.specs.Meaning.{outerGood, sizesGood, compactFields, destinationOf, outerFront, generalTo}
 
@@ -97,10 +97,11 @@ module _ (s : Settings) (u : spec.Outer) (f : List ℕ) (g : Bool) (eg : g ≡ o
 
 -- ---- the outer destination
 
-module _ (s : Settings) (f : List ℕ) (p : Parts) (w : Within (length f) p) (fixed : 6 ≤ p .size) (x : ℕ) (ex : x ≡ num (take 2 (drop (p .header) f))) where
+module _ (s : Settings) (f : List ℕ) (p : Parts) (w : Copyable (length f) p) (x : ℕ) (ex : x ≡ num (take 2 (drop (p .header) f))) where
   header-word : num (take 2 (fieldsIn f p .header)) ≡ x
   header-word =
-      let a = w .header in
+      let a = w .within .header in
+      let six = w .header in
       let d = length-drop (p .header) f in
       sym (ex ∙ ap num (part-prefix (drop (p .header) f) 0 2 (p .size) (omega arith) (omega arith)))
 
@@ -160,5 +161,9 @@ module _ (s : Settings) (u : spec.Outer) (f : List ℕ) where
         unfolding compactBytes
         parts-all = sym (compact-long f p (fields-within (length f) x p w e)) ∙ ap length (sym (compact-is f (fieldsIn f p) compact-got .whole))
 
-        pub header-whole : 6 ≤ p .size
-        header-whole = fixed-bytes f p (fields-within (length f) x p w e) (compact-is f (fieldsIn f p) compact-got .good)
+        pub fields-copyable : Copyable (length f) p
+        fields-copyable =
+            let v = fields-within (length f) x p w e in
+            let g = compact-is f (fieldsIn f p) compact-got .good in
+            let l = result-short in
+            record { within = v; label = label-bytes f p v g; header = fixed-bytes f p v g; short = omega arith }

@@ -101,18 +101,16 @@ module _ (f : List ℕ) (p : Parts) (w : Within (length f) p) where
       rw (← tail-is)
       (simp (length-append, inner-long f p w, header-long f p w, length-drop (p .content) f) (omega arith))
 
-  pub tail-written : (out p₁ p₂ p₃ o₁ o₂ o₃ o₄ : List ℕ) (at : ℕ)
+  pub tail-written : (out c o₁ o₂ o₃ o₄ : List ℕ) (at : ℕ)
       → at + compactLength (length f) p ≤ length out
       → o₁ ≡ pasted out at trillType
-      → p₁ ≡ take (p .size) (drop (p .header) f)
-      → o₂ ≡ pasted o₁ (at + 2) p₁
-      → p₂ ≡ take (12 + p .label) (drop (p .dst) f)
-      → o₃ ≡ pasted o₂ (at + 2 + p .size) p₂
-      → p₃ ≡ drop (p .content) f
-      → o₄ ≡ pasted o₃ (at + 2 + p .size + (12 + p .label)) p₃
+      → o₂ ≡ pasted o₁ (at + 2) (take (p .size) (drop (p .header) f))
+      → o₃ ≡ pasted o₂ (at + 2 + p .size) (take (12 + p .label) (drop (p .dst) f))
+      → c ≡ drop (p .content) f
+      → o₄ ≡ pasted o₃ (at + 2 + p .size + (12 + p .label)) c
       → o₄ ≡ pasted out at (spec.generalTail (fieldsIn f p))
   unfolding tail-pieces
-  tail-written out p₁ p₂ p₃ o₁ o₂ o₃ o₄ at room w₁ e₁ w₂ e₂ w₃ e₃ w₄ =
+  tail-written out c o₁ o₂ o₃ o₄ at room w₁ w₂ w₃ e w₄ =
       let n : ℕ = 12 + p .label in
       let h : List ℕ = take (p .size) (drop (p .header) f) in
       let i : List ℕ = take n (drop (p .dst) f) in
@@ -124,7 +122,7 @@ module _ (f : List ℕ) (p : Parts) (w : Within (length f) p) where
       let l₁ : at + length trillType ≡ at + 2 = refl in
       let l₂ : at + length x₂ ≡ at + 2 + p .size = rw (length-append, lh) (omega arith) in
       let l₃ : at + length x₃ ≡ at + 2 + p .size + n = rw (length-append, length-append, lh, li) (omega arith) in
-      simp (w₄, w₃, w₂, w₁, e₁, e₂, e₃, paste-next out trillType h at (at + 2) start l₁, paste-next out x₂ i at (at + 2 + p .size) start l₂, paste-next out x₃ (drop (p .content) f) at (at + 2 + p .size + n) start l₃)
+      simp (w₄, w₃, w₂, w₁, e, paste-next out trillType h at (at + 2) start l₁, paste-next out x₂ i at (at + 2 + p .size) start l₂, paste-next out x₃ (drop (p .content) f) at (at + 2 + p .size + n) start l₃)
       (ap (pasted out at) tail-is)
 
   module _ (dst : ℕ) (u : spec.Outer) (k : ℕ) (ek : k ≡ spec.outerBytes u) where

@@ -4,10 +4,10 @@ ghost use mathlib.Core.Path.{_≡_};
 ghost use lib.ListN.{length};
 ghost use Rattle.numbers.specs.After.{onArea};
 ghost use Rattle.frame.specs.Formats.{longestFrame};
-ghost use Rattle.parsing.specs.Meaning.{Within, fieldsIn, parsedAs, parsedWithin};
+ghost use Rattle.parsing.specs.Meaning.{fieldsIn, parsedAs, parsedWithin};
 ghost use Rattle.copying.specs.Areas.{pasted};
 ghost use Rattle.convert.specs.Expansion.{tagGood, outerBytes, outerTag, generalTail, expanded};
-ghost use Rattle.compacting.specs.Meaning.{compactLength, putOn};
+ghost use Rattle.compacting.specs.Meaning.{Copyable, compactLength, putOn};
 ghost use Rattle.expanding.specs.Meaning.{outerAs, outerGood, sizesGood, compactFields, destinationOf, outerFront, generalTo};
 use convert::ConvertAnswer;
 use fields::Front;
@@ -79,7 +79,7 @@ fn compact_fields(s: Settings, u: Outer, f: &[u8]) -> Parsed
 
 // The outer destination: the far port, or :40 where M is 1.
 fn destination(s: Settings, f: &[u8], p: Parts) -> u64
-    requires { ⌜ Within (length (now f)) p × (6 ≤ p .size) ⌝ }
+    requires { ⌜ Copyable (length (now f)) p ⌝ }
     ensures { λ r. ⌜ r ≡ destinationOf s (fieldsIn (now (f .entry)) p) ⌝ }
 {
     if numbers::be2(f, p.header) / 0x800 % 2 == 1 {
@@ -112,20 +112,20 @@ fn write_outer(dst: u64, u: Outer, out: &mut [u8])
 
 // Writes what is behind them: 22F3, header, inner addresses and label, content.
 fn write_tail(f: &[u8], p: Parts, out: &mut [u8], at: usize)
-    requires { ⌜ Within (length (now f)) p × (at + compactLength (length (now f)) p ≤ length (now out)) ⌝ }
+    requires { ⌜ Copyable (length (now f)) p × (at + compactLength (length (now f)) p ≤ length (now out)) ⌝ }
     ensures { λ _. ⌜ now (out .exit) ≡ pasted (now (out .entry)) at (generalTail (fieldsIn (now (f .entry)) p)) ⌝ }
 {
     let n = 12 + p.label;
     let k = p.size;
     copying::copy_at(b"\x22\xF3", out, at);
-    copying::copy_at(copying::part(f, p.header, k), out, at + 2);
-    copying::copy_at(copying::part(f, p.dst, n), out, at + 2 + k);
-    copying::copy_at(fields::rest(f, p.content), out, at + 2 + k + n);
+    copying::copy_from_6(f, p.header, k, out, at + 2);
+    copying::copy_from_16(f, p.dst, n, out, at + 2 + k);
+    copying::copy_block(fields::rest(f, p.content), out, at + 2 + k + n);
 }
 
 // Writes the General frame to an outer destination where there is room for it.
 fn put_general(dst: u64, u: Outer, f: &[u8], p: Parts, out: &mut [u8]) -> ConvertAnswer
-    requires { ⌜ Within (length (now f)) p × ((compactLength (length (now f)) p ≡ length (now f)) × (length (now f) + outerBytes (outerAs u) ≤ longestFrame)) ⌝ }
+    requires { ⌜ Copyable (length (now f)) p × ((compactLength (length (now f)) p ≡ length (now f)) × (length (now f) + outerBytes (outerAs u) ≤ longestFrame)) ⌝ }
     ensures { λ r. ⌜ onArea r (now (out .exit)) ≡ putOn (generalTo dst (outerAs u) (fieldsIn (now (f .entry)) p)) (now (out .entry)) ⌝ }
 {
     let o = outer_bytes(u);

@@ -1,18 +1,21 @@
 -- Laws of the parts of a slot that is meant: state bits and nickname make it a candidate; a good entry, its label and its MAC are the
 -- rest.
 -- Assumes nothing.
-use Prim.Native.Nat.{ℕ}
+use Prim.Native.Nat.{ℕ, zero, suc, _+_, _/_, _≤_}
 use mathlib.Core.Bool.{Bool, true, false}
 use mathlib.Core.List.{List}
-use mathlib.Core.Path.{_≡_, refl, sym, ap, _∙_}
+use mathlib.Core.Path.{_≡_, refl, sym, ap, _∙_, fun-ext}
+use native.Mathlib.Nat.{zero-div}
 use native.Mathlib.Omega.{arith}
 use lib.Dec.{eqb}
-use lib.ListN.{take}
+use lib.ListN.{take, getD, replicate, length-replicate}
 use lib.Seq.{take-take}
 use borrow.Author.Tests.{eq-eqb, ne-eqb, eqb-true, eqb-false}
 use Rattle.numbers.specs.Tests.{both}
+use Rattle.numbers.specs.After.{onTable}
 use Rattle.numbers.specs.Bytes.{num}
-use Rattle.numbers.proofs.Truth.{not-true-false, both-left}
+use Rattle.numbers.specs.Numberings.{bitOf, bitAt}
+use Rattle.numbers.proofs.Truth.{not-true-false, both-left, both-right}
 use Rattle.table.specs.Record.{recordBytes, recordOf, stateOf, kindOf, labelOf, macOf, nicknameOf, labelFrom, entryOf, entryGood, slotOf, unpacked, isLearned}
 use Rattle.table.specs.Slots.{slotBytes}
 use Rattle.table.specs.declared.Slot.{Slot}
@@ -22,42 +25,51 @@ use Rattle.records.specs.Halves.{heldOrSpoilt}
 use Rattle.records.proofs.Laws.{free-state, learned-state, slot-held, entry-bad, state-learned}
 use Rattle.flush.specs.Payload.{everyType, Piece, Payload}
 use Rattle.flush.specs.Meaning.{nicknameMeant, labelMeant, macMeant, entryMeant}
-use Rattle.flush.specs.Flush.{heldMeant, slotMeant}
+use Rattle.flush.specs.Flush.{heldMeant, slotMeant, clearedBy}
 use Rattle.flush.proofs.Lists.{false-true}
-use Rattle.flushing.specs.Clearing.{candidate, restMeant}
+use Rattle.bit_sets.specs.Gains.{NicknamesTold}
+use Rattle.flushing.specs.Clearing.{Empty, Areas, candidate, restMeant, slotAsked}
 
 -- ---- a candidate
 
-module _ (ingress : ℕ) (nicks r : List ℕ) (s : ℕ) (state : s ≡ stateOf (recordOf r)) where
-  pub other-state : (s ≡ 1 → ⊥) → false ≡ candidate ingress nicks r
+module _ (names r : List ℕ) (s : ℕ) (state : s ≡ stateOf (recordOf r)) where
+  pub other-state : (s ≡ 1 → ⊥) → false ≡ candidate names r
   unfolding candidate
   other-state h = sym (both-left _ _ (ne-eqb (stateOf (recordOf r)) 1 (λ e. h (state ∙ e))))
 
-  pub by-nickname : s ≡ 1 → (x : ℕ) → x ≡ nicknameOf (recordOf r) → (b : Bool) → b ≡ nicknameMeant ingress nicks x → b ≡ candidate ingress nicks r
+  pub by-nickname : s ≡ 1 → (x : ℕ) → x ≡ nicknameOf (recordOf r) → (b : Bool) → b ≡ bitAt x names → b ≡ candidate names r
   unfolding candidate both
   by-nickname h x field b told =
-      rw (eq-eqb (stateOf (recordOf r)) 1 (sym state ∙ h)) (told ∙ ap (nicknameMeant ingress nicks) field)
+      rw (eq-eqb (stateOf (recordOf r)) 1 (sym state ∙ h)) (told ∙ ap (λ (n : ℕ). bitAt n names) field)
 
-pub candidate-near : (ingress : ℕ) (nicks : List ℕ) → Local (candidate ingress nicks)
+pub none-named : (names r : List ℕ) (x : ℕ) → x ≡ nicknameOf (recordOf r) → (b : Bool) → (b ≡ true → bitAt x names ≡ false) → b ≡ true → false ≡ candidate names r
 unfolding candidate
-candidate-near ingress nicks x =
+none-named names r x field b none h = sym (both-right _ _ (rw field at (none h)))
+
+pub candidate-near : (names : List ℕ) → Local (candidate names)
+unfolding candidate
+candidate-near names x =
     let same : recordOf (take slotBytes x) ≡ recordOf x = ap num (take-take recordBytes slotBytes x (omega arith)) in
     rw same
 
 -- ---- the rest of a slot
 
-module _ (r : List ℕ) (k x : ℕ) (kind : k ≡ kindOf (recordOf r)) (label : x ≡ labelOf (recordOf r)) where
-  module _ (ps : List Piece) (g : Bool) (good : g ≡ entryGood (entryOf (recordOf r))) (ok : g ≡ true) (a : Bool) (told : a ≡ labelMeant everyType ps (labelFrom k x)) where
-    by-label : both a (macMeant everyType ps (macOf (recordOf r))) ≡ restMeant ps r
-    unfolding restMeant entryOf both
-    by-label = rw (told, ← good, ok, kind, label)
+module _ (r : List ℕ) (k x : ℕ) (kind : k ≡ kindOf (recordOf r)) (label : x ≡ labelOf (recordOf r)) (ps : List Piece) (a : Bool) (told : a ≡ labelMeant everyType ps (labelFrom k x)) where
+  label-told : labelMeant everyType ps (entryOf (recordOf r) .label) ≡ a
+  unfolding entryOf
+  label-told = sym (told ∙ rw (kind, label))
 
-    pub other-label : a ≡ false → false ≡ restMeant ps r
-    other-label h = sym (both-left _ _ h) ∙ by-label
+  mac-told : macMeant everyType ps (entryOf (recordOf r) .mac) ≡ macMeant everyType ps (macOf (recordOf r))
+  unfolding entryOf
+  mac-told = refl
 
-    pub that-label : a ≡ true → (m : ℕ) → m ≡ macOf (recordOf r) → (b : Bool) → b ≡ macMeant everyType ps m → b ≡ restMeant ps r
-    unfolding both
-    that-label h m mac b e = e ∙ ap (macMeant everyType ps) mac ∙ (rw h at by-label)
+  pub other-label : a ≡ false → false ≡ restMeant ps r
+  unfolding restMeant
+  other-label h = sym (both-right (entryGood (entryOf (recordOf r))) _ (both-left _ _ (label-told ∙ h)))
+
+  pub that-label : a ≡ true → (g : Bool) → g ≡ entryGood (entryOf (recordOf r)) → g ≡ true → (m : ℕ) → m ≡ macOf (recordOf r) → (b : Bool) → b ≡ macMeant everyType ps m → b ≡ restMeant ps r
+  unfolding restMeant both
+  that-label h g good ok m mac b e = e ∙ ap (macMeant everyType ps) mac ∙ sym (rw (← good, ok, label-told, h) mac-told)
 
 pub entry-bad-rest : (ps : List Piece) (r : List ℕ) (g : Bool) → g ≡ entryGood (entryOf (recordOf r)) → g ≡ false → false ≡ restMeant ps r
 unfolding restMeant
@@ -98,6 +110,29 @@ module _ (p : Payload) (ingress : ℕ) where
         ∙ both-swap (entryGood (entryOf (recordOf r))) (nicknameMeant ingress (p .nicks) (nicknameOf (recordOf r))) (both (labelMeant everyType (p .pieces) (entryOf (recordOf r) .label)) (macMeant everyType (p .pieces) (macOf (recordOf r))))
     by-state false e = not-learned (slotOf (recordOf r)) (not-true-false _ (λ q. eqb-false (stateOf (recordOf r)) 1 e (learned-state (recordOf r) q)))
 
-    pub slot-parts : slotMeant everyType p ingress r ≡ both (candidate ingress (p .nicks) r) (restMeant (p .pieces) r)
-    unfolding candidate
-    slot-parts = by-state (eqb (stateOf (recordOf r)) 1) refl
+    asked-is : (names : List ℕ) → NicknamesTold ingress (p .nicks) names → slotAsked names (p .pieces) r ≡ slotMeant everyType p ingress r
+    unfolding slotAsked candidate
+    asked-is names told =
+        rw (told .each (nicknameOf (recordOf r)) (omega arith))
+        (sym (by-state (eqb (stateOf (recordOf r)) 1) refl))
+
+  -- the slots that the code asks for are those that are meant
+  pub cleared-as-meant : (names : List ℕ) → NicknamesTold ingress (p .nicks) names → (t u : List ℕ) (n : ℕ) → onTable n u ≡ clearedBy (slotAsked names (p .pieces)) t → onTable n u ≡ clearedBy (slotMeant everyType p ingress) t
+  cleared-as-meant names told t u n e = e ∙ ap (λ (meant : List ℕ → Bool). clearedBy meant t) (fun-ext (λ r. asked-is r names told))
+
+-- a set of bytes that are all 0 has nothing in it
+pub zeros-empty : (n : ℕ) → Empty n (replicate n 0)
+unfolding bitAt bitOf
+zeros-empty n = record { long = length-replicate n 0; none = λ x. rw (zeros n (x / 8), zero-div) }
+  where
+    zeros : (n i : ℕ) → _≡_ {A = ℕ} (getD (replicate n 0) i 0) 0
+    zeros zero i = refl
+    zeros (suc n) zero = refl
+    zeros (suc n) (suc i) = zeros n i
+
+pub zeros-areas : (n : ℕ) → n ≤ 4096 → Areas (replicate n 0) (replicate n 0) (replicate (n + 1) 0)
+zeros-areas n h = record {
+  few = rw (length-replicate {A = ℕ} n 0) h;
+  same = refl;
+  more = rw (length-replicate {A = ℕ} n 0, length-replicate {A = ℕ} (n + 1) 0);
+}

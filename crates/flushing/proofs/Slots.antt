@@ -14,11 +14,10 @@ use Rattle.numbers.specs.After.{onTable}
 use Rattle.numbers.proofs.Truth.{both-left}
 use Rattle.table.specs.Slots.{slotBytes, slotsOf, slotAt, freed, onSlots, countSlots}
 use Rattle.table.proofs.Slots.{Local, length-onSlots, lent-onSlots, on-step}
-use Rattle.flush.specs.Payload.{everyType, Payload}
-use Rattle.flush.specs.Flush.{slotMeant, clearedSlot, clearedBy}
+use Rattle.flush.specs.Payload.{Piece}
+use Rattle.flush.specs.Flush.{clearedSlot, clearedBy}
 use Rattle.flush.proofs.Flushing.{cleared-hit, cleared-miss, cleared-keeps}
-use Rattle.flushing.specs.Clearing.{candidate, restMeant, Passed, Next, ClearedOne, ClearedFirst}
-use Rattle.flushing.proofs.Parts.{slot-parts}
+use Rattle.flushing.specs.Clearing.{candidate, restMeant, slotAsked, Passed, Next, ClearedOne, ClearedFirst}
 
 -- ---- one slot
 
@@ -117,30 +116,31 @@ module _ (meant : List ℕ → Bool) (t : List ℕ) where
 
 -- ---- from one candidate to the next
 
-module _ (p : Payload) (ingress : ℕ) (t : List ℕ) (i c : ℕ) (u : List ℕ) (so-far : ClearedFirst (slotMeant everyType p ingress) t i c u) (k : ℕ) (next : Next (candidate ingress (p .nicks)) u i (slotsOf t) k) where
-  not-candidate : (r : List ℕ) → candidate ingress (p .nicks) r ≡ false → slotMeant everyType p ingress r ≡ false
-  not-candidate r h = slot-parts p ingress r ∙ both-left _ _ h
+module _ (names : List ℕ) (ps : List Piece) (t : List ℕ) (i c : ℕ) (u : List ℕ) (so-far : ClearedFirst (slotAsked names ps) t i c u) (k : ℕ) (next : Next (candidate names) u i (slotsOf t) k) where
+  not-candidate : (r : List ℕ) → candidate names r ≡ false → slotAsked names ps r ≡ false
+  unfolding slotAsked
+  not-candidate r h = both-left _ _ h
 
-  candidate-rest : (r : List ℕ) → candidate ingress (p .nicks) r ≡ true → restMeant (p .pieces) r ≡ slotMeant everyType p ingress r
-  unfolding both
-  candidate-rest r h = sym (slot-parts p ingress r ∙ rw h)
+  candidate-rest : (r : List ℕ) → candidate names r ≡ true → restMeant ps r ≡ slotAsked names ps r
+  unfolding slotAsked both
+  candidate-rest r h = rw h
 
-  skipped : ClearedFirst (slotMeant everyType p ingress) t k c u
+  skipped : ClearedFirst (slotAsked names ps) t k c u
   skipped =
       let far = next .passed .behind in
       let near = next .within in
       let sum : i + (k - i) ≡ k = omega arith in
       rw sum at
-      (first-skip (slotMeant everyType p ingress) t (k - i) i c u so-far (omega arith) (λ j a b. not-candidate (slotAt j u) (next .passed .none j a (omega arith))))
+      (first-skip (slotAsked names ps) t (k - i) i c u so-far (omega arith) (λ j a b. not-candidate (slotAt j u) (next .passed .none j a (omega arith))))
 
-  pub slots-done : slotsOf t ≤ k → onTable c u ≡ clearedBy (slotMeant everyType p ingress) t
+  pub slots-done : slotsOf t ≤ k → onTable c u ≡ clearedBy (slotAsked names ps) t
   slots-done h =
       let near = next .within in
-      first-all (slotMeant everyType p ingress) t k c u skipped (omega arith)
+      first-all (slotAsked names ps) t k c u skipped (omega arith)
 
-  pub slots-next : k < slotsOf t → (n : ℕ) (r : List ℕ) → ClearedOne (restMeant (p .pieces)) (take (slotBytes * k + slotBytes - slotBytes * k) (drop (slotBytes * k) u)) n r
-      → ClearedFirst (slotMeant everyType p ingress) t (k + 1) (c + n) (take (slotBytes * k) u ++ (r ++ drop (slotBytes * k + slotBytes - slotBytes * k) (drop (slotBytes * k) u)))
+  pub slots-next : k < slotsOf t → (n : ℕ) (r : List ℕ) → ClearedOne (restMeant ps) (take (slotBytes * k + slotBytes - slotBytes * k) (drop (slotBytes * k) u)) n r
+      → ClearedFirst (slotAsked names ps) t (k + 1) (c + n) (take (slotBytes * k) u ++ (r ++ drop (slotBytes * k + slotBytes - slotBytes * k) (drop (slotBytes * k) u)))
   slots-next h n r one =
       let part : slotBytes * k + slotBytes - slotBytes * k ≡ slotBytes = add-sub-cancel-left (slotBytes * k) slotBytes in
-      first-next (slotMeant everyType p ingress) t k c u skipped (omega arith) n r
-      (one-same (restMeant (p .pieces)) (slotMeant everyType p ingress) _ n r (rw part (candidate-rest (slotAt k u) (next .hit h))) one)
+      first-next (slotAsked names ps) t k c u skipped (omega arith) n r
+      (one-same (restMeant ps) (slotAsked names ps) _ n r (rw part (candidate-rest (slotAt k u) (next .hit h))) one)

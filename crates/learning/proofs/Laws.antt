@@ -3,7 +3,7 @@
 use Prim.Native.Nat.{ℕ, _+_, _*_, _^_, _<_, _≤_}
 use mathlib.Core.Bool.{Bool}
 use mathlib.Core.List.{List}
-use mathlib.Core.Path.{_≡_, refl, sym, ap, _∙_}
+use mathlib.Core.Path.{_≡_, refl, sym, _∙_}
 use native.Mathlib.Omega.{arith}
 use lib.Dec.{ltb}
 use lib.ListN.{length, drop}
@@ -11,7 +11,7 @@ use borrow.Author.Tests.{lt-ltb, le-ltb}
 use Rattle.numbers.specs.Tests.{pick}
 use Rattle.numbers.specs.After.{onTable}
 use Rattle.table.specs.Learning.{putEntry, overMatch, freeSlot, intoFree, learnedAt, learnt}
-use Rattle.table.specs.Record.{kindNumber, labelNumber, labelFrom, slotOf, unpacked}
+use Rattle.table.specs.Record.{kindNumber, labelNumber, labelFrom, unpacked}
 use Rattle.table.specs.Slots.{slotBytes, slotAt, lowest}
 use Rattle.table.specs.Table.{holds}
 use Rattle.table.specs.declared.Label.{Label}
@@ -25,12 +25,11 @@ use Rattle.table.specs.declared.Learning.{Learning}
 use Rattle.table.specs.declared.Learning.the-variants as learning
 use Rattle.table.proofs.Slots.{lowest-within}
 use Rattle.table.proofs.Packing.{label-back}
-use Rattle.search.proofs.Laws.{record-near}
+use Rattle.records.proofs.Laws.{unpacked-near}
 
 module _ (t : List ℕ) (k : ℕ) (e : Entry) (s : Slot) (here : s ≡ unpacked (drop (slotBytes * k) t)) where
   in-slot : unpacked (slotAt k t) ≡ s
-  unfolding unpacked
-  in-slot = ap slotOf (record-near k t) ∙ sym here
+  in-slot = unpacked-near (drop (slotBytes * k) t) ∙ sym here
 
   pub over-free : s ≡ Free → onTable learning.Kept t ≡ overMatch (unpacked (slotAt k t)) k e t
   unfolding overMatch

@@ -57,7 +57,10 @@ pub fn be8(s: &[u8], k: usize) -> u64
     requires { ⌜ k + 8 ≤ length (now s) ⌝ }
     ensures { λ r. ⌜ (r ≡ num (take 8 (drop k (now (s .entry))))) × (r < 2 ^ 64) ⌝ }
 {
-    be4(s, k) * 0x1_0000_0000 + be4(s, k + 4)
+    be2(s, k) * 0x1_0000_0000_0000
+        + be2(s, k + 2) * 0x1_0000_0000
+        + be2(s, k + 4) * 0x1_0000
+        + be2(s, k + 6)
 }
 
 // Fills s with the low bytes of v.

@@ -7,7 +7,7 @@ use native.Mathlib.Omega.{arith}
 use lib.ListN.{length, take, drop, length-drop}
 use lib.Seq.{take-add, drop-drop, length-take-le}
 use Rattle.frame.specs.Front.{inner}
-use Rattle.frame.proofs.Local.{header-is}
+use Rattle.frame.proofs.Local.{header-is, LabelIs, vlan, fine, label-is}
 use Rattle.frame.proofs.Parts.{Good}
 use Rattle.parsing.specs.Meaning.{fieldsIn, parsedWithin, Within}
 use Rattle.parsing.specs.declared.Parts.{Parts}
@@ -20,6 +20,10 @@ fields-within n x p w e = rw e at w
 
 pub dst-room : (n : ℕ) (x : Parsed) (p : Parts) → parsedWithin n x → x ≡ parsed.Fields p → p .dst + 6 ≤ n
 dst-room n x p w e = let a = fields-within n x p w e .addresses in omega arith
+
+label-four : (l : List ℕ) (n : ℕ) → LabelIs l n → 4 ≤ n
+label-four l n (vlan e a b h) = omega arith
+label-four l n (fine e a b c h) = omega arith
 
 module _ (f : List ℕ) (p : Parts) where
   -- inner destination, inner source and label are one piece
@@ -52,4 +56,14 @@ module _ (f : List ℕ) (p : Parts) where
         let h : List ℕ = fieldsIn f p .header in
         let i = header-is inner (h ++ []) (length h) (g .header inner refl []) .size in
         let l = header-long in
+        omega arith
+
+    -- a label that was read has at least four bytes
+    pub label-bytes : Good (fieldsIn f p) → 4 ≤ p .label
+    label-bytes g =
+        let l : List ℕ = fieldsIn f p .label in
+        let i = label-four (l ++ []) (length l) (label-is (l ++ []) (length l) (g .label [])) in
+        let a = w .addresses in
+        let d = length-drop (p .dst + 12) f in
+        let k : length l ≡ p .label = length-take-le (p .label) (drop (p .dst + 12) f) (omega arith) in
         omega arith

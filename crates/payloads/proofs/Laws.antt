@@ -72,7 +72,7 @@ module _ (ask : Piece → Bool) where
     unfolding piecesOf
     of-blocks some = ap (anyOf ask) (pick-false (eqb n 0) _ _ (ne-eqb n 0 some))
 
-    none-brought : (n ≡ 0 → ⊥) → ((b : List ℕ) → ask (block b) ≡ false) → false ≡ anyOf ask (piecesOf n r)
+    pub none-brought : (n ≡ 0 → ⊥) → ((b : List ℕ) → ask (block b) ≡ false) → false ≡ anyOf ask (piecesOf n r)
     none-brought some none = sym (of-blocks some ∙ no-blocks none (parts blockBytes (take (blockBytes * n) r)))
 
 module _ (n : ℕ) (r : List ℕ) (some : n ≡ 0 → ⊥) where

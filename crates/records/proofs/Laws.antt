@@ -3,10 +3,11 @@
 use Prim.Native.Nat.{ℕ, _+_, _*_, _/_, _%_, _^_, _<_, _≤_}
 use mathlib.Core.Bool.{Bool, true, false, not, _&&_, _||_}
 use mathlib.Core.List.{List}
-use mathlib.Core.Path.{_≡_, refl, sym, _∙_}
+use mathlib.Core.Path.{_≡_, refl, sym, ap, _∙_}
 use native.Mathlib.Omega.{arith}
 use lib.Dec.{leb, eqb}
 use lib.ListN.{length, take, drop, getD}
+use lib.Seq.{take-take}
 use borrow.Author.Tests.{le-leb, eq-eqb, ne-eqb, eqb-true, eqb-false}
 use Rattle.numbers.specs.Tests.{pick, both, either, between}
 use Rattle.numbers.specs.Ranges.{individual, groupBit, nicknameGood, vlanGood, lastAddress, lastFine}
@@ -15,7 +16,8 @@ use Rattle.numbers.specs.Bytes.{num}
 use Rattle.numbers.specs.Bytes.{AreBytes}
 use Rattle.numbers.proofs.Bytes.{num-one, num-add, num-part-lt}
 use Rattle.numbers.proofs.Truth.{both-true, both-left, both-right, pick-false, between-is, between-below, between-above}
-use Rattle.table.specs.Record.{stateOf, kindOf, labelOf, macOf, nicknameOf, confidenceOf, secondsOf, learnedState, configuredState, labelFrom, labelGood, entryOf, entryGood, held, slotOf, isFree, isSpoilt, isLearned, sameLabel, entryMatches, slotMatches}
+use Rattle.table.specs.Record.{recordBytes, recordOf, stateOf, kindOf, labelOf, macOf, nicknameOf, confidenceOf, secondsOf, learnedState, configuredState, labelFrom, labelGood, entryOf, entryGood, held, slotOf, unpacked, isFree, isSpoilt, isLearned, sameLabel, entryMatches, slotMatches}
+use Rattle.table.specs.Slots.{slotBytes}
 use Rattle.table.specs.declared.Label.{Label}
 use Rattle.table.specs.declared.Label.the-variants.{Vlan, Fine}
 use Rattle.table.specs.declared.Entry.{Entry}
@@ -33,6 +35,14 @@ pub or-either : (a b : Bool) → a || b ≡ either a b
 unfolding either
 or-either true b = refl
 or-either false b = refl
+
+-- a record's number is that of the bytes from its place on
+pub record-near : (x : List ℕ) → recordOf (take slotBytes x) ≡ recordOf x
+record-near x = ap num (take-take recordBytes slotBytes x (omega arith))
+
+pub unpacked-near : (x : List ℕ) → unpacked (take slotBytes x) ≡ unpacked x
+unfolding unpacked
+unpacked-near x = ap slotOf (record-near x)
 
 -- ---- what a record holds, by its number
 
@@ -63,11 +73,11 @@ module _ (e : Entry) where
   learned-cases false false true g h = let p = h refl in cc
   learned-cases false false false g h = refl
 
-free-is : (n : ℕ) → isFree (slotOf n) ≡ eqb n 0
+pub free-is : (n : ℕ) → isFree (slotOf n) ≡ eqb n 0
 unfolding slotOf held
 free-is n = free-cases (entryOf n) (eqb n 0) _ _
 
-spoilt-is : (n : ℕ) → isSpoilt (slotOf n) ≡ both (not (eqb n 0)) (not (both (between learnedState configuredState (stateOf n)) (entryGood (entryOf n))))
+pub spoilt-is : (n : ℕ) → isSpoilt (slotOf n) ≡ both (not (eqb n 0)) (not (both (between learnedState configuredState (stateOf n)) (entryGood (entryOf n))))
 unfolding slotOf held
 spoilt-is n = spoilt-cases (entryOf n) (eqb n 0) _ _
 
@@ -77,7 +87,7 @@ state-tells n h =
     let e : stateOf n ≡ 1 = eqb-true (stateOf n) 1 h in
     (ne-eqb n 0 (λ z. omega arith), rw e)
 
-learned-is : (n : ℕ) → isLearned (slotOf n) ≡ both (eqb (stateOf n) learnedState) (entryGood (entryOf n))
+pub learned-is : (n : ℕ) → isLearned (slotOf n) ≡ both (eqb (stateOf n) learnedState) (entryGood (entryOf n))
 unfolding slotOf held
 learned-is n = learned-cases (entryOf n) (eqb n 0) _ (eqb (stateOf n) learnedState) (entryGood (entryOf n)) (state-tells n)
 
@@ -115,15 +125,13 @@ module _ (n : ℕ) where
 
 -- ---- the parts
 
-zero-both : (a b : ℕ) (x y : Bool) → eqb a 0 ≡ x → eqb b 0 ≡ y → x && y ≡ eqb (a * 2 ^ 48 + b) 0
-zero-both a b true true p q =
-    let u = eqb-true a 0 p in
-    let v = eqb-true b 0 q in
-    sym (eq-eqb (a * 2 ^ 48 + b) 0 (omega arith))
-zero-both a b true false p q = let v = eqb-false b 0 q in sym (ne-eqb (a * 2 ^ 48 + b) 0 (λ z. v (omega arith)))
-zero-both a b false y p q = let u = eqb-false a 0 p in sym (ne-eqb (a * 2 ^ 48 + b) 0 (λ z. u (omega arith)))
+-- two parts are 0 exactly where the number is
+pub zero-parts : (n a b : ℕ) → (a ≡ 0 → b ≡ 0 → n ≡ 0) → (n ≡ 0 → (a ≡ 0) × (b ≡ 0)) → (x y : Bool) → eqb a 0 ≡ x → eqb b 0 ≡ y → x && y ≡ eqb n 0
+zero-parts n a b f g true true p q = sym (eq-eqb n 0 (f (eqb-true a 0 p) (eqb-true b 0 q)))
+zero-parts n a b f g true false p q = sym (ne-eqb n 0 (λ z. eqb-false b 0 q (g z .1)))
+zero-parts n a b f g false y p q = sym (ne-eqb n 0 (λ z. eqb-false a 0 p (g z .0)))
 
-label-test : (k x : ℕ) → k < 2 → x < 2 ^ 24 → eqb k 1 || (leb 1 x && leb x 0xffe) ≡ labelGood (labelFrom k x)
+pub label-test : (k x : ℕ) → k < 2 → x < 2 ^ 24 → eqb k 1 || (leb 1 x && leb x 0xffe) ≡ labelGood (labelFrom k x)
 unfolding labelFrom vlanGood between pick
 label-test k x hk hx = go (ℕ-discrete k 0)
   where
@@ -131,7 +139,7 @@ label-test k x hk hx = go (ℕ-discrete k 0)
     go (yes e) = rw e (and-both (leb 1 x) (leb x 0xffe))
     go (no e) = let o : k ≡ 1 = omega arith in rw o (sym (le-leb x lastFine (omega arith)))
 
-individual-test : (m : ℕ) → m < 2 ^ 48 → eqb (groupBit m) 0 ≡ individual m
+pub individual-test : (m : ℕ) → m < 2 ^ 48 → eqb (groupBit m) 0 ≡ individual m
 unfolding individual both
 individual-test m h = rw (le-leb m lastAddress (omega arith))
 
@@ -159,7 +167,9 @@ good-fields n k x g y kind label group nickname =
 
 module _ (h : Halves) where
   pub free-halves : eqb (h .hi) 0 && eqb (h .lo) 0 ≡ isFree (slotOf (wholeOf h))
-  free-halves = zero-both (h .hi) (h .lo) _ _ refl refl ∙ sym (free-is (wholeOf h))
+  free-halves =
+      zero-parts (wholeOf h) (h .hi) (h .lo) (λ p q. omega arith) (λ z. (omega arith, omega arith)) _ _ refl refl
+      ∙ sym (free-is (wholeOf h))
 
   module _ (s : Small h) where
     pub good-halves : (eqb (h .hi / 2 ^ 61 % 2) 1 || (leb 1 (h .hi / 2 ^ 37 % 2 ^ 24) && leb (h .hi / 2 ^ 37 % 2 ^ 24) 0xffe)) && (eqb (h .hi / 2 ^ 29 % 2) 0 && (leb 1 (h .lo / 2 ^ 21 % 2 ^ 16) && leb (h .lo / 2 ^ 21 % 2 ^ 16) 0xffbf)) ≡ entryGood (entryOf (wholeOf h))
@@ -228,7 +238,7 @@ join-whole k l m n c t = omega arith
 
 -- ---- a label and an address
 
-same-label-from : (k x j y : ℕ) → k ≤ 1 → j < 2 → eqb k j && eqb x y ≡ sameLabel (labelFrom k x) (labelFrom j y)
+pub same-label-from : (k x j y : ℕ) → k ≤ 1 → j < 2 → eqb k j && eqb x y ≡ sameLabel (labelFrom k x) (labelFrom j y)
 unfolding labelFrom pick
 same-label-from k x j y hk hj = go (ℕ-discrete k 0) (ℕ-discrete j 0)
   where
@@ -254,41 +264,35 @@ module _ (l : Label) (m : ℕ) (e : Entry) where
 held-some : (n : ℕ) → between learnedState configuredState (stateOf n) ≡ true → eqb n 0 ≡ false
 held-some n h = let k = between-is 1 2 (stateOf n) h in ne-eqb n 0 (λ z. omega arith)
 
-matches-is : (l : Label) (m n : ℕ) → slotMatches l m (slotOf n) ≡ both (both (between learnedState configuredState (stateOf n)) (entryGood (entryOf n))) (entryMatches l m (entryOf n))
+pub matches-is : (l : Label) (m n : ℕ) → slotMatches l m (slotOf n) ≡ both (both (between learnedState configuredState (stateOf n)) (entryGood (entryOf n))) (entryMatches l m (entryOf n))
 unfolding slotOf held
 matches-is l m n = matches-cases l m (entryOf n) (eqb n 0) (between learnedState configuredState (stateOf n)) (entryGood (entryOf n)) _ (held-some n)
 
-module _ (h : Halves) (s : Small h) (k x m : ℕ) (hk : k ≤ 1) where
-  entry-same : (eqb k (h .hi / 2 ^ 61 % 2) && eqb x (h .hi / 2 ^ 37 % 2 ^ 24)) && eqb m (h .hi % 2 ^ 37 * 2 ^ 11 + h .lo / 2 ^ 37) ≡ entryMatches (labelFrom k x) m (entryOf (wholeOf h))
-  unfolding entryMatches entryOf
-  entry-same =
-      let n : ℕ = wholeOf h in
-      let hi = s .hi-small in
-      let lo = s .lo-small in
-      let kind : h .hi / 2 ^ 61 % 2 ≡ kindOf n = omega arith in
-      let label : h .hi / 2 ^ 37 % 2 ^ 24 ≡ labelOf n = omega arith in
-      let mac : h .hi % 2 ^ 37 * 2 ^ 11 + h .lo / 2 ^ 37 ≡ macOf n = omega arith in
-      rw (kind, label, mac, same-label-from k x (kindOf n) (labelOf n) hk (omega arith)) (and-both _ _)
-
-  pub pair-halves : (y : ℕ) (g : Bool) → y ≡ stateOf (wholeOf h) → g ≡ entryGood (entryOf (wholeOf h))
-      → ((leb 1 y && leb y 2) && g) && ((eqb k (h .hi / 2 ^ 61 % 2) && eqb x (h .hi / 2 ^ 37 % 2 ^ 24)) && eqb m (h .hi % 2 ^ 37 * 2 ^ 11 + h .lo / 2 ^ 37)) ≡ slotMatches (labelFrom k x) m (slotOf (wholeOf h))
-  unfolding between
-  pair-halves y g p q =
-      rw (p, q, entry-same, and-both (leb 1 (stateOf (wholeOf h))) (leb (stateOf (wholeOf h)) 2), and-both (both (leb 1 (stateOf (wholeOf h))) (leb (stateOf (wholeOf h)) 2)) (entryGood (entryOf (wholeOf h))))
-      (and-both _ _ ∙ sym (matches-is (labelFrom k x) m (wholeOf h)))
-
 -- a record that holds a label and an address has these in its fields
-pair-fields : (k x m n : ℕ) → k ≤ 1 → slotMatches (labelFrom k x) m (slotOf n) ≡ true → (x ≡ labelOf n) × (m ≡ macOf n)
+pub record Fields (k x m n : ℕ) : Type 0 where
+  pub kind : k ≡ kindOf n
+  pub label : x ≡ labelOf n
+  pub mac : m ≡ macOf n
+
+pub pair-fields : (k x m n : ℕ) → k ≤ 1 → slotMatches (labelFrom k x) m (slotOf n) ≡ true → Fields k x m n
 unfolding entryMatches entryOf
 pair-fields k x m n hk h =
     let a = both-true _ _ (sym (matches-is (labelFrom k x) m n) ∙ h) in
     let b = both-true (sameLabel (labelFrom k x) (labelFrom (kindOf n) (labelOf n))) (eqb m (macOf n)) (a .1) in
     let c : eqb k (kindOf n) && eqb x (labelOf n) ≡ true = same-label-from k x (kindOf n) (labelOf n) hk (omega arith) ∙ b .0 in
     let d = both-true (eqb k (kindOf n)) (eqb x (labelOf n)) (sym (and-both _ _) ∙ c) in
-    (eqb-true x (labelOf n) (d .1), eqb-true m (macOf n) (b .1))
+    record {
+      kind = eqb-true k (kindOf n) (d .0);
+      label = eqb-true x (labelOf n) (d .1);
+      mac = eqb-true m (macOf n) (b .1);
+    }
 
 pub pair-fits : (k x m n : ℕ) → k ≤ 1 → slotMatches (labelFrom k x) m (slotOf n) ≡ true → (x < 2 ^ 24) × (m < 2 ^ 48)
-pair-fits k x m n hk h = let p = pair-fields k x m n hk h in omega arith
+pair-fits k x m n hk h =
+    let p = pair-fields k x m n hk h in
+    let label = p .label in
+    let mac = p .mac in
+    omega arith
 
 -- the state of a free record
 pub free-state : (n : ℕ) → isFree (slotOf n) ≡ true → stateOf n ≡ 0
@@ -300,7 +304,7 @@ learned-state n h = eqb-true (stateOf n) 1 (both-true _ _ (sym (learned-is n) �
 
 -- a record that holds a label and an address has their key
 pub pair-key : (k x m n : ℕ) → k ≤ 1 → slotMatches (labelFrom k x) m (slotOf n) ≡ true → keyIn n ≡ keyOf m
-pair-key k x m n hk h = let p = pair-fields k x m n hk h in omega arith
+pair-key k x m n hk h = let mac = pair-fields k x m n hk h .mac in omega arith
 
 -- a record of state 1 is learned where its entry is good
 pub learned-good : (n : ℕ) → stateOf n ≡ 1 → (g : Bool) → g ≡ entryGood (entryOf n) → isLearned (slotOf n) ≡ g
@@ -317,10 +321,6 @@ module _ (n : ℕ) where
   module _ (not-0 : stateOf n ≡ 0 → ⊥) where
     some-bit : eqb n 0 ≡ false
     some-bit = ne-eqb n 0 (λ z. not-0 (omega arith))
-
-    pub spoilt-3 : stateOf n ≡ 3 → true ≡ isSpoilt (slotOf n)
-    unfolding between both not
-    spoilt-3 e = rw (spoilt-is n, e, some-bit)
 
     pub spoilt-bad : (stateOf n ≡ 3 → ⊥) → stateOf n < 4 → (g : Bool) → g ≡ entryGood (entryOf n) → not g ≡ isSpoilt (slotOf n)
     unfolding between both not

@@ -1,9 +1,12 @@
 -- A record's number in the two parts that the code holds.
 -- Assumes nothing.
-use Prim.Native.Nat.{ℕ, _+_, _*_, _/_, _%_, _^_, _<_}
+use Prim.Native.Nat.{ℕ, _+_, _*_, _/_, _%_, _^_, _<_, _≤_}
+use mathlib.Core.Bool.{Bool, true}
 use mathlib.Core.Path.{_≡_}
 use Rattle.numbers.specs.Tests.{pick, both, between}
-use Rattle.table.specs.Record.{stateOf, learnedState, configuredState, entryOf, entryGood, held, labelNumber}
+use Rattle.numbers.specs.Ranges.{individual}
+use Rattle.table.specs.Record.{stateOf, learnedState, configuredState, entryOf, entryGood, held, labelFrom, labelGood, labelNumber}
+use Rattle.table.specs.declared.Label.{Label}
 use Rattle.table.specs.declared.Entry.{Entry}
 use Rattle.table.specs.declared.Slot.{Slot}
 use Rattle.table.specs.declared.Slot.the-variants.{Spoilt}
@@ -41,3 +44,14 @@ keyIn n = n / 2 ^ 40 % 2 ^ 8
 
 abbrev pub keyOf : ℕ → ℕ
 keyOf mac = mac / 2 ^ 3 % 2 ^ 8
+
+-- a label and an address that a good record can hold
+unfoldable pub pairGood : Label → ℕ → Bool
+pairGood l m = both (labelGood l) (individual m)
+
+-- their numbers, which fit their bits
+pub record Pair (kind label mac : ℕ) : Type 0 where
+  pub kind-small : kind ≤ 1
+  pub label-small : label < 2 ^ 24
+  pub mac-small : mac < 2 ^ 48
+  pub good : pairGood (labelFrom kind label) mac ≡ true

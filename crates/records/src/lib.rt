@@ -1,12 +1,14 @@
 // Records: how a record lies in its bytes. Reading takes the table and the place of the record's first byte.
-ghost use Prim.Native.Nat.{_+_, _<_, _≤_};
+ghost use Prim.Native.Nat.{_+_, _/_, _%_, _^_, _<_, _≤_};
 ghost use mathlib.Core.Path.{_≡_};
 ghost use mathlib.Core.Bool.{true};
 ghost use lib.ListN.{length, drop};
 ghost use Rattle.numbers.specs.Bytes.{bytesOf};
-ghost use Rattle.table.specs.Record.{recordBytes, recordOf, stateOf, nicknameOf, learnedState, entryOf, entryGood, slotOf, unpacked, kindNumber, labelNumber, packed, recordNumber, isFree, labelFrom, slotMatches};
+ghost use Rattle.numbers.specs.Ranges.{nicknameGood};
+ghost use Rattle.table.specs.Record.{recordBytes, recordOf, stateOf, nicknameOf, learnedState, entryOf, entryGood, slotOf, unpacked, kindNumber, labelNumber, packed, recordNumber, isFree, isLearned, labelFrom, slotMatches};
 ghost use Rattle.table.specs.Slots.{slotBytes, freed, tableGood};
-ghost use Rattle.records.specs.Halves.{wholeOf, Small, Halved, Fits, heldOrSpoilt, keyIn, keyOf};
+ghost use Rattle.table.specs.Table.{spoiltSlot};
+ghost use Rattle.records.specs.Halves.{wholeOf, Small, Halved, Fits, heldOrSpoilt, keyIn, keyOf, pairGood, Pair};
 use table::Entry;
 use table::Label;
 use table::Slot;
@@ -120,17 +122,43 @@ pub fn nickname_at(t: &[u8], at: usize) -> u16
     record_fields::nickname_at(t, at) as u16
 }
 
+// Whether the nickname in the record at a place of the table is good. Its high bits tell, but for 0 to 7.
+fn nickname_good_at(t: &[u8], at: usize) -> bool
+    requires { ⌜ at + recordBytes ≤ length (now t) ⌝ }
+    ensures { λ r. ⌜ r ≡ nicknameGood (nicknameOf (recordOf (drop at (now (t .entry))))) ⌝ }
+{
+    let high = record_fields::nickname_high_at(t, at);
+    if (1 <= high) & (high <= 0x1ff7) {
+        return true;
+    }
+    if high == 0 {
+        return 1 <= record_fields::nickname_low_at(t, at);
+    }
+    false
+}
+
+// Whether the entry of the record at a place of the table is good; k is its first four bytes without the state. Bit 29 is the kind and
+// bits 5 to 28 are the label, so both kinds of labels take the same way: none is VLAN 0, and none is a VLAN above FFE.
+fn good_behind(t: &[u8], at: usize, k: u64) -> bool
+    requires { ⌜ (at + recordBytes ≤ length (now t)) × (k ≡ recordOf (drop at (now t)) / 2 ^ 80 % 2 ^ 30) ⌝ }
+    ensures { λ r. ⌜ r ≡ entryGood (entryOf (recordOf (drop at (now (t .entry))))) ⌝ }
+{
+    if k < 0x20 {
+        return false;
+    }
+    let above = (0x1_ffe0 <= k) & (k <= 0x1fff_ffff);
+    if (record_fields::group_at(t, at) != 0) | above {
+        return false;
+    }
+    nickname_good_at(t, at)
+}
+
 // Whether the entry of the record at a place of the table is good, from the bytes of its fields alone.
 pub fn good_at(t: &[u8], at: usize) -> bool
     requires { ⌜ at + recordBytes ≤ length (now t) ⌝ }
     ensures { λ r. ⌜ r ≡ entryGood (entryOf (recordOf (drop at (now (t .entry))))) ⌝ }
 {
-    let fine = record_fields::kind_at(t, at) == 1;
-    let label = record_fields::label_at(t, at);
-    let individual = record_fields::group_at(t, at) == 0;
-    let nickname = record_fields::nickname_at(t, at);
-    (fine | ((1 <= label) & (label <= 0xffe)))
-        & (individual & ((1 <= nickname) & (nickname <= 0xffbf)))
+    good_behind(t, at, record_fields::front_at(t, at) % 0x4000_0000)
 }
 
 // 0 for a VLAN, 1 for a fine-grained label.
@@ -216,17 +244,58 @@ pub fn key_of(mac: u64) -> u64
     mac / 8 % 0x100
 }
 
-// Whether a record holds a label and an address.
-pub fn holds_pair(h: Halves, kind: u64, label: u64, mac: u64) -> bool
-    requires { ⌜ Small h × (kind ≤ 1) ⌝ }
-    ensures { λ r. ⌜ r ≡ slotMatches (labelFrom kind label) mac (slotOf (wholeOf h)) ⌝ }
+// Whether a good record can hold a label and an address.
+pub fn pair_good(kind: u64, label: u64, mac: u64) -> bool
+    requires { ⌜ (kind ≤ 1) × ((label < 2 ^ 24) × (mac < 2 ^ 48)) ⌝ }
+    ensures { λ r. ⌜ r ≡ pairGood (labelFrom kind label) mac ⌝ }
 {
-    let state = state_of(h);
-    let held = (1 <= state) & (state <= 2);
-    let same_kind = kind == h.hi / 0x2000_0000_0000_0000 % 2;
-    let same_label = label == h.hi / 0x20_0000_0000 % 0x100_0000;
-    let same_mac = mac == h.hi % 0x20_0000_0000 * 0x800 + h.lo / 0x20_0000_0000;
-    (held & entry_good(h)) & ((same_kind & same_label) & same_mac)
+    ((kind == 1) | ((1 <= label) & (label <= 0xffe))) & (mac / 0x100_0000_0000 % 2 == 0)
+}
+
+// Whether the record at a place of the table holds a label and an address that a good record can hold, and whose key it has: what is
+// left to compare is its first eight bytes, learned or configured, and three bits of its tenth.
+pub fn pair_at(t: &[u8], at: usize, kind: u64, label: u64, mac: u64) -> bool
+    requires { ⌜ (at + recordBytes ≤ length (now t)) × ((keyIn (recordOf (drop at (now t))) ≡ keyOf mac) × Pair kind label mac) ⌝ }
+    ensures { λ r. ⌜ r ≡ slotMatches (labelFrom kind label) mac (slotOf (recordOf (drop at (now (t .entry))))) ⌝ }
+{
+    let front = (kind * 0x100_0000 + label) * 0x20_0000_0000 + mac / 0x800;
+    let hi = numbers::be8(t, at);
+    let held = (hi == front + 0x4000_0000_0000_0000) | (hi == front + 0x8000_0000_0000_0000);
+    if !held {
+        return false;
+    }
+    if numbers::wide(t[at + 9]) / 0x20 != mac % 8 {
+        return false;
+    }
+    let nickname = record_fields::nickname_at(t, at);
+    (1 <= nickname) & (nickname <= 0xffbf)
+}
+
+// Whether the record at a place of the table is learned. The test of the state passes over VLAN 0 as well.
+pub fn learned_at(t: &[u8], at: usize) -> bool
+    requires { ⌜ at + recordBytes ≤ length (now t) ⌝ }
+    ensures { λ r. ⌜ r ≡ isLearned (unpacked (drop at (now (t .entry)))) ⌝ }
+{
+    let x = record_fields::front_at(t, at);
+    if !((0x4000_0020 <= x) & (x <= 0x7fff_ffff)) {
+        return false;
+    }
+    good_behind(t, at, x - 0x4000_0000)
+}
+
+// Whether the record at a place of the table is spoilt. The same test passes over the learned VLAN 0, which is spoilt.
+pub fn spoilt_at(t: &[u8], at: usize) -> bool
+    requires { ⌜ at + recordBytes ≤ length (now t) ⌝ }
+    ensures { λ r. ⌜ r ≡ spoiltSlot (drop at (now (t .entry))) ⌝ }
+{
+    let x = record_fields::front_at(t, at);
+    if (0x4000_0020 <= x) & (x <= 0xbfff_ffff) {
+        return !good_behind(t, at, x % 0x4000_0000);
+    }
+    if x != 0 {
+        return true;
+    }
+    !((numbers::be8(t, at + 4) == 0) & (numbers::be2(t, at + 12) == 0))
 }
 
 // Refusal 2: whether a table has a good length.
@@ -234,5 +303,8 @@ pub fn table_good(t: &[u8]) -> bool
     ensures { λ r. ⌜ r ≡ tableGood (now (t .entry)) ⌝ }
 {
     let n = t.len();
-    ((1 <= n) & (n <= 57_344)) & (n % 14 == 0)
+    if !((1 <= n) & (n <= 57_344)) {
+        return false;
+    }
+    n % 14 == 0
 }

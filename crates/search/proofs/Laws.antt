@@ -1,22 +1,21 @@
 -- Laws of searching: each test looks at a slot's own bytes; what the telling bytes rule out; numbers that no good record can hold.
 -- Assumes nothing.
-use Prim.Native.Nat.{ℕ, _+_, _*_, _%_, _^_, _<_, _≤_}
+use Prim.Native.Nat.{ℕ, zero, suc, _+_, _-_, _*_, _%_, _^_, _<_, _≤_}
 use mathlib.Core.Bool.{Bool, true, false}
 use mathlib.Core.List.{List}
-use mathlib.Core.Path.{_≡_, sym, ap, _∙_}
+use mathlib.Core.Path.{_≡_, refl, sym, ap, _∙_}
+use native.Mathlib.Nat.{zero-add}
 use native.Mathlib.Decide.{ℕ-discrete}
 use native.Mathlib.Omega.{arith}
 use lib.Dec.{eqb}
-use lib.ListN.{take, drop, length}
-use lib.Seq.{take-take}
+use lib.ListN.{drop, length}
 use borrow.Author.Tests.{ne-eqb}
 use Rattle.numbers.specs.Tests.{pick, between}
 use Rattle.numbers.specs.Result.{check, settled}
 use Rattle.numbers.proofs.Truth.{not-true-false, both-true, between-is}
-use Rattle.numbers.specs.Bytes.{num}
 use Rattle.table.specs.Learning.{freeSlot}
-use Rattle.table.specs.Record.{recordBytes, recordOf, stateOf, nicknameOf, vlanKind, fineKind, labelFrom, slotOf, unpacked, isFree, isSpoilt, slotMatches}
-use Rattle.table.specs.Slots.{slotBytes, mostSlots, tableGood, slotAt, lowest}
+use Rattle.table.specs.Record.{recordOf, stateOf, nicknameOf, vlanKind, fineKind, labelFrom, unpacked, isFree, isSpoilt, slotMatches}
+use Rattle.table.specs.Slots.{slotBytes, mostSlots, tableGood, firstSlot, lowest}
 use Rattle.table.specs.Table.{holds, placeOf, nicknameAt, lookedUp, spoiltSlot, spoiltAt, lowestSpoilt}
 use Rattle.table.specs.declared.Label.{Label}
 use Rattle.table.specs.declared.Label.the-variants.{Vlan, Fine}
@@ -24,13 +23,11 @@ use Rattle.table.specs.declared.Place.{Place}
 use Rattle.table.specs.declared.Place.the-variants.{At, Nowhere}
 use Rattle.table.specs.declared.LookupAnswer.the-variants as lookup
 use Rattle.table.specs.declared.SpoiltAnswer.the-variants as spoilt
-use Rattle.table.proofs.Slots.{Local, lowest-none, lowest-within}
-use Rattle.records.specs.Halves.{keyIn, keyOf}
-use Rattle.records.proofs.Laws.{pair-key, free-state, pair-fits}
-
-unpacked-near : (x : List ℕ) → unpacked (take slotBytes x) ≡ unpacked x
-unfolding unpacked
-unpacked-near x = ap (λ (r : List ℕ). slotOf (num r)) (take-take recordBytes slotBytes x (omega arith))
+use Rattle.table.proofs.Slots.{Local, search-next, lowest-none, lowest-within}
+use Rattle.records.specs.Halves.{keyIn, keyOf, pairGood}
+use Rattle.records.specs.Rounds.{Keyed, Passed}
+use Rattle.records.proofs.Laws.{record-near, unpacked-near, pair-key, free-state, pair-fits}
+use Rattle.records.proofs.Fronts.{pair-holds}
 
 pub holds-near : (l : Label) (m : ℕ) → Local (holds l m)
 unfolding holds
@@ -48,6 +45,25 @@ spoilt-near x = ap isSpoilt (unpacked-near x)
 pub other-key : (k x m : ℕ) → k ≤ 1 → (r : List ℕ) → (keyIn (recordOf r) ≡ keyOf m → ⊥) → false ≡ holds (labelFrom k x) m r
 unfolding holds unpacked
 other-key k x m hk r h = sym (not-true-false _ (λ e. h (pair-key k x m (recordOf r) hk e)))
+
+-- slots with other keys are passed by
+pub search-past : (k x m key : ℕ) → k ≤ 1 → key ≡ keyOf m → (t : List ℕ) (i j : ℕ) → i ≤ j → Passed (Keyed key) i j t → firstSlot (holds (labelFrom k x) m) i t ≡ Nowhere → firstSlot (holds (labelFrom k x) m) j t ≡ Nowhere
+search-past k x m key hk e t i j h passed so-far = let far : j - i + i ≡ j = omega arith in rw far at (go (j - i) (omega arith))
+  where
+    go : (d : ℕ) → d + i ≤ j → firstSlot (holds (labelFrom k x) m) (d + i) t ≡ Nowhere
+    go zero b = rw (zero-add i) so-far
+    go (suc d) b =
+        let next : suc d + i ≡ d + i + 1 = omega arith in
+        rw next (search-next (holds (labelFrom k x) m) (holds-near (labelFrom k x) m) t (d + i) (go d (omega arith)) false (other-key k x m hk (drop (slotBytes * (d + i)) t) (λ q. passed (d + i) (omega arith) (omega arith) (q ∙ sym e))) refl)
+
+-- a label and an address that no good record can hold are nowhere
+pub pair-nowhere : (k x m : ℕ) (t : List ℕ) → k ≤ 1 → (g : Bool) → g ≡ pairGood (labelFrom k x) m → g ≡ false → Nowhere ≡ lowest (holds (labelFrom k x) m) t
+unfolding holds unpacked
+pair-nowhere k x m t hk g e h =
+    lowest-none (holds (labelFrom k x) m) t (λ r. not-true-false _ (λ q. true-not-false (sym (pair-holds k x m (recordOf r) hk q) ∙ sym e ∙ h)))
+  where
+    true-not-false : _≡_ {A = Bool} true false → ⊥
+    true-not-false p = let z : _≡_ {A = ℕ} 0 1 = cc in omega arith
 
 -- another state: the slot is not free
 pub other-state : (r : List ℕ) → (stateOf (recordOf r) ≡ 0 → ⊥) → false ≡ freeSlot r
@@ -88,10 +104,6 @@ place-within k x m t j e = go (eqb k vlanKind) (eqb k fineKind) e
     go false true h = within (holds (Fine x) m) h
     go false false h = let z : _≡_ {A = ℕ} 0 1 = cc in absurd (omega arith)
 
--- a record's number is that of the bytes from its place on
-pub record-near : (j : ℕ) (t : List ℕ) → recordOf (slotAt j t) ≡ recordOf (drop (slotBytes * j) t)
-record-near j t = ap num (take-take recordBytes slotBytes (drop (slotBytes * j) t) (omega arith))
-
 module _ (k x m : ℕ) (t : List ℕ) (g : Bool) (good : g ≡ tableGood t) where
   pub lookup-refused : g ≡ false → lookup.Refused 2 ≡ lookedUp k x m t
   unfolding lookedUp settled check
@@ -100,7 +112,7 @@ module _ (k x m : ℕ) (t : List ℕ) (g : Bool) (good : g ≡ tableGood t) wher
   module _ (ok : g ≡ true) (p : Place) (place : p ≡ placeOf k x m t) where
     pub lookup-found : (j : ℕ) → p ≡ At j → (n : ℕ) → n ≡ nicknameOf (recordOf (drop (slotBytes * j) t)) → lookup.Found n ≡ lookedUp k x m t
     unfolding lookedUp settled check nicknameAt
-    lookup-found j e n f = rw (← good, ok, ← place, e, record-near j t) (ap lookup.Found f)
+    lookup-found j e n f = rw (← good, ok, ← place, e, record-near (drop (slotBytes * j) t)) (ap lookup.Found f)
 
     pub lookup-none : p ≡ Nowhere → lookup.Unknown ≡ lookedUp k x m t
     unfolding lookedUp settled check nicknameAt

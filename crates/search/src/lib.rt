@@ -2,26 +2,56 @@
 // that tell most, and takes the slot apart only where they agree.
 ghost use Prim.Native.Nat.{_+_, _*_, _^_, _<_, _≤_};
 ghost use mathlib.Core.Path.{_≡_};
+ghost use mathlib.Core.Bool.{true};
 ghost use lib.ListN.{length, drop};
 ghost use Rattle.table.specs.Learning.{freeSlot};
 ghost use Rattle.table.specs.Record.{recordBytes, labelFrom};
-ghost use Rattle.table.specs.Slots.{lowest};
+ghost use Rattle.table.specs.Slots.{slotsOf, lowest};
 ghost use Rattle.table.specs.Table.{holds, placeOf, lookedUp, spoiltSlot, lowestSpoilt};
-ghost use Rattle.records.specs.Halves.{keyOf};
+ghost use Rattle.records.specs.Halves.{keyOf, Pair};
+ghost use Rattle.records.specs.Rounds.{Keyed, NoneOfFour, Passed};
 use numbers::refusals::TABLE_LENGTH_BAD;
 use table::LookupAnswer;
 use table::Place;
 use table::SpoiltAnswer;
 
+// Whether none of the four slots at a place has a key.
+fn other_keys(t: &[u8], at: usize, key: u64) -> bool
+    requires { ⌜ at + 56 ≤ length (now t) ⌝ }
+    ensures { λ r. ⌜ (r ≡ true → NoneOfFour (Keyed key) at (now (t .entry))) ⌝ }
+{
+    let a = records::key_at(t, at) != key;
+    let b = records::key_at(t, at + 14) != key;
+    let c = records::key_at(t, at + 28) != key;
+    let d = records::key_at(t, at + 42) != key;
+    (a & b) & (c & d)
+}
+
+// The lowest slot from a slot on in whose round of four some slot has a key, or that is one of the last three.
+fn next_keyed(t: &[u8], from: usize, key: u64) -> usize
+    requires { ⌜ from ≤ slotsOf (now t) ⌝ }
+    ensures { λ r. ⌜ (from ≤ r) × ((r ≤ slotsOf (now (t .entry))) × Passed (Keyed key) from r (now (t .entry))) ⌝ }
+{
+    let n = t.len() / 14;
+    let mut i = from;
+    while 4 <= n - i {
+        if !other_keys(t, 14 * i, key) {
+            return i;
+        }
+        i += 4;
+    }
+    i
+}
+
 // Whether the slot at a place holds a label and an address, whose key is given.
 fn pair_at(t: &[u8], at: usize, key: u64, kind: u64, label: u64, mac: u64) -> bool
-    requires { ⌜ (at + recordBytes ≤ length (now t)) × ((key ≡ keyOf mac) × (kind ≤ 1)) ⌝ }
+    requires { ⌜ (at + recordBytes ≤ length (now t)) × ((key ≡ keyOf mac) × Pair kind label mac) ⌝ }
     ensures { λ r. ⌜ r ≡ holds (labelFrom kind label) mac (drop at (now (t .entry))) ⌝ }
 {
     if records::key_at(t, at) != key {
         return false;
     }
-    records::holds_pair(records::split(t, at), kind, label, mac)
+    records::pair_at(t, at, kind, label, mac)
 }
 
 // The lowest slot with a label and an address.
@@ -29,6 +59,9 @@ pub fn find_pair(t: &[u8], kind: u64, label: u64, mac: u64) -> Place
     requires { ⌜ (kind ≤ 1) × ((label < 2 ^ 24) × (mac < 2 ^ 48)) ⌝ }
     ensures { λ r. ⌜ r ≡ lowest (holds (labelFrom kind label) mac) (now (t .entry)) ⌝ }
 {
+    if !records::pair_good(kind, label, mac) {
+        return Place::Nowhere;
+    }
     let key = records::key_of(mac);
     let n = t.len() / 14;
     let mut i = 0;
@@ -36,7 +69,7 @@ pub fn find_pair(t: &[u8], kind: u64, label: u64, mac: u64) -> Place
         if pair_at(t, 14 * i, key, kind, label, mac) {
             return Place::At(i);
         }
-        i += 1;
+        i = next_keyed(t, i + 1, key);
     }
     Place::Nowhere
 }
@@ -67,32 +100,17 @@ pub fn find_free(t: &[u8]) -> Place
     Place::Nowhere
 }
 
-// Whether the slot at a place is spoilt: only where its state bits are 0 is it looked at whole.
-fn spoilt_at(t: &[u8], at: usize) -> bool
-    requires { ⌜ at + recordBytes ≤ length (now t) ⌝ }
-    ensures { λ r. ⌜ r ≡ spoiltSlot (drop at (now (t .entry))) ⌝ }
-{
-    let state = records::state_at(t, at);
-    if state == 0 {
-        return !records::is_free(records::split(t, at));
-    }
-    if state == 3 {
-        return true;
-    }
-    !records::good_at(t, at)
-}
-
-// The lowest spoilt slot.
+// The lowest spoilt slot. Each slot is looked at by its place a.
 fn find_spoilt(t: &[u8]) -> Place
     ensures { λ r. ⌜ r ≡ lowest spoiltSlot (now (t .entry)) ⌝ }
 {
-    let n = t.len() / 14;
-    let mut k = 0;
-    while k < n {
-        if spoilt_at(t, 14 * k) {
-            return Place::At(k);
+    let n = t.len() / 14 * 14;
+    let mut a = 0;
+    while a < n {
+        if records::spoilt_at(t, a) {
+            return Place::At(a / 14);
         }
-        k += 1;
+        a += 14;
     }
     Place::Nowhere
 }

@@ -52,7 +52,7 @@ fn leading(v: &[u8], at: usize, size: usize) -> u64
 }
 
 // The number at a place.
-fn number_at(v: &[u8], at: usize, w: Numbering) -> u64
+pub fn number_at(v: &[u8], at: usize, w: Numbering) -> u64
     requires { ⌜ Sound w × (at + w .size ≤ length (now v)) ⌝ }
     ensures { λ r. ⌜ r ≡ numberOf w (drop at (now (v .entry))) ⌝ }
 {

@@ -1,30 +1,40 @@
--- `ageing::age_slots` meets its contract. The invariant: the first `i` slots are aged, and the others as they were.
+-- `ageing::age_slots` meets its contract. The invariant: the slots below place `a` are aged, and the others as they were.
 -- Assumes nothing.
-use Prim.Native.Nat.{ℕ, _≤_, _-_, _+_, _/_}
+use Prim.Native.Nat.{ℕ, _≤_, _-_, _+_, _/_, _%_}
 use mathlib.Core.List.{List}
-use mathlib.Core.Path.{_≡_, refl, ap, _∙_}
+use mathlib.Core.Path.{_≡_, refl, sym, ap, _∙_}
 use native.Mathlib.Omega.{arith}
 use lib.ListN.{length}
+use Rattle.table.specs.Record.{isLearned}
 use Rattle.table.specs.Slots.{onSlots}
 use Rattle.table.specs.Table.{agedSlot}
-use Rattle.table.proofs.Slots.{length-lent, length-onSlots, on-step}
+use Rattle.table.proofs.Slots.{length-onSlots}
 use Rattle.table.proofs.Unique.{aged-keeps}
+use Rattle.records.specs.Rounds.{InLearnedState, Passed}
+use Rattle.ageing.proofs.Laws.{length-at, learned-lent, aged-at, passed-by}
 use borrow.Author.Needs.{needs}
 use Rattle.ageing.proofs.age_slots.Statement.{statement}
 use Rattle.ageing.proofs.age_slots.Tie as tie
 
 abbrev Inv-loop : tie.InvT-loop
-Inv-loop table₀ s n i₀ table i = (i ≤ n) × ((length table ≡ length table₀) × (table ≡ onSlots (agedSlot s) 0 i table₀))
+Inv-loop table₀ s n a₀ table a = (a % 14 ≡ 0) × ((a ≤ n) × ((length table ≡ length table₀) × (table ≡ onSlots (agedSlot s) 0 (a / 14) table₀)))
 
 abbrev μ-loop : tie.MeasureT-loop
-μ-loop table₀ s n i₀ table i = n - i
+μ-loop table₀ s n a₀ table a = n - a
+
+mul-n : tie.Need-mul-n Inv-loop μ-loop
+mul-n c = search needs
 
 loop-holds : tie.Need-loop-holds Inv-loop μ-loop
 unfolding onSlots
-loop-holds c = (search needs, (refl, refl))
+loop-holds c = (refl, (search needs, (refl, refl)))
 
-mul-a : tie.Need-mul-a Inv-loop μ-loop
-mul-a c = search needs
+learned-at-requires : tie.Need-learned-at-requires Inv-loop μ-loop
+learned-at-requires c κs =
+    let at = c .before .before .loop in
+    let aligned = at .inv .0 in
+    let long = at .inv .1 .1 .0 in
+    omega arith
 
 add-e : tie.Need-add-e Inv-loop μ-loop
 add-e c = search needs
@@ -36,32 +46,87 @@ part-age-slot-start : tie.Need-part-age-slot-start Inv-loop μ-loop
 part-age-slot-start c = search needs
 
 part-age-slot-end : tie.Need-part-age-slot-end Inv-loop μ-loop
-part-age-slot-end c = omega arith
+part-age-slot-end c =
+    let at = c .before .before .before .before .loop in
+    let aligned = at .inv .0 in
+    let long = at .inv .1 .1 .0 in
+    omega arith
 
 age-slot-requires : tie.Need-age-slot-requires Inv-loop μ-loop
-age-slot-requires c κs = length-lent (c .before .before .loop .i) (c .before .before .loop .table) (omega arith)
+age-slot-requires c κs =
+    let at = c .before .before .before .before .before .loop in
+    let aligned = at .inv .0 in
+    let long = at .inv .1 .1 .0 in
+    (length-at (at .a) (at .table) (omega arith), ap isLearned (learned-lent (at .a) (at .table)) ∙ sym (c .before .before .learned-at .ensures) ∙ c .before .if1 .taken)
 
-add-i : tie.Need-add-i Inv-loop μ-loop
-add-i c = search needs
+add-a : tie.Need-add-a Inv-loop μ-loop
+add-a c = search needs
 
 loop-less : tie.Need-loop-less Inv-loop μ-loop
 loop-less c = search needs
 
 loop-again : tie.Need-loop-again Inv-loop μ-loop
 loop-again c =
+    let at = c .before .before .before .before .before .before .before .before .loop in
+    let aligned = at .inv .0 in
+    let long = at .inv .1 .1 .0 in
+    let a = c .before .before .before .before .before .before .before .before .before .before .args in
+    let t : List ℕ = a .table .now in
+    let step = aged-at (a .s) t (at .table) (at .a / 14) (at .inv .1 .1 .1) (at .a) (omega arith) (omega arith) _ (c .before .before .age-slot .ensures) in
+    let next : (at .a + 14) / 14 ≡ at .a / 14 + 1 = omega arith in (
+      omega arith,
+      (
+        omega arith,
+        (ap length step ∙ length-onSlots (agedSlot (a .s)) (aged-keeps (a .s)) t 0 (at .a / 14 + 1) (omega arith), rw next step),
+      ),
+    )
+
+add-next-learned : tie.Need-add-next-learned Inv-loop μ-loop
+add-next-learned c = search needs
+
+next-learned-requires : tie.Need-next-learned-requires Inv-loop μ-loop
+next-learned-requires c κs =
     let at = c .before .before .before .before .before .loop in
-    let t : List ℕ = c .before .before .before .before .before .before .before .args .table .now in
-    let s : ℕ = c .before .before .before .before .before .before .before .args .s in
-    let step = on-step (agedSlot s) (aged-keeps s) t 0 (at .i) (at .i) (omega arith) (omega arith) (at .table) (at .inv .1 .1) _ (c .before .before .age-slot .ensures) in
-    (search needs, (ap length step ∙ length-onSlots (agedSlot s) (aged-keeps s) t 0 (at .i + 1) (omega arith), step))
+    let aligned = at .inv .0 in
+    let long = at .inv .1 .1 .0 in
+    (omega arith, omega arith)
+
+loop-less-2 : tie.Need-loop-less-2 Inv-loop μ-loop
+loop-less-2 c = search needs
+
+loop-again-2 : tie.Need-loop-again-2 Inv-loop μ-loop
+loop-again-2 c =
+    let at = c .before .before .before .before .before .before .loop in
+    let aligned = at .inv .0 in
+    let long = at .inv .1 .1 .0 in
+    let a = c .before .before .before .before .before .before .before .before .args in
+    let t : List ℕ = a .table .now in
+    let r : ℕ = c .next-learned .result in
+    let to = c .next-learned .ensures in
+    let whole : r % 14 ≡ 0 = to .0 in
+    let above : at .a + 14 ≤ r = to .1 .0 in
+    let within : r ≤ length (at .table) = to .1 .1 .0 in
+    let next : (at .a + 14) / 14 ≡ at .a / 14 + 1 = omega arith in
+    let passed : Passed InLearnedState (at .a / 14 + 1) (r / 14) (at .table) = rw next at (to .1 .1 .1) in (
+      whole,
+      (
+        omega arith,
+        (
+          long,
+          passed-by (a .s) t (at .table) (at .a / 14) (at .inv .1 .1 .1) (at .a) (r / 14) (omega arith) (omega arith) (omega arith) _ (c .before .before .before .learned-at .ensures) (c .before .before .if1 .left) passed,
+        ),
+      ),
+    )
 
 same-length : tie.Need-same-length Inv-loop μ-loop
-same-length c = c .before .loop .inv .1 .0
+same-length c = c .before .loop .inv .1 .1 .0
 
 returns : tie.Need-returns Inv-loop μ-loop
 returns c =
-    let done : c .before .loop .i ≡ length (c .before .before .before .args .table .now) / 14 = omega arith in
-    rw done at (c .before .loop .inv .1 .1)
+    let at = c .before .loop in
+    let aligned = at .inv .0 in
+    let done : at .a / 14 ≡ length (c .before .before .before .args .table .now) / 14 = omega arith in
+    rw done at (at .inv .1 .1 .1)
 
 pub age-slots-spec : {M : Type 1} → statement M
 age-slots-spec =
@@ -69,15 +134,20 @@ age-slots-spec =
     (tie.spec
     Inv-loop
     μ-loop
+    mul-n
     loop-holds
-    mul-a
+    learned-at-requires
     add-e
     sub-age-slot
     part-age-slot-start
     part-age-slot-end
     age-slot-requires
-    add-i
+    add-a
     loop-less
     loop-again
+    add-next-learned
+    next-learned-requires
+    loop-less-2
+    loop-again-2
     same-length
     returns)

@@ -1,7 +1,7 @@
 -- `compacting::compact` meets its contract: each way out is an outcome of the definition.
 -- Assumes nothing.
-use Rattle.parsing.proofs.Places.{fields-within, dst-room}
-use Rattle.compacting.proofs.Laws.{call-refused, fields-short, call-stays, call-put}
+use Rattle.parsing.proofs.Places.{dst-room}
+use Rattle.compacting.proofs.Laws.{call-refused, fields-copyable, call-stays, call-put}
 use borrow.Author.Needs.{needs}
 use Rattle.compacting.proofs.compact.Statement.{statement}
 use Rattle.compacting.proofs.compact.Tie as tie
@@ -25,7 +25,7 @@ returns : tie.Need-returns
 returns c = search call-stays
 
 put-compact-requires : tie.Need-put-compact-requires
-put-compact-requires c κs = (search fields-within, search fields-short)
+put-compact-requires c κs = search fields-copyable
 
 returns-2 : tie.Need-returns-2
 returns-2 c = search call-refused

@@ -8,38 +8,32 @@ use Rattle.compacting.proofs.write_compact.Tie as tie
 add-n : tie.Need-add-n
 add-n c = search needs
 
-part-requires : tie.Need-part-requires
-part-requires c κs = search needs
-
-copy-at-requires : tie.Need-copy-at-requires
-copy-at-requires c κs = search needs
+copy-from-16-requires : tie.Need-copy-from-16-requires
+copy-from-16-requires c κs = search needs
 
 slice-aggregate-copy-at : tie.Need-slice-aggregate-copy-at
 slice-aggregate-copy-at c = search needs
 
-copy-at-requires-2 : tie.Need-copy-at-requires-2
-copy-at-requires-2 c κs = search needs
+copy-at-requires : tie.Need-copy-at-requires
+copy-at-requires c κs = search needs
 
-part-requires-2 : tie.Need-part-requires-2
-part-requires-2 c κs = search needs
+add-copy-from-6 : tie.Need-add-copy-from-6
+add-copy-from-6 c = search needs
 
-add-copy-at : tie.Need-add-copy-at
-add-copy-at c = search needs
-
-copy-at-requires-3 : tie.Need-copy-at-requires-3
-copy-at-requires-3 c κs = search needs
+copy-from-6-requires : tie.Need-copy-from-6-requires
+copy-from-6-requires c κs = search needs
 
 rest-requires : tie.Need-rest-requires
 rest-requires c κs = search needs
 
-add-copy-at-2 : tie.Need-add-copy-at-2
-add-copy-at-2 c = search needs
+add-copy-block : tie.Need-add-copy-block
+add-copy-block c = search needs
 
-add-copy-at-3 : tie.Need-add-copy-at-3
-add-copy-at-3 c = search needs
+add-copy-block-2 : tie.Need-add-copy-block-2
+add-copy-block-2 c = search needs
 
-copy-at-requires-4 : tie.Need-copy-at-requires-4
-copy-at-requires-4 c κs = search needs
+copy-block-requires : tie.Need-copy-block-requires
+copy-block-requires c κs = search needs
 
 same-length : tie.Need-same-length
 same-length c = search needs
@@ -49,28 +43,24 @@ returns c =
     let k₄ = c .before .before in
     let rs = k₄ .before .before in
     let k₃ = rs .before .before .before in
-    let q₂ = k₃ .before .before in
-    let k₂ = q₂ .before .before .before in
+    let k₂ = k₃ .before .before .before .before in
     let k₁ = k₂ .before .before .before .before .before in
-    let q₁ = k₁ .before .before in
-    let st = q₁ .before .before .before .before in
-    wrote-compact _ _ (st .pre .0) _ _ _ _ _ _ _ _ (q₁ .part .ensures .0) (k₁ .copy-at .ensures) (k₂ .copy-at2 .ensures) (q₂ .part2 .ensures .0) (k₃ .copy-at3 .ensures) (rs .rest .ensures .0) (k₄ .copy-at4 .ensures)
+    let st = k₁ .before .before .before .before .before in
+    wrote-compact _ _ (st .pre .0 .within) _ _ _ _ _ _ (k₁ .copy-from-16 .ensures) (k₂ .copy-at .ensures) (k₃ .copy-from-6 .ensures) (rs .rest .ensures .0) (k₄ .copy-block .ensures)
 
 pub write-compact-spec : {M : Type 1} → statement M
 write-compact-spec =
     tie.close
     (tie.spec
     add-n
-    part-requires
-    copy-at-requires
+    copy-from-16-requires
     slice-aggregate-copy-at
-    copy-at-requires-2
-    part-requires-2
-    add-copy-at
-    copy-at-requires-3
+    copy-at-requires
+    add-copy-from-6
+    copy-from-6-requires
     rest-requires
-    add-copy-at-2
-    add-copy-at-3
-    copy-at-requires-4
+    add-copy-block
+    add-copy-block-2
+    copy-block-requires
     same-length
     returns)

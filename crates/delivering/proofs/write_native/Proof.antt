@@ -1,21 +1,24 @@
--- `delivering::write_native` meets its contract: the content is copied right behind the addresses.
+-- `delivering::write_native` meets its contract: each part is copied right behind the one before.
 -- Assumes nothing.
 use Rattle.delivering.proofs.Laws.{native-written}
 use borrow.Author.Needs.{needs}
 use Rattle.delivering.proofs.write_native.Statement.{statement}
 use Rattle.delivering.proofs.write_native.Tie as tie
 
-part-requires : tie.Need-part-requires
-part-requires c κs = search needs
+copy-from-6-requires : tie.Need-copy-from-6-requires
+copy-from-6-requires c κs = search needs
 
-copy-at-requires : tie.Need-copy-at-requires
-copy-at-requires c κs = search needs
+add-copy-from-6 : tie.Need-add-copy-from-6
+add-copy-from-6 c = search needs
+
+copy-from-6-requires-2 : tie.Need-copy-from-6-requires-2
+copy-from-6-requires-2 c κs = search needs
 
 rest-requires : tie.Need-rest-requires
 rest-requires c κs = search needs
 
-copy-at-requires-2 : tie.Need-copy-at-requires-2
-copy-at-requires-2 c κs = search needs
+copy-block-requires : tie.Need-copy-block-requires
+copy-block-requires c κs = search needs
 
 same-length : tie.Need-same-length
 same-length c = search needs
@@ -26,4 +29,11 @@ returns c = search native-written
 pub write-native-spec : {M : Type 1} → statement M
 write-native-spec =
     tie.close
-    (tie.spec part-requires copy-at-requires rest-requires copy-at-requires-2 same-length returns)
+    (tie.spec
+    copy-from-6-requires
+    add-copy-from-6
+    copy-from-6-requires-2
+    rest-requires
+    copy-block-requires
+    same-length
+    returns)

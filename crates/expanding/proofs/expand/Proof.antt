@@ -1,7 +1,6 @@
 -- `expanding::expand` meets its contract: each way out is an outcome of the definition.
 -- Assumes nothing.
-use Rattle.expanding.proofs.Laws.{call-refused, call-put, result-short, parts-all, header-whole}
-use Rattle.parsing.proofs.Places.{fields-within}
+use Rattle.expanding.proofs.Laws.{call-refused, call-put, result-short, parts-all, fields-copyable}
 use borrow.Author.Needs.{needs}
 use Rattle.expanding.proofs.expand.Statement.{statement}
 use Rattle.expanding.proofs.expand.Tie as tie
@@ -16,10 +15,10 @@ enum-known-p : tie.Need-enum-known-p
 enum-known-p c = search needs
 
 destination-requires : tie.Need-destination-requires
-destination-requires c κs = (search fields-within, search header-whole)
+destination-requires c κs = search fields-copyable
 
 put-general-requires : tie.Need-put-general-requires
-put-general-requires c κs = (search fields-within, (search parts-all, search result-short))
+put-general-requires c κs = (search fields-copyable, (search parts-all, search result-short))
 
 returns : tie.Need-returns
 returns c = search call-refused

@@ -14,41 +14,35 @@ slice-aggregate-copy-at c = search needs
 copy-at-requires : tie.Need-copy-at-requires
 copy-at-requires c κs = search needs
 
-part-requires : tie.Need-part-requires
-part-requires c κs = search needs
+add-copy-from-6 : tie.Need-add-copy-from-6
+add-copy-from-6 c = search needs
 
-add-copy-at : tie.Need-add-copy-at
-add-copy-at c = search needs
+copy-from-6-requires : tie.Need-copy-from-6-requires
+copy-from-6-requires c κs = search needs
 
-copy-at-requires-2 : tie.Need-copy-at-requires-2
-copy-at-requires-2 c κs = search needs
+add-copy-from-16 : tie.Need-add-copy-from-16
+add-copy-from-16 c = search needs
 
-part-requires-2 : tie.Need-part-requires-2
-part-requires-2 c κs = search needs
+add-copy-from-16-2 : tie.Need-add-copy-from-16-2
+add-copy-from-16-2 c = search needs
 
-add-copy-at-2 : tie.Need-add-copy-at-2
-add-copy-at-2 c = search needs
-
-add-copy-at-3 : tie.Need-add-copy-at-3
-add-copy-at-3 c = search needs
-
-copy-at-requires-3 : tie.Need-copy-at-requires-3
-copy-at-requires-3 c κs = search needs
+copy-from-16-requires : tie.Need-copy-from-16-requires
+copy-from-16-requires c κs = search needs
 
 rest-requires : tie.Need-rest-requires
 rest-requires c κs = search needs
 
-add-copy-at-4 : tie.Need-add-copy-at-4
-add-copy-at-4 c = search needs
+add-copy-block : tie.Need-add-copy-block
+add-copy-block c = search needs
 
-add-copy-at-5 : tie.Need-add-copy-at-5
-add-copy-at-5 c = search needs
+add-copy-block-2 : tie.Need-add-copy-block-2
+add-copy-block-2 c = search needs
 
-add-copy-at-6 : tie.Need-add-copy-at-6
-add-copy-at-6 c = search needs
+add-copy-block-3 : tie.Need-add-copy-block-3
+add-copy-block-3 c = search needs
 
-copy-at-requires-4 : tie.Need-copy-at-requires-4
-copy-at-requires-4 c κs = search needs
+copy-block-requires : tie.Need-copy-block-requires
+copy-block-requires c κs = search needs
 
 same-length : tie.Need-same-length
 same-length c = search needs
@@ -58,12 +52,10 @@ returns c =
     let k₄ = c .before .before in
     let rs = k₄ .before .before in
     let k₃ = rs .before .before .before in
-    let q₂ = k₃ .before .before in
-    let k₂ = q₂ .before .before .before in
-    let q₁ = k₂ .before .before in
-    let k₁ = q₁ .before .before .before in
+    let k₂ = k₃ .before .before .before .before in
+    let k₁ = k₂ .before .before .before .before in
     let st = k₁ .before .before .before .before .before .before in
-    tail-written _ _ (st .pre .0) _ _ _ _ _ _ _ _ _ (st .pre .1) (k₁ .copy-at .ensures) (q₁ .part .ensures .0) (k₂ .copy-at2 .ensures) (q₂ .part2 .ensures .0) (k₃ .copy-at3 .ensures) (rs .rest .ensures .0) (k₄ .copy-at4 .ensures)
+    tail-written _ _ (st .pre .0 .within) _ _ _ _ _ _ _ (st .pre .1) (k₁ .copy-at .ensures) (k₂ .copy-from-6 .ensures) (k₃ .copy-from-16 .ensures) (rs .rest .ensures .0) (k₄ .copy-block .ensures)
 
 pub write-tail-spec : {M : Type 1} → statement M
 write-tail-spec =
@@ -72,17 +64,15 @@ write-tail-spec =
     add-n
     slice-aggregate-copy-at
     copy-at-requires
-    part-requires
-    add-copy-at
-    copy-at-requires-2
-    part-requires-2
-    add-copy-at-2
-    add-copy-at-3
-    copy-at-requires-3
+    add-copy-from-6
+    copy-from-6-requires
+    add-copy-from-16
+    add-copy-from-16-2
+    copy-from-16-requires
     rest-requires
-    add-copy-at-4
-    add-copy-at-5
-    add-copy-at-6
-    copy-at-requires-4
+    add-copy-block
+    add-copy-block-2
+    add-copy-block-3
+    copy-block-requires
     same-length
     returns)

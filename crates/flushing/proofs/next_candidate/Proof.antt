@@ -9,10 +9,10 @@ use Rattle.flushing.proofs.next_candidate.Statement.{statement}
 use Rattle.flushing.proofs.next_candidate.Tie as tie
 
 abbrev Inv-loop : tie.InvT-loop
-Inv-loop t from n ingress nicks k₀ k = (k ≤ n) × Passed (candidate ingress nicks) t from k
+Inv-loop t from n names k₀ k = (k ≤ n) × Passed (candidate names) t from k
 
 abbrev μ-loop : tie.MeasureT-loop
-μ-loop t from n ingress nicks k₀ k = n - k
+μ-loop t from n names k₀ k = n - k
 
 loop-holds : tie.Need-loop-holds Inv-loop μ-loop
 loop-holds c = (search needs, search (passed-none, candidate-near))

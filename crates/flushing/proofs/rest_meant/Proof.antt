@@ -1,16 +1,10 @@
--- `flushing::rest_meant` meets its contract: good, the label, and then the MAC.
+-- `flushing::rest_meant` meets its contract: the label, whether the entry is good, and then the MAC.
 -- Assumes nothing.
 use borrow.Author.Tests.{not-true, not-false}
 use Rattle.flushing.proofs.Parts.{entry-bad-rest, other-label, that-label}
 use borrow.Author.Needs.{needs}
 use Rattle.flushing.proofs.rest_meant.Statement.{statement}
 use Rattle.flushing.proofs.rest_meant.Tie as tie
-
-good-at-requires : tie.Need-good-at-requires
-good-at-requires c κs = search needs
-
-returns : tie.Need-returns
-returns c = search (entry-bad-rest, not-true)
 
 kind-at-requires : tie.Need-kind-at-requires
 kind-at-requires c κs = search needs
@@ -21,8 +15,14 @@ label-at-requires c κs = search needs
 label-meant-requires : tie.Need-label-meant-requires
 label-meant-requires c κs = search needs
 
+returns : tie.Need-returns
+returns c = search (other-label, not-true)
+
+good-at-requires : tie.Need-good-at-requires
+good-at-requires c κs = search needs
+
 returns-2 : tie.Need-returns-2
-returns-2 c = search (other-label, not-true, not-false)
+returns-2 c = search (entry-bad-rest, not-true)
 
 mac-at-requires : tie.Need-mac-at-requires
 mac-at-requires c κs = search needs
@@ -37,11 +37,11 @@ pub rest-meant-spec : {M : Type 1} → statement M
 rest-meant-spec =
     tie.close
     (tie.spec
-    good-at-requires
-    returns
     kind-at-requires
     label-at-requires
     label-meant-requires
+    returns
+    good-at-requires
     returns-2
     mac-at-requires
     mac-meant-requires

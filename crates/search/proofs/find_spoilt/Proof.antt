@@ -1,8 +1,9 @@
--- `search::find_spoilt` meets its contract. The invariant: none of the first `k` slots is spoilt.
+-- `search::find_spoilt` meets its contract. The invariant: none of the slots below place `a` is spoilt.
 -- Assumes nothing.
-use Prim.Native.Nat.{_≤_, _-_}
-use mathlib.Core.Path.{_≡_, refl}
+use Prim.Native.Nat.{ℕ, _≤_, _-_, _+_, _*_, _/_, _%_}
+use mathlib.Core.Path.{_≡_, refl, ap, _∙_}
 use native.Mathlib.Omega.{arith}
+use lib.ListN.{drop}
 use Rattle.table.specs.Slots.{firstSlot}
 use Rattle.table.specs.declared.Place.the-variants.{Nowhere}
 use Rattle.table.proofs.Slots.{search-next, search-hit, search-end}
@@ -13,41 +14,50 @@ use Rattle.search.proofs.find_spoilt.Statement.{statement}
 use Rattle.search.proofs.find_spoilt.Tie as tie
 
 abbrev Inv-loop : tie.InvT-loop
-Inv-loop t n k₀ k = (k ≤ n) × (firstSlot (spoiltSlot) k t ≡ Nowhere)
+Inv-loop t n a₀ a = (a % 14 ≡ 0) × ((a ≤ n) × (firstSlot spoiltSlot (a / 14) t ≡ Nowhere))
 
 abbrev μ-loop : tie.MeasureT-loop
-μ-loop t n k₀ k = n - k
+μ-loop t n a₀ a = n - a
+
+mul-n : tie.Need-mul-n Inv-loop μ-loop
+mul-n c = search needs
 
 loop-holds : tie.Need-loop-holds Inv-loop μ-loop
 unfolding firstSlot
-loop-holds c = (search needs, refl)
-
-mul-spoilt-at : tie.Need-mul-spoilt-at Inv-loop μ-loop
-mul-spoilt-at c = search needs
+loop-holds c = (refl, (search needs, refl))
 
 spoilt-at-requires : tie.Need-spoilt-at-requires Inv-loop μ-loop
-spoilt-at-requires c κs = search needs
+spoilt-at-requires c κs = let aligned = c .before .loop .inv .0 in omega arith
 
 returns : tie.Need-returns Inv-loop μ-loop
 returns c =
-    let a = c .before .before .before .before .before .args in
-    search-hit spoiltSlot spoilt-near (a .t .now) (c .before .before .before .loop .k) (c .before .before .before .loop .inv .1) _ (c .before .spoilt-at .ensures) (omega arith) (c .if1 .taken)
+    let t = c .before .before .before .before .before .args .t .now in
+    let at = c .before .before .before .loop in
+    let aligned = at .inv .0 in
+    let place : at .a ≡ 14 * (at .a / 14) = omega arith in
+    search-hit spoiltSlot spoilt-near t (at .a / 14) (at .inv .1 .1) _ (c .before .spoilt-at .ensures ∙ ap (λ (m : ℕ). spoiltSlot (drop m t)) place) (omega arith) (c .if1 .taken)
 
-add-k : tie.Need-add-k Inv-loop μ-loop
-add-k c = search needs
+add-a : tie.Need-add-a Inv-loop μ-loop
+add-a c = search needs
 
 loop-less : tie.Need-loop-less Inv-loop μ-loop
 loop-less c = search needs
 
 loop-again : tie.Need-loop-again Inv-loop μ-loop
 loop-again c =
-    let a = c .before .before .before .before .before .args in
-    (search needs, search-next spoiltSlot spoilt-near (a .t .now) (c .before .before .before .loop .k) (c .before .before .before .loop .inv .1) _ (c .before .spoilt-at .ensures) (c .if1 .left))
+    let t = c .before .before .before .before .before .args .t .now in
+    let at = c .before .before .before .loop in
+    let aligned = at .inv .0 in
+    let place : at .a ≡ 14 * (at .a / 14) = omega arith in
+    let next : (at .a + 14) / 14 ≡ at .a / 14 + 1 = omega arith in
+    let more = search-next spoiltSlot spoilt-near t (at .a / 14) (at .inv .1 .1) _ (c .before .spoilt-at .ensures ∙ ap (λ (m : ℕ). spoiltSlot (drop m t)) place) (c .if1 .left) in
+    (omega arith, (omega arith, rw next more))
 
 returns-2 : tie.Need-returns-2 Inv-loop μ-loop
 returns-2 c =
-    let a = c .before .before .before .args in
-    search-end spoiltSlot spoilt-near (a .t .now) (c .before .loop .k) (c .before .loop .inv .0) (omega arith) (c .before .loop .inv .1)
+    let at = c .before .loop in
+    let aligned = at .inv .0 in
+    search-end spoiltSlot spoilt-near (c .before .before .before .args .t .now) (at .a / 14) (omega arith) (omega arith) (at .inv .1 .1)
 
 pub find-spoilt-spec : {M : Type 1} → statement M
 find-spoilt-spec =
@@ -55,11 +65,11 @@ find-spoilt-spec =
     (tie.spec
     Inv-loop
     μ-loop
+    mul-n
     loop-holds
-    mul-spoilt-at
     spoilt-at-requires
     returns
-    add-k
+    add-a
     loop-less
     loop-again
     returns-2)

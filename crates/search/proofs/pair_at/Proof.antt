@@ -1,9 +1,8 @@
 -- `search::pair_at` meets its contract: a slot with another key does not hold the pair.
 -- Assumes nothing.
-use Rattle.table.specs.Record.{labelFrom}
-use mathlib.Core.Path.{sym, ap, _∙_}
+use mathlib.Core.Path.{sym, _∙_}
 use lib.ListN.{drop}
-use Rattle.table.specs.Record.{slotOf, unpacked, slotMatches}
+use Rattle.table.specs.Record.{unpacked}
 use Rattle.table.specs.Table.{holds}
 use Rattle.search.proofs.Laws.{other-key}
 use borrow.Author.Needs.{needs}
@@ -17,20 +16,16 @@ returns : tie.Need-returns
 returns c =
     let start = c .before .before .before in
     let a = start .args in
-    other-key (a .kind) (a .label) (a .mac) (start .pre .1 .1) (drop (a .at) (a .t .now)) (λ e. c .if1 .taken (c .before .key-at .ensures ∙ e ∙ sym (start .pre .1 .0)))
+    other-key (a .kind) (a .label) (a .mac) (start .pre .1 .1 .kind-small) (drop (a .at) (a .t .now)) (λ e. c .if1 .taken (c .before .key-at .ensures ∙ e ∙ sym (start .pre .1 .0)))
 
-split-requires : tie.Need-split-requires
-split-requires c κs = search needs
-
-holds-pair-requires : tie.Need-holds-pair-requires
-holds-pair-requires c κs = search needs
+pair-at-requires : tie.Need-pair-at-requires
+pair-at-requires c κs =
+    let start = c .before .before .before in
+    (start .pre .0, (sym (c .before .key-at .ensures) ∙ c .if1 .left ∙ start .pre .1 .0, start .pre .1 .1))
 
 returns-2 : tie.Need-returns-2
 unfolding holds unpacked
-returns-2 c =
-    let a = c .before .before .before .before .before .args in
-    c .holds-pair .ensures ∙ ap (λ n. slotMatches (labelFrom (a .kind) (a .label)) (a .mac) (slotOf n)) (sym (c .before .split .ensures .whole))
+returns-2 c = c .pair-at .ensures
 
 pub pair-at-spec : {M : Type 1} → statement M
-pair-at-spec =
-    tie.close (tie.spec key-at-requires returns split-requires holds-pair-requires returns-2)
+pair-at-spec = tie.close (tie.spec key-at-requires returns pair-at-requires returns-2)

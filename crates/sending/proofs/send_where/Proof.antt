@@ -1,7 +1,7 @@
 -- `sending::send_where` meets its contract: each way out is an outcome of the definition.
 -- Assumes nothing.
-use Rattle.parsing.proofs.Places.{fields-within, dst-room}
-use Rattle.compacting.proofs.Laws.{fields-short}
+use Rattle.parsing.proofs.Places.{dst-room}
+use Rattle.compacting.proofs.Laws.{fields-copyable}
 use Rattle.sending.proofs.Laws.{send-refused, send-itself, send-put}
 use borrow.Author.Needs.{needs}
 use Rattle.sending.proofs.send_where.Statement.{statement}
@@ -26,7 +26,7 @@ returns : tie.Need-returns
 returns c = search send-itself
 
 put-compact-requires : tie.Need-put-compact-requires
-put-compact-requires c κs = (search fields-within, search fields-short)
+put-compact-requires c κs = search fields-copyable
 
 send-of-requires : tie.Need-send-of-requires
 send-of-requires c κs = search needs

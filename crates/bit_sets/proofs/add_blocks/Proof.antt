@@ -1,0 +1,53 @@
+-- `bit_sets::add_blocks` meets its contract. The invariant: what was added and what is left make up the whole.
+-- Assumes nothing.
+use Prim.Native.Nat.{_-_}
+use lib.ListN.{length}
+use Rattle.bit_sets.proofs.Adding.{covers, Going, going-start, blocks-next, blocks-done}
+use borrow.Author.Needs.{needs}
+use Rattle.bit_sets.proofs.add_blocks.Statement.{statement}
+use Rattle.bit_sets.proofs.add_blocks.Tie as tie
+
+abbrev Inv-loop : tie.InvT-loop
+Inv-loop v s₀ at₀ s at = Going 4 covers v s₀ s at
+
+abbrev μ-loop : tie.MeasureT-loop
+μ-loop v s₀ at₀ s at = length v - at
+
+loop-holds : tie.Need-loop-holds Inv-loop μ-loop
+loop-holds c = search going-start
+
+sub-loop : tie.Need-sub-loop Inv-loop μ-loop
+sub-loop c = search needs
+
+add-block-requires : tie.Need-add-block-requires Inv-loop μ-loop
+add-block-requires c κs = search needs
+
+add-at : tie.Need-add-at Inv-loop μ-loop
+add-at c = search needs
+
+loop-less : tie.Need-loop-less Inv-loop μ-loop
+loop-less c = search needs
+
+loop-again : tie.Need-loop-again Inv-loop μ-loop
+loop-again c = search blocks-next
+
+same-length : tie.Need-same-length Inv-loop μ-loop
+same-length c = search needs
+
+returns : tie.Need-returns Inv-loop μ-loop
+returns c = search blocks-done
+
+pub add-blocks-spec : {M : Type 1} → statement M
+add-blocks-spec =
+    tie.close
+    (tie.spec
+    Inv-loop
+    μ-loop
+    loop-holds
+    sub-loop
+    add-block-requires
+    add-at
+    loop-less
+    loop-again
+    same-length
+    returns)

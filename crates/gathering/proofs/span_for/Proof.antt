@@ -1,0 +1,18 @@
+-- `gathering::span_for` meets its contract: as defined.
+-- Assumes nothing.
+use Rattle.gathering.proofs.Laws.{block-span, item-span}
+use borrow.Author.Needs.{needs}
+use Rattle.gathering.proofs.span_for.Statement.{statement}
+use Rattle.gathering.proofs.span_for.Tie as tie
+
+mul-result : tie.Need-mul-result
+mul-result c = search needs
+
+returns : tie.Need-returns
+returns c = (search block-span, search needs)
+
+returns-2 : tie.Need-returns-2
+returns-2 c = (search item-span, search needs)
+
+pub span-for-spec : {M : Type 1} → statement M
+span-for-spec = tie.close (tie.spec mul-result returns returns-2)

@@ -1,0 +1,18 @@
+-- `plans::has_type` meets its contract: only TLVs have a type.
+-- Assumes nothing.
+use Rattle.plans.proofs.Laws.{blocks-type, tlvs-type}
+use borrow.Author.Needs.{needs}
+use Rattle.plans.proofs.has_type.Statement.{statement}
+use Rattle.plans.proofs.has_type.Tie as tie
+
+returns : tie.Need-returns
+returns c = search blocks-type
+
+some-type-requires : tie.Need-some-type-requires
+some-type-requires c κs = search needs
+
+returns-2 : tie.Need-returns-2
+returns-2 c = search tlvs-type
+
+pub has-type-spec : {M : Type 1} → statement M
+has-type-spec = tie.close (tie.spec returns some-type-requires returns-2)

@@ -1,0 +1,221 @@
+// What a flush payload means, prepared once for a message: the VLANs as a set of bits, fine-grained labels and MACs as sorted intervals;
+// and the questions asked for each record.
+ghost use Prim.Native.Nat.{ℕ, _+_, _*_, _^_, _<_, _≤_};
+ghost use mathlib.Core.List.{List};
+ghost use mathlib.Core.Path.{_≡_};
+ghost use lib.ListN.{length};
+ghost use Rattle.numbers.specs.Tests.{anyOf};
+ghost use Rattle.table.specs.Record.{labelFrom};
+ghost use Rattle.table.specs.declared.Label.the-variants.{Vlan, Fine};
+ghost use Rattle.flush.specs.Payload.{everyType, Piece, tlv, tlvs, blockBytes, piecesOf};
+ghost use Rattle.flush.specs.Meaning.{labelMeant, macMeant};
+ghost use Rattle.bit_sets.specs.Gains.{Gains, None};
+ghost use Rattle.spans.specs.Spans.{Told};
+ghost use Rattle.plans.specs.Plans.{isType, vlansIn, vlansOf, VlansTold, finesOf, macsOf, FinesTold, MacsTold};
+use numbers::Numbering;
+
+// Whether a TLV is of a type.
+fn is_type(k: u8, v: &[u8], t: u8) -> bool
+    ensures { λ r. ⌜ r ≡ isType t (tlv k (now (v .entry))) ⌝ }
+{
+    k == t
+}
+
+// Whether some TLV is of a type.
+fn some_type(l: &[u8], t: u8) -> bool
+    ensures { λ r. ⌜ r ≡ anyOf (isType t) (tlvs (now (l .entry))) ⌝ }
+{
+    let mut at = 0;
+    while at < l.len() {
+        let e = tlvs::end_of(l, at);
+        if l.len() < e {
+            return false;
+        }
+        let s = at + 2;
+        if is_type(l[at], &l[s..e], t) {
+            return true;
+        }
+        at = e;
+    }
+    false
+}
+
+// Whether some piece behind K-VLBs is a TLV of a type: type 6 means every label, type 5 is a map of fine-grained labels.
+pub fn has_type(rest: &[u8], blocks: usize, t: u8) -> bool
+    ensures { λ r. ⌜ r ≡ anyOf (isType t) (piecesOf blocks (now (rest .entry))) ⌝ }
+{
+    if blocks != 0 {
+        return false;
+    }
+    some_type(rest, t)
+}
+
+// Adds the VLANs that a TLV names: type 1 blocks, type 2 a bit map.
+fn add_value(k: u8, v: &[u8], s: &mut [u8])
+    requires { ⌜ length (now s) ≡ 512 ⌝ }
+    ensures { λ _. ⌜ Gains (now (s .entry)) (now (s .exit)) (vlansIn (tlv k (now (v .entry)))) ⌝ }
+{
+    if k == 1 {
+        bit_sets::add_blocks(v, s);
+        return;
+    }
+    if k == 2 {
+        bit_sets::add_map(v, s);
+    }
+}
+
+// Adds the VLANs that TLVs name.
+fn add_tlvs(l: &[u8], s: &mut [u8])
+    requires { ⌜ length (now s) ≡ 512 ⌝ }
+    ensures { λ _. ⌜ Gains (now (s .entry)) (now (s .exit)) (vlansOf (tlvs (now (l .entry)))) ⌝ }
+{
+    let mut at = 0;
+    while at < l.len() {
+        let e = tlvs::end_of(l, at);
+        if l.len() < e {
+            return;
+        }
+        let f = at + 2;
+        add_value(l[at], &l[f..e], s);
+        at = e;
+    }
+}
+
+// The VLANs meant. Whether every label is meant is found before.
+pub fn vlan_set(rest: &[u8], blocks: usize, every: bool, s: &mut [u8])
+    requires { ⌜ ((blockBytes * blocks ≤ length (now rest)) × (every ≡ anyOf (isType 6) (piecesOf blocks (now rest)))) × ((length (now s) ≡ 512) × None (now s)) ⌝ }
+    ensures { λ _. ⌜ VlansTold (piecesOf blocks (now (rest .entry))) every (now (s .exit)) ⌝ }
+{
+    if blocks == 0 {
+        add_tlvs(rest, s);
+        return;
+    }
+    let e = 4 * blocks;
+    bit_sets::add_blocks(&rest[..e], s);
+}
+
+// The fine-grained labels in blocks and lists, as intervals.
+pub fn fine_plan(
+    rest: &[u8],
+    blocks: usize,
+    keys: &mut [u64],
+    past: &mut [u64],
+    tops: &mut [u64],
+) -> usize
+    requires { ⌜ (length (now keys) ≤ 4096) × ((length (now past) ≡ length (now keys)) × (length (now tops) ≡ length (now keys) + 1)) ⌝ }
+    ensures { λ (r : ℕ). ⌜ (r ≤ 4096 → Told (finesOf (piecesOf blocks (now (rest .entry)))) (now (keys .exit)) (now (tops .exit)) r) ⌝ }
+{
+    let w = Numbering {
+        size: 3,
+        top: 0x100_0000,
+        low: 0,
+        high: 0xff_ffff,
+    };
+    spans::span_set(rest, blocks, 3, 4, w, keys, past, tops)
+}
+
+// The MACs, as intervals.
+pub fn mac_plan(
+    rest: &[u8],
+    blocks: usize,
+    keys: &mut [u64],
+    past: &mut [u64],
+    tops: &mut [u64],
+) -> usize
+    requires { ⌜ (length (now keys) ≤ 4096) × ((length (now past) ≡ length (now keys)) × (length (now tops) ≡ length (now keys) + 1)) ⌝ }
+    ensures { λ (r : ℕ). ⌜ (r ≤ 4096 → Told (macsOf (piecesOf blocks (now (rest .entry)))) (now (keys .exit)) (now (tops .exit)) r) ⌝ }
+{
+    let w = Numbering {
+        size: 6,
+        top: 0x1_0000_0000_0000,
+        low: 0,
+        high: 0xffff_ffff_ffff,
+    };
+    spans::span_set(rest, blocks, 8, 7, w, keys, past, tops)
+}
+
+// Whether a VLAN is meant: by its bit.
+fn vlan_meant(every: bool, vlans: &[u8], x: u64) -> bool
+    requires { ⌜ length (now vlans) ≡ 512 ⌝ }
+    ensures { λ r. ⌜ ((ps : List Piece) → VlansTold ps every (now (vlans .entry)) → r ≡ labelMeant everyType ps (Vlan x)) ⌝ }
+{
+    if every {
+        return true;
+    }
+    if 0xfff < x {
+        return false;
+    }
+    bits::has(vlans, x)
+}
+
+// Whether a fine-grained label is meant: by the intervals; by a walk where there are maps, or where the intervals found no room.
+fn fine_meant(
+    rest: &[u8],
+    blocks: usize,
+    every: bool,
+    maps: bool,
+    keys: &[u64],
+    tops: &[u64],
+    n: usize,
+    x: u64,
+) -> bool
+    requires { ⌜ ((blockBytes * blocks ≤ length (now rest)) × (x < 2 ^ 48)) × FinesTold (piecesOf blocks (now rest)) every maps (now keys) (now tops) n ⌝ }
+    ensures { λ r. ⌜ r ≡ labelMeant everyType (piecesOf blocks (now (rest .entry))) (Fine x) ⌝ }
+{
+    if every {
+        return true;
+    }
+    if n <= 4096 {
+        if spans::asks(keys, tops, n, x) {
+            return true;
+        }
+        if !maps {
+            return false;
+        }
+    }
+    payloads::label_meant(rest, blocks, 1, x)
+}
+
+// Whether a label is meant, which is given by its kind and its number.
+pub fn label_meant(
+    rest: &[u8],
+    blocks: usize,
+    every: bool,
+    vlans: &[u8],
+    maps: bool,
+    keys: &[u64],
+    tops: &[u64],
+    n: usize,
+    kind: u64,
+    x: u64,
+) -> bool
+    requires { ⌜ ((blockBytes * blocks ≤ length (now rest)) × (x < 2 ^ 48)) × (VlansTold (piecesOf blocks (now rest)) every (now vlans) × FinesTold (piecesOf blocks (now rest)) every maps (now keys) (now tops) n) ⌝ }
+    ensures { λ r. ⌜ r ≡ labelMeant everyType (piecesOf blocks (now (rest .entry))) (labelFrom kind x) ⌝ }
+{
+    if kind == 0 {
+        return vlan_meant(every, vlans, x);
+    }
+    fine_meant(rest, blocks, every, maps, keys, tops, n, x)
+}
+
+// Whether a MAC is meant: every MAC where none was gathered; by the intervals; by a walk where they found no room.
+pub fn mac_meant(
+    rest: &[u8],
+    blocks: usize,
+    gathered: bool,
+    keys: &[u64],
+    tops: &[u64],
+    n: usize,
+    m: u64,
+) -> bool
+    requires { ⌜ (m < 2 ^ 48) × MacsTold (piecesOf blocks (now rest)) gathered (now keys) (now tops) n ⌝ }
+    ensures { λ r. ⌜ r ≡ macMeant everyType (piecesOf blocks (now (rest .entry))) m ⌝ }
+{
+    if !gathered {
+        return true;
+    }
+    if n <= 4096 {
+        return spans::asks(keys, tops, n, m);
+    }
+    payloads::mac_meant(rest, blocks, gathered, m)
+}

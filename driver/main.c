@@ -1,0 +1,30 @@
+/* A port driver over the Shinglebar library. */
+#include "commands.h"
+#include "process.h"
+
+int main(int count, char **words)
+{
+    struct options options;
+    int status = options_read(count, words, &options);
+    if (status >= 0)
+        return output_ready() != 0 ? 1 : status;
+    catch_signals();
+    switch (options.command) {
+    case RECEIVE:
+        return receive_command(&options);
+    case COMPACT:
+    case EXPAND:
+        return convert_command(&options);
+    case LOOKUP:
+        return lookup_command(&options);
+    case AGE:
+        return age_command(&options);
+    case CHECK:
+        return check_command(&options);
+    case LIVE:
+        return live_command(&options);
+    case SEND:
+        return send_command(&options);
+    }
+    return 2;
+}

@@ -1,0 +1,287 @@
+#include "options.h"
+
+#include <stdio.h>
+#include <string.h>
+
+#include "message.h"
+#include "shinglebar.h"
+#include "table.h"
+
+#define WITH_SETTINGS (RECEIVE | COMPACT | EXPAND | LIVE | SEND)
+#define WITH_CAPTURE (RECEIVE | COMPACT | EXPAND | SEND)
+#define WITH_TABLE (RECEIVE | LOOKUP | AGE | CHECK | LIVE)
+#define RFC6325_CONFIDENCE 32
+
+/* How an option's value is written, and so where it goes. */
+enum form { TEXT, ADDRESS, NICKNAME, SWITCH, NUMBER, FLAG };
+
+struct option {
+    const char *name;
+    const char *value;
+    const char *help;
+    enum form form;
+    unsigned commands;
+    unsigned required;
+    size_t place;
+    uint32_t least;
+    uint32_t most;
+};
+
+#define AT(member) offsetof(struct options, member)
+
+static const struct option OPTIONS[] = {
+    {"--table", "FILE", "the address table, records of 14 bytes; replaced whole or not at all", TEXT, WITH_TABLE,
+     WITH_TABLE, AT(table), 0, 0},
+    {"--slots", "N", "makes the table with N free slots if its file is missing, 1 to 4096", NUMBER, RECEIVE | LIVE, 0,
+     AT(slots), 1, TABLE_SLOTS_MAX},
+    {"--out", "FILE", "the capture to write; replaced whole or not at all", TEXT, RECEIVE | COMPACT | EXPAND | LIVE,
+     COMPACT | EXPAND, AT(out), 0, 0},
+    {"--interface", "NAME", "the Linux interface", TEXT, LIVE | SEND, LIVE | SEND, AT(interface), 0, 0},
+    {"--frames", "N", "stops after N frames", NUMBER, LIVE, 0, AT(frames), 1, UINT32_MAX},
+    {"--for", "SECONDS", "stops after so many seconds", NUMBER, LIVE, 0, AT(duration), 1, UINT32_MAX},
+    {"--port", "ADDRESS", "the port's address", ADDRESS, WITH_SETTINGS, WITH_SETTINGS, AT(settings.port), 0, 0},
+    {"--inner", "ADDRESS", "the port's own inner address", ADDRESS, WITH_SETTINGS, WITH_SETTINGS, AT(settings.inner), 0,
+     0},
+    {"--nickname", "HEX", "the port's own nickname, 0001 to FFBF", NICKNAME, WITH_SETTINGS, WITH_SETTINGS,
+     AT(settings.nickname), 0, 0xFFFF},
+    {"--compact", "on|off", "whether the port takes Compact Format (off)", SWITCH, WITH_SETTINGS, 0,
+     AT(settings.compact), 0, 0},
+    {"--confidence", "N", "learning confidence, 0 to 255 (32)", NUMBER, WITH_SETTINGS, 0, AT(settings.confidence), 0,
+     255},
+    {"--seconds", "N", "learning seconds, 10 to 8191, or 0 for the default 300 (0)", NUMBER, WITH_SETTINGS, 0,
+     AT(settings.seconds), 0, 8191},
+    {"--source", "ADDRESS", "the outer source, an individual address", ADDRESS, EXPAND, EXPAND, AT(source), 0, 0},
+    {"--tag", "N", "writes an outer tag with this VLAN, 1 to 4094", NUMBER, EXPAND, 0, AT(tag), 1, 4094},
+    {"--vlan", "N", "the label is this VLAN", NUMBER, LOOKUP, 0, AT(label), 0, 0xFFFF},
+    {"--fgl", "N", "the label is this fine-grained label", NUMBER, LOOKUP, 0, AT(label), 0, 0xFFFFFF},
+    {"--mac", "ADDRESS", "the address to look up", ADDRESS, LOOKUP, LOOKUP, AT(mac), 0, 0},
+    {"--by", "SECONDS", "the seconds that have passed, 0 to 65535", NUMBER, AGE, AGE, AT(by), 0, 65535},
+    {"--quiet", NULL, "no line for each frame", FLAG, WITH_CAPTURE | LIVE, 0, AT(quiet), 0, 0},
+};
+#define OPTION_COUNT (sizeof OPTIONS / sizeof OPTIONS[0])
+
+static const struct {
+    enum command command;
+    const char *name;
+    const char *help;
+    const char *more;
+} COMMANDS[] = {
+    {RECEIVE, "receive", "passes each frame of a capture to the receiver",
+     "Prints a line for each frame: what it was | the answer | what changed in the table; then totals and the table.\n"
+     "Delivered native frames go to --out with their time stamps. No time passes for the table: see `age`.\n"
+     "If anything fails, a bad capture too, the table file and --out stay as they were.\n"},
+    {COMPACT, "compact", "compacts the General frames of a capture for a far port",
+     "The settings are the far port's. Frames that may not be compacted are left out, and the line says why.\n"},
+    {EXPAND, "expand", "expands the Compact frames of a capture for a far port",
+     "The settings are the far port's. Frames that are refused are left out, and the line says why.\n"},
+    {LOOKUP, "lookup", "tells the nickname that an address is behind", "One of --vlan and --fgl is needed.\n"},
+    {AGE, "age", "lets seconds pass for the learned records of a table", ""},
+    {CHECK, "check", "tells the lowest spoilt slot, and lists the records", "Exit status 1 if a slot is spoilt.\n"},
+    {LIVE, "live", "passes the frames of a Linux interface to the receiver",
+     "Needs CAP_NET_RAW. Listens only, in promiscuous mode, until --frames, --for, SIGINT or SIGTERM; then writes\n"
+     "the table and --out. The table ages as time passes. Output as for `receive`.\n"},
+    {SEND, "send", "sends the General frames of a capture out of a Linux interface",
+     "Needs CAP_NET_RAW. The settings are the far port's: a frame is compacted where it may be, if --compact is on.\n"},
+};
+#define COMMAND_COUNT (sizeof COMMANDS / sizeof COMMANDS[0])
+
+static void help_all(FILE *to)
+{
+    fputs("A port driver over the Shinglebar library.\n\n", to);
+    for (size_t i = 0; i < COMMAND_COUNT; i++)
+        fprintf(to, "  %s %-8s %s\n", PROGRAM, COMMANDS[i].name, COMMANDS[i].help);
+    fprintf(to,
+            "\n`%s COMMAND --help` lists a command's options.\n"
+            "Exit status: 0 done, 1 bad data or a failing file or interface, 2 bad usage.\n",
+            PROGRAM);
+}
+
+static void help_command(FILE *to, size_t index)
+{
+    unsigned command = COMMANDS[index].command;
+    fprintf(to, "%s %s%s [OPTION VALUE].. : %s.\n%s\n", PROGRAM, COMMANDS[index].name,
+            command & WITH_CAPTURE ? " CAPTURE" : "", COMMANDS[index].help, COMMANDS[index].more);
+    for (size_t i = 0; i < OPTION_COUNT; i++) {
+        const struct option *option = &OPTIONS[i];
+        if (!(option->commands & command))
+            continue;
+        int used = fprintf(to, "  %s %s", option->name, option->value == NULL ? "" : option->value);
+        fprintf(to, "%*s%s%s\n", used < 24 ? 24 - used : 1, "", option->help,
+                option->required & command ? " [needed]" : "");
+    }
+    if (command & WITH_CAPTURE)
+        fputs("\nCAPTURE is a classic pcap file of Ethernet frames without FCS, in either byte order, with microseconds or\n"
+              "nanoseconds.\n",
+              to);
+    fputs("\nAn address is 02-00-00-00-00-01, with : or without marks too. A number is decimal, or hexadecimal after 0x.\n",
+          to);
+}
+
+static int digit(char c)
+{
+    static const char DIGITS[] = "0123456789abcdef0123456789ABCDEF";
+    const char *found = c == '\0' ? NULL : strchr(DIGITS, c);
+    return found == NULL ? -1 : (int)((found - DIGITS) % 16);
+}
+
+/* A number of digits in a base, at most 2^48: 1, or 0 if the text is none. */
+static int read_digits(const char *text, unsigned base, uint64_t *value)
+{
+    if (*text == '\0')
+        return 0;
+    for (*value = 0; *text != '\0'; text++) {
+        int next = digit(*text);
+        if (next < 0 || (unsigned)next >= base || *value >> 48 != 0)
+            return 0;
+        *value = *value * base + (unsigned)next;
+    }
+    return 1;
+}
+
+static int read_number(const char *text, uint64_t *value)
+{
+    return strncmp(text, "0x", 2) == 0 ? read_digits(text + 2, 16, value) : read_digits(text, 10, value);
+}
+
+/* Twelve digits, with the same mark between each two or none. */
+static int read_address(const char *text, uint64_t *value)
+{
+    char digits[13] = "";
+    char mark = strlen(text) == 17 ? text[2] : '\0';
+    if (strlen(text) != 12 && mark != '-' && mark != ':')
+        return 0;
+    for (int i = 0; i < 6; i++) {
+        memcpy(digits + 2 * i, text, 2);
+        text += 2;
+        if (mark != '\0' && i < 5 && *text++ != mark)
+            return 0;
+    }
+    return read_digits(digits, 16, value);
+}
+
+static int take_value(const struct option *option, const char *text, struct options *options)
+{
+    void *place = (char *)options + option->place;
+    uint64_t value = 0;
+    switch (option->form) {
+    case TEXT:
+        if (*text == '\0')
+            return bad_usage("%s is empty", option->name);
+        *(const char **)place = text;
+        return 0;
+    case FLAG:
+        *(int *)place = 1;
+        return 0;
+    case SWITCH:
+        if (strcmp(text, "on") != 0 && strcmp(text, "off") != 0)
+            return bad_usage("%s takes on or off, not `%s`", option->name, text);
+        *(uint32_t *)place = strcmp(text, "on") == 0;
+        return 0;
+    case ADDRESS:
+        if (!read_address(text, (uint64_t *)place))
+            return bad_usage("%s takes an address such as 02-00-00-00-00-01, not `%s`", option->name, text);
+        return 0;
+    case NICKNAME:
+        if (!read_digits(strncmp(text, "0x", 2) == 0 ? text + 2 : text, 16, &value) || value > option->most)
+            return bad_usage("%s takes up to four hexadecimal digits, not `%s`", option->name, text);
+        break;
+    case NUMBER:
+        if (!read_number(text, &value) || value < option->least || value > option->most)
+            return bad_usage("%s takes a number from %lu to %lu, not `%s`", option->name, (unsigned long)option->least,
+                             (unsigned long)option->most, text);
+        break;
+    }
+    *(uint32_t *)place = (uint32_t)value;
+    return 0;
+}
+
+/* The option of a command that a word names, up to an equals sign; OPTION_COUNT if there is none. */
+static size_t find_option(const char *word, unsigned command)
+{
+    size_t length = strcspn(word, "=");
+    for (size_t i = 0; i < OPTION_COUNT; i++) {
+        int named = strlen(OPTIONS[i].name) == length && strncmp(OPTIONS[i].name, word, length) == 0;
+        if (named && OPTIONS[i].commands & command)
+            return i;
+    }
+    return OPTION_COUNT;
+}
+
+/* The option named in words[*at], with its value behind it or behind an equals sign. */
+static int read_option(int count, char **words, int *at, unsigned *given, struct options *options)
+{
+    const char *word = words[*at], *value = strchr(word, '=');
+    size_t index = find_option(word, options->command);
+    if (index == OPTION_COUNT)
+        return bad_usage("`%s` is no option of this command; try --help", word);
+    const struct option *option = &OPTIONS[index];
+    if (*given & 1u << index)
+        return bad_usage("%s is given twice", option->name);
+    *given |= 1u << index;
+    if (option->form == FLAG)
+        return value == NULL ? take_value(option, "", options) : bad_usage("%s takes no value", option->name);
+    if (value == NULL && *at + 1 == count)
+        return bad_usage("%s needs a value: %s", option->name, option->value);
+    return take_value(option, value == NULL ? words[++*at] : value + 1, options);
+}
+
+/* Whether the settings are in their ranges is the library's to say: it is asked with a frame of no bytes. */
+static int check_settings(const struct settings *settings)
+{
+    uint8_t free_slot[SHINGLEBAR_RECORD_LENGTH] = {0}, out = 0;
+    uint64_t answer = shinglebar_receive_any(SETTINGS(settings), NULL, 0, free_slot, sizeof free_slot, &out, 1);
+    if (answer != SHINGLEBAR_REFUSAL_SETTINGS)
+        return 0;
+    return bad_usage("settings outside their ranges: --port and --inner are different individual addresses, --nickname is "
+                     "0001 to FFBF, --seconds is 0 or 10 to 8191");
+}
+
+static int check_options(unsigned given, struct options *options)
+{
+    unsigned vlan = 1u << find_option("--vlan", LOOKUP), fgl = 1u << find_option("--fgl", LOOKUP);
+    for (size_t i = 0; i < OPTION_COUNT; i++)
+        if (OPTIONS[i].required & options->command && !(given & 1u << i))
+            return bad_usage("%s %s is needed; try --help", OPTIONS[i].name, OPTIONS[i].value);
+    if (options->command & WITH_CAPTURE && options->capture == NULL)
+        return bad_usage("no capture is named; try --help");
+    if (options->command == LOOKUP && !(given & vlan) == !(given & fgl))
+        return bad_usage("one of --vlan and --fgl is needed");
+    options->kind = given & fgl ? SHINGLEBAR_LABEL_FINE_GRAINED : SHINGLEBAR_LABEL_VLAN;
+    options->tagged = options->tag != 0;
+    if (options->source >> 40 & 1)
+        return bad_usage("--source is a group address");
+    return options->command & WITH_SETTINGS ? check_settings(&options->settings) : 0;
+}
+
+int options_read(int count, char **words, struct options *options)
+{
+    const struct options nothing = {0};
+    unsigned given = 0;
+    size_t command = 0;
+    *options = nothing;
+    options->settings.confidence = RFC6325_CONFIDENCE;
+    if (count < 2)
+        return help_all(stderr), bad_usage("no command is given");
+    if (strcmp(words[1], "--help") == 0 || strcmp(words[1], "help") == 0)
+        return help_all(stdout), 0;
+    while (command < COMMAND_COUNT && strcmp(words[1], COMMANDS[command].name) != 0)
+        command++;
+    if (command == COMMAND_COUNT)
+        return bad_usage("`%s` is no command; try --help", words[1]);
+    options->command = COMMANDS[command].command;
+    for (int at = 2; at < count; at++) {
+        int status = 0;
+        if (strcmp(words[at], "--help") == 0)
+            return help_command(stdout, command), 0;
+        if (words[at][0] == '-')
+            status = read_option(count, words, &at, &given, options);
+        else if (options->capture != NULL || !(options->command & WITH_CAPTURE))
+            status = bad_usage("`%s` is one word too many; try --help", words[at]);
+        else
+            options->capture = words[at];
+        if (status != 0)
+            return status;
+    }
+    int status = check_options(given, options);
+    return status == 0 ? -1 : status;
+}

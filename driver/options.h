@@ -1,0 +1,44 @@
+/* The command line. */
+#ifndef OPTIONS_H
+#define OPTIONS_H
+
+#include <stdint.h>
+
+#include "settings.h"
+
+enum command {
+    RECEIVE = 1,
+    COMPACT = 2,
+    EXPAND = 4,
+    LOOKUP = 8,
+    AGE = 16,
+    CHECK = 32,
+    LIVE = 64,
+    SEND = 128
+};
+
+/* An option that was not given is NULL or 0, settings aside: Compact off, confidence 32, seconds 0. */
+struct options {
+    enum command command;
+    struct settings settings;
+    const char *capture;
+    const char *table;
+    const char *out;
+    const char *interface;
+    uint32_t slots;
+    uint32_t frames;
+    uint32_t duration;
+    uint64_t source;
+    uint32_t tagged;
+    uint32_t tag;
+    uint32_t kind;
+    uint32_t label;
+    uint64_t mac;
+    uint32_t by;
+    int quiet;
+};
+
+/* Reads the command line: -1 if the command is to be carried out, else the exit status (help, or bad usage, which is said). */
+int options_read(int count, char **words, struct options *options);
+
+#endif

@@ -1,0 +1,14 @@
+/* What the program shares with its surroundings: signals and standard output. */
+#ifndef PROCESS_H
+#define PROCESS_H
+
+/* A signal ends the work in order, so that no temporary file is left; a closed pipe or a file's limit is an error of writing. */
+void catch_signals(void);
+
+/* 1 once SIGINT or SIGTERM has come. */
+int stop_asked(void);
+
+/* Brings what was printed to standard output: 0, or 1 and said. */
+int output_ready(void);
+
+#endif

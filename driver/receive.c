@@ -1,0 +1,38 @@
+/* The command `receive`: a capture through the receiver. */
+#include "commands.h"
+#include "message.h"
+#include "receiver.h"
+
+static int run(struct receiver *receiver, struct capture_reader *reader, const struct options *options)
+{
+    static struct captured frame;
+    int got;
+    receiver->form = reader->form;
+    if (capture_create(&receiver->out, options->out, reader->form) != 0)
+        return 1;
+    while ((got = capture_next(reader, &frame)) > 0)
+        if (receiver_take(receiver, &frame) != 0)
+            return 1;
+    return got < 0 ? 1 : receiver_finish(receiver, options->table);
+}
+
+int receive_command(const struct options *options)
+{
+    static struct receiver receiver;
+    struct capture_reader reader;
+    receiver.settings = &options->settings;
+    receiver.quiet = options->quiet;
+    if (same_file(options->out, options->table) || same_file(options->out, options->capture)
+        || same_file(options->table, options->capture))
+        return bad_usage("the capture, --table and --out are different files");
+    if (table_read(&receiver.table, options->table, options->slots) != 0 || capture_open(&reader, options->capture) != 0)
+        return 1;
+    int status = run(&receiver, &reader, options);
+    if (status != 0)
+        bad_data("%s stays as it was", options->table);
+    if (status != 0 && receiver.out.temporary != NULL)
+        bad_data("%s stays as it was", options->out);
+    whole_end(&receiver.out);
+    capture_close(&reader);
+    return status;
+}

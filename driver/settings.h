@@ -1,0 +1,19 @@
+/* The settings of a port, as the library takes them: six parameters. */
+#ifndef SETTINGS_H
+#define SETTINGS_H
+
+#include <stdint.h>
+
+struct settings {
+    uint64_t port;
+    uint64_t inner;
+    uint32_t nickname;
+    uint32_t compact;
+    uint32_t confidence;
+    uint32_t seconds;
+};
+
+/* The six arguments of a call. */
+#define SETTINGS(s) (s)->port, (s)->inner, (s)->nickname, (s)->compact, (s)->confidence, (s)->seconds
+
+#endif

@@ -1,0 +1,28 @@
+/* A file that is replaced whole or not at all: written under another name in the same folder, brought to the disk, renamed. */
+#ifndef WHOLE_H
+#define WHOLE_H
+
+#include <stdio.h>
+
+struct whole {
+    const char *name;
+    char *target;
+    char *temporary;
+    FILE *file;
+};
+
+#define WHOLE_NONE {NULL, NULL, NULL, NULL}
+
+/* Each returns 0, or says what is wrong and returns 1. A file that was never begun is ready and replaced at once. */
+int whole_begin(struct whole *whole, const char *name);
+int whole_write(struct whole *whole, const void *bytes, size_t length);
+int whole_ready(struct whole *whole);
+int whole_replace(struct whole *whole);
+
+/* Takes the temporary file away, unless it was renamed; frees what is held. */
+void whole_end(struct whole *whole);
+
+/* 1 if both names are there and mean one file, or are spelt alike. */
+int same_file(const char *one, const char *other);
+
+#endif

@@ -1,0 +1,856 @@
+//! The port driver (driver/*.c), compiled with the archive and run as a user runs it.
+
+use std::fs;
+use std::io::Write;
+use std::path::{Path, PathBuf};
+use std::process::{Command, Output, Stdio};
+use std::sync::OnceLock;
+use std::thread;
+use std::time::Duration;
+
+use shinglebar_tests::captures::{self, Form, PORT, USUAL};
+use shinglebar_tests::reference::{self, write, Entry, Label, RECORD};
+
+/// The options of the settings `captures::PORT`.
+const SETTINGS: [&str; 8] = [
+    "--port",
+    "02-00-00-00-00-A1",
+    "--inner",
+    "02-00-00-00-00-AA",
+    "--nickname",
+    "0102",
+    "--compact",
+    "on",
+];
+
+fn package() -> &'static Path {
+    Path::new(env!("CARGO_MANIFEST_DIR"))
+}
+
+fn data(name: &str) -> PathBuf {
+    package().join("../driver/data").join(name)
+}
+
+/// The program, compiled once.
+fn program() -> &'static Path {
+    static PROGRAM: OnceLock<PathBuf> = OnceLock::new();
+    PROGRAM.get_or_init(|| {
+        let program = Path::new(env!("CARGO_TARGET_TMPDIR")).join("shinglebar-port");
+        let folder = package().join("../driver");
+        let mut sources: Vec<PathBuf> = fs::read_dir(folder)
+            .expect("the folder driver")
+            .map(|entry| entry.expect("an entry").path())
+            .filter(|path| path.extension().is_some_and(|extension| extension == "c"))
+            .collect();
+        sources.sort();
+        let output = Command::new("cc")
+            .args([
+                "-std=c99",
+                "-O2",
+                "-Wall",
+                "-Wextra",
+                "-Werror",
+                "-pedantic",
+            ])
+            .arg("-I")
+            .arg(package().join("../include"))
+            .args(&sources)
+            .arg(env!("SHINGLEBAR_ARCHIVE"))
+            .arg("-o")
+            .arg(&program)
+            .output()
+            .expect("cc");
+        assert!(output.status.success(), "cc:\n{}", text(&output.stderr));
+        program
+    })
+}
+
+/// An empty folder for a test.
+fn folder(test: &str) -> PathBuf {
+    let folder = Path::new(env!("CARGO_TARGET_TMPDIR"))
+        .join("driver")
+        .join(test);
+    let _ = fs::remove_dir_all(&folder);
+    fs::create_dir_all(&folder).expect("a folder");
+    folder
+}
+
+fn text(bytes: &[u8]) -> String {
+    String::from_utf8(bytes.to_vec()).expect("UTF-8")
+}
+
+fn bytes(file: &Path) -> Vec<u8> {
+    fs::read(file).unwrap_or_else(|error| panic!("{}: {error}", file.display()))
+}
+
+/// Runs the program in a folder, where it finds and leaves its files.
+fn run_in(folder: &Path, words: &[&str]) -> Output {
+    Command::new(program())
+        .current_dir(folder)
+        .args(words)
+        .output()
+        .expect("the driver")
+}
+
+/// Runs the program in a folder through a shell line, in which `"$@"` are the program and the words.
+fn shell_in(folder: &Path, line: &str, words: &[&str]) -> Output {
+    Command::new("sh")
+        .current_dir(folder)
+        .args(["-c", line, "sh"])
+        .arg(program())
+        .args(words)
+        .output()
+        .expect("sh")
+}
+
+fn good(output: &Output) -> String {
+    let said = text(&output.stderr);
+    assert!(output.status.success(), "{}: {said}", output.status);
+    assert_eq!(said, "");
+    text(&output.stdout)
+}
+
+/// The program ended with this status, and said these words on standard error.
+fn bad(output: &Output, status: i32, words: &str) {
+    let said = text(&output.stderr);
+    assert_eq!(output.status.code(), Some(status), "{said}");
+    assert!(said.starts_with("shinglebar-port: "), "{said}");
+    assert!(said.contains(words), "`{words}` is not in: {said}");
+}
+
+/// `receive` with a table of 16 slots and an output capture, in the folder's files `table` and `out`.
+fn receive_words(capture: &str) -> Vec<&str> {
+    let files = [
+        "receive", capture, "--table", "table", "--slots", "16", "--out", "out",
+    ];
+    [&files[..], &SETTINGS].concat()
+}
+
+fn frames(name: &str) -> Vec<Vec<u8>> {
+    let (_, frames) = captures::all()
+        .into_iter()
+        .find(|(found, _)| *found == name)
+        .expect("a capture");
+    frames
+}
+
+/// What the second implementation makes of frames: the table after them, and the native frames with their places.
+fn received(frames: &[Vec<u8>], table: &mut [u8]) -> Vec<(usize, Vec<u8>)> {
+    let mut delivered = Vec::new();
+    for (place, frame) in frames.iter().enumerate() {
+        let mut out = vec![0; 9_216];
+        let word = reference::receive(&PORT, frame, table, &mut out);
+        if word & 0xFF == 65 {
+            out.truncate((word >> 8 & 0xFFFF) as usize);
+            delivered.push((place, out));
+        }
+    }
+    delivered
+}
+
+/// A capture of frames that keep the times of the places they had.
+fn capture_of(form: Form, delivered: &[(usize, Vec<u8>)]) -> Vec<u8> {
+    let records = delivered
+        .iter()
+        .flat_map(|(place, frame)| form.record(captures::time(*place), frame));
+    form.header().into_iter().chain(records).collect()
+}
+
+fn record(learned: bool, label: Label, mac: u64, confidence: u8, seconds: u16) -> [u8; RECORD] {
+    write(
+        learned,
+        &Entry {
+            label,
+            mac,
+            nickname: 0x1234,
+            confidence,
+            seconds,
+        },
+    )
+}
+
+fn vlan(number: u32) -> Label {
+    Label::vlan(number).expect("a VLAN")
+}
+
+/// The names of the files in a folder.
+fn names(folder: &Path) -> Vec<String> {
+    let mut names: Vec<String> = fs::read_dir(folder)
+        .expect("the folder")
+        .map(|entry| entry.expect("an entry").file_name())
+        .map(|name| name.into_string().expect("UTF-8"))
+        .collect();
+    names.sort();
+    names
+}
+
+/// The printed text is that of a file of driver/data.
+fn expect_text(printed: &str, name: &str) {
+    let stored = text(&bytes(&data(name)));
+    for (place, (got, wanted)) in printed.lines().zip(stored.lines()).enumerate() {
+        assert_eq!(got, wanted, "{name}, line {}", place + 1);
+    }
+    assert!(printed == stored, "{name}: one has more lines");
+}
+
+#[test]
+fn the_stored_captures_are_those_of_the_generator() {
+    for (name, frames) in captures::all() {
+        let stored = bytes(&data(&format!("{name}.pcap")));
+        assert!(
+            stored == captures::capture(USUAL, &frames),
+            "driver/data/{name}.pcap: run `make captures`"
+        );
+    }
+}
+
+#[test]
+fn the_worked_example_prints_the_stored_lines() {
+    let folder = folder("example");
+    let hall = data("hall.pcap");
+    let printed = good(&run_in(
+        &folder,
+        &receive_words(hall.to_str().expect("UTF-8")),
+    ));
+    expect_text(&printed, "hall.expected");
+    let refusals = data("refusals.pcap");
+    let printed = good(&run_in(
+        &folder,
+        &receive_words(refusals.to_str().expect("UTF-8")),
+    ));
+    expect_text(&printed, "refusals.expected");
+}
+
+#[test]
+fn the_refusals_of_a_frame_are_all_in_the_stored_lines() {
+    let stored = text(&bytes(&data("refusals.expected")));
+    for number in 3..=15 {
+        assert!(
+            stored.contains(&format!("| refused {number}: ")),
+            "{number}"
+        );
+    }
+}
+
+#[test]
+fn conversions_print_the_stored_lines_and_write_what_the_second_implementation_does() {
+    let folder = folder("convert");
+    let frames = frames("to_compact");
+    fs::write(folder.join("in"), captures::capture(USUAL, &frames)).expect("a capture");
+    let words = [&["compact", "in", "--out", "small"][..], &SETTINGS].concat();
+    expect_text(&good(&run_in(&folder, &words)), "to_compact.expected");
+    let convert = |frames: &[(usize, Vec<u8>)], call: &dyn Fn(&[u8], &mut [u8]) -> u64| {
+        let mut written = Vec::new();
+        for (place, frame) in frames {
+            let mut out = vec![0; 9_216];
+            let word = call(frame, &mut out);
+            if word & 0xFF == 64 {
+                out.truncate((word >> 8) as usize);
+                written.push((*place, out));
+            }
+        }
+        written
+    };
+    let all: Vec<_> = frames.into_iter().enumerate().collect();
+    let small = convert(&all, &|frame, out| reference::compact(&PORT, frame, out));
+    assert!(bytes(&folder.join("small")) == capture_of(USUAL, &small));
+
+    for (tag, stored) in [(None, "expanded.expected"), (Some("5"), "tagged.expected")] {
+        let source = ["--source", "02-00-00-00-00-B2"];
+        let mut words = [
+            &["expand", "small", "--out", "large"][..],
+            &source,
+            &SETTINGS,
+        ]
+        .concat();
+        words.extend(tag.iter().flat_map(|tag| ["--tag", tag]));
+        expect_text(&good(&run_in(&folder, &words)), stored);
+        let large = convert(&small, &|frame, out| {
+            let tagged = u32::from(tag.is_some());
+            reference::expand(&PORT, 0x0200_0000_00B2, tagged, 5, frame, out)
+        });
+        assert!(bytes(&folder.join("large")) == capture_of(USUAL, &large));
+    }
+}
+
+#[test]
+fn expansion_leaves_out_a_general_frame() {
+    let folder = folder("general");
+    fs::write(
+        folder.join("in"),
+        captures::capture(USUAL, &frames("lab_to_left")),
+    )
+    .expect("a capture");
+    let source = ["--source", "02-00-00-00-00-B2"];
+    let words = [&["expand", "in", "--out", "out"][..], &source, &SETTINGS].concat();
+    let printed = good(&run_in(&folder, &words));
+    let refused = "left out, refused 18: a General frame given where Compact is required";
+    assert_eq!(printed.matches(refused).count(), 4, "{printed}");
+    assert!(bytes(&folder.join("out")) == USUAL.header());
+}
+
+#[test]
+fn each_form_of_capture_gives_the_same_lines_and_keeps_its_form_and_times() {
+    let frames = frames("hall");
+    for (big_endian, nanoseconds) in [(false, false), (false, true), (true, false), (true, true)] {
+        let form = Form {
+            big_endian,
+            nanoseconds,
+        };
+        let folder = folder(&format!("form_{big_endian}_{nanoseconds}"));
+        fs::write(folder.join("in"), captures::capture(form, &frames)).expect("a capture");
+        let printed = good(&run_in(&folder, &receive_words("in")));
+        expect_text(&printed, "hall.expected");
+        let mut table = vec![0; 16 * RECORD];
+        let delivered = received(&frames, &mut table);
+        assert!(bytes(&folder.join("table")) == table, "{form:?}");
+        assert!(
+            bytes(&folder.join("out")) == capture_of(form, &delivered),
+            "{form:?}"
+        );
+    }
+}
+
+#[test]
+fn the_table_is_kept_between_runs() {
+    let folder = folder("kept");
+    let mut table = vec![0; 16 * RECORD];
+    fs::write(
+        folder.join("in"),
+        captures::capture(USUAL, &frames("lab_to_left")),
+    )
+    .expect("a capture");
+    for answer in ["4 learned, 0 refreshed", "0 learned, 4 refreshed"] {
+        let printed = good(&run_in(&folder, &receive_words("in")));
+        assert!(printed.contains(answer), "{printed}");
+        received(&frames("lab_to_left"), &mut table);
+        assert!(bytes(&folder.join("table")) == table);
+    }
+    // nothing changes in the second run, and the slot is shown all the same
+    let printed = good(&run_in(&folder, &receive_words("in")));
+    let line =
+        "refreshed | table unchanged (slot 1: learned VLAN 20 02-00-00-00-00-11 behind 1234, confidence 32, 300 s)";
+    assert!(printed.contains(line), "{printed}");
+    assert_eq!(names(&folder), ["in", "out", "table"]);
+}
+
+#[test]
+fn configured_records_and_a_full_table_are_said() {
+    let folder = folder("full");
+    fs::write(
+        folder.join("in"),
+        captures::capture(USUAL, &frames("lab_to_left")),
+    )
+    .expect("a capture");
+    let mut table = record(false, vlan(10), 0x0200_0000_0010, 1, 0).to_vec();
+    fs::write(folder.join("table"), &table).expect("a table");
+    let words = [&["receive", "in", "--table", "table"][..], &SETTINGS].concat();
+    let printed = good(&run_in(&folder, &words));
+    let totals = "4 delivered (0 learned, 0 refreshed, 1 kept, 3 full)";
+    let kept = "kept | table unchanged (slot 0: configured VLAN 10 02-00-00-00-00-10 behind 1234, confidence 1, 0 s)";
+    let full = "not learned: the table is full | table unchanged\n";
+    assert!(printed.contains(totals), "{printed}");
+    assert!(printed.contains(kept), "{printed}");
+    assert_eq!(printed.matches(full).count(), 3, "{printed}");
+    received(&frames("lab_to_left"), &mut table);
+    assert!(bytes(&folder.join("table")) == table);
+}
+
+#[test]
+fn a_capture_cut_at_any_byte_is_refused_and_changes_no_file() {
+    let folder = folder("cut");
+    let frames = frames("hall");
+    let whole = captures::capture(USUAL, &frames);
+    let ends: Vec<usize> = (0..=frames.len())
+        .map(|count| captures::capture(USUAL, &frames[..count]).len())
+        .collect();
+    fs::write(folder.join("table"), vec![0; 16 * RECORD]).expect("a table");
+    fs::write(folder.join("out"), "old").expect("an output");
+    for length in (0..whole.len()).filter(|length| !ends.contains(length)) {
+        fs::write(folder.join("in"), &whole[..length]).expect("a capture");
+        let output = run_in(&folder, &receive_words("in"));
+        bad(&output, 1, "ends inside");
+        assert!(bytes(&folder.join("table")) == vec![0; 16 * RECORD]);
+        assert_eq!(bytes(&folder.join("out")), b"old");
+        assert_eq!(names(&folder), ["in", "out", "table"]);
+    }
+    fs::write(folder.join("in"), &whole[..ends[5]]).expect("a capture");
+    assert!(good(&run_in(&folder, &receive_words("in"))).contains("5 frames: "));
+}
+
+#[test]
+fn bad_captures_are_refused_with_a_message() {
+    let folder = folder("bad");
+    let whole = captures::capture(USUAL, &frames("hall"));
+    let with = |at: usize, changed: &[u8]| {
+        let mut capture = whole.clone();
+        capture[at..at + changed.len()].copy_from_slice(changed);
+        capture
+    };
+    // the first record begins at byte 24, and its two lengths, both 84, at 32
+    let cases: [(Vec<u8>, &str); 8] = [
+        (Vec::new(), "in ends inside its header: 0 of 24 bytes"),
+        (with(0, b"GIF8"), "in is no pcap capture: it begins 47 49 46 38"),
+        (with(0, &[0x0A, 0x0D, 0x0D, 0x0A]), "in is a pcapng capture"),
+        (with(4, &[3]), "in has version 3.4 of the pcap format"),
+        (with(20, &[101]), "in has link type 0x65, not 1"),
+        (with(32, &[0, 0, 5]), "in, record 1, at byte 24: longer than any frame: 327680 of 262144 bytes"),
+        (with(36, &[100]), "in, record 1, at byte 24: holds only a part of its frame (captured with a short snap length?): 84 of 100 bytes"),
+        (with(36, &[80]), "in, record 1, at byte 24: holds more than its frame: 84 of 80 bytes"),
+    ];
+    for (capture, words) in cases {
+        fs::write(folder.join("in"), capture).expect("a capture");
+        bad(&run_in(&folder, &receive_words("in")), 1, words);
+        assert_eq!(names(&folder), ["in"], "{words}");
+    }
+    bad(
+        &run_in(&folder, &receive_words("none")),
+        1,
+        "none cannot be opened: No such file",
+    );
+}
+
+#[test]
+fn a_table_file_that_is_no_table_is_refused() {
+    let folder = folder("no_table");
+    fs::write(folder.join("in"), captures::capture(USUAL, &frames("hall"))).expect("a capture");
+    for length in [0, 13, 15, 14 * 4_096 + 1, 14 * 4_097] {
+        fs::write(folder.join("table"), vec![0; length]).expect("a table");
+        let words = "refused 2: table length 0, not a multiple of 14, or over 57,344";
+        for command in [
+            receive_words("in"),
+            vec!["check", "--table", "table"],
+            vec!["age", "--table", "table", "--by", "1"],
+        ] {
+            bad(&run_in(&folder, &command), 1, words);
+        }
+        assert_eq!(bytes(&folder.join("table")).len(), length);
+        assert_eq!(names(&folder), ["in", "table"]);
+    }
+    fs::write(folder.join("table"), [0; 28]).expect("a table");
+    bad(
+        &run_in(&folder, &receive_words("in")),
+        1,
+        "table has 2 slots, and --slots says 16",
+    );
+    fs::remove_file(folder.join("table")).expect("the table");
+    bad(
+        &run_in(&folder, &["check", "--table", "table"]),
+        1,
+        "table is not there",
+    );
+}
+
+#[test]
+fn files_are_replaced_whole_or_not_at_all() {
+    let folder = folder("whole");
+    let old = vec![0; 16 * RECORD];
+    let stay = |names_wanted: &[&str]| {
+        assert!(bytes(&folder.join("table")) == old);
+        assert_eq!(names(&folder), names_wanted);
+    };
+    fs::write(folder.join("in"), captures::capture(USUAL, &frames("hall"))).expect("a capture");
+    fs::write(folder.join("table"), &old).expect("a table");
+    let words = receive_words("in");
+    let alone = [&["receive", "in", "--table", "table"][..], &SETTINGS].concat();
+    // No file may grow: the output capture fails, or the table. A full disk fails in the same calls.
+    let output = shell_in(&folder, "ulimit -f 0; exec \"$@\"", &words);
+    bad(&output, 1, "out cannot be written: File too large");
+    stay(&["in", "table"]);
+    let output = shell_in(&folder, "ulimit -f 0; exec \"$@\"", &alone);
+    bad(&output, 1, "table cannot be written: File too large");
+    stay(&["in", "table"]);
+    // the report cannot be printed
+    let output = shell_in(&folder, "exec \"$@\" >/dev/full", &words);
+    bad(
+        &output,
+        1,
+        "standard output cannot be written: No space left",
+    );
+    stay(&["in", "table"]);
+    // The output's folder is missing; a pipe is not replaced. The pipe stands for a device and lies in the test's own folder: a driver
+    // that did replace it would do so to /dev/null as well, were it named here and the test run by root.
+    let pipe = Command::new("mkfifo").arg(folder.join("pipe")).status();
+    assert!(pipe.expect("mkfifo").success());
+    for (out, said) in [
+        ("no/out", "no/out cannot be written: No such file"),
+        ("pipe", "pipe is not a regular file"),
+    ] {
+        let output = run_in(&folder, &[&alone[..], &["--out", out]].concat());
+        bad(&output, 1, said);
+        stay(&["in", "pipe", "table"]);
+    }
+    let output = shell_in(
+        &folder,
+        "ulimit -f 0; exec \"$@\"",
+        &["age", "--table", "table", "--by", "9"],
+    );
+    bad(&output, 1, "table cannot be written: File too large");
+    stay(&["in", "pipe", "table"]);
+    // and with nothing in the way it is replaced
+    good(&run_in(&folder, &words));
+    assert!(bytes(&folder.join("table")) != old);
+    assert_eq!(names(&folder), ["in", "out", "pipe", "table"]);
+}
+
+#[test]
+fn a_signal_leaves_no_temporary_file_and_the_old_table() {
+    let folder = folder("signal");
+    let old = vec![0; 16 * RECORD];
+    fs::write(folder.join("table"), &old).expect("a table");
+    fs::create_dir(folder.join("made")).expect("a folder");
+    let made = Command::new("mkfifo").arg(folder.join("in")).status();
+    assert!(made.expect("mkfifo").success());
+    let driver = Command::new(program())
+        .current_dir(&folder)
+        .args(["receive", "in", "--table", "table", "--out", "made/out"])
+        .args(SETTINGS)
+        .stdout(Stdio::piped())
+        .stderr(Stdio::piped())
+        .spawn()
+        .expect("the driver");
+    // a capture that does not end yet
+    let mut pipe = fs::OpenOptions::new()
+        .write(true)
+        .open(folder.join("in"))
+        .expect("the pipe");
+    pipe.write_all(&captures::capture(USUAL, &frames("hall")))
+        .expect("frames");
+    // it is written beside the file it is to replace, so that the renaming is one step
+    let temporary = || {
+        names(&folder.join("made"))
+            .iter()
+            .any(|name| name.starts_with("out."))
+    };
+    let tries = (0..1_000).take_while(|_| {
+        thread::sleep(Duration::from_millis(5));
+        !temporary()
+    });
+    assert!(tries.count() < 1_000, "no temporary file in made/");
+    let killed = Command::new("kill")
+        .args(["-INT", &driver.id().to_string()])
+        .status();
+    assert!(killed.expect("kill").success());
+    // where the signal came between two reads, the end of the capture comes next
+    drop(pipe);
+    let output = driver.wait_with_output().expect("the driver");
+    bad(&output, 1, "table stays as it was");
+    assert!(text(&output.stderr).contains("interrupted after "));
+    assert!(bytes(&folder.join("table")) == old);
+    assert_eq!(names(&folder), ["in", "made", "table"]);
+    assert_eq!(names(&folder.join("made")), [""; 0]);
+}
+
+#[test]
+fn a_link_to_the_table_stays_a_link() {
+    let folder = folder("link");
+    fs::create_dir(folder.join("there")).expect("a folder");
+    fs::write(folder.join("there/table"), record(true, vlan(10), 1, 1, 9)).expect("a table");
+    std::os::unix::fs::symlink("there/table", folder.join("table")).expect("a link");
+    good(&run_in(&folder, &["age", "--table", "table", "--by", "9"]));
+    assert!(fs::symlink_metadata(folder.join("table"))
+        .expect("the link")
+        .is_symlink());
+    assert_eq!(bytes(&folder.join("there/table")), [0; RECORD]);
+}
+
+#[test]
+fn lookup_age_and_check_answer_of_a_table_file() {
+    let folder = folder("inspect");
+    let fine = Label::fine(70_000).expect("a label");
+    let mut table = [
+        record(true, vlan(10), 0x0200_0000_0001, 32, 300),
+        record(false, fine, 0x0200_0000_0002, 7, 0),
+        [0; RECORD],
+        record(true, vlan(10), 0x0200_0000_0003, 255, 8_191),
+    ]
+    .concat();
+    fs::write(folder.join("table"), &table).expect("a table");
+    let lookup = |kind: &str, label: &str, mac: &str| {
+        let words = ["lookup", "--table", "table", kind, label, "--mac", mac];
+        good(&run_in(&folder, &words))
+    };
+    let found = "FGL 70000 02-00-00-00-00-02 is behind 1234\n";
+    assert_eq!(lookup("--fgl", "70000", "02-00-00-00-00-02"), found);
+    assert_eq!(lookup("--fgl", "0x11170", "02:00:00:00:00:02"), found);
+    assert_eq!(lookup("--fgl", "70000", "020000000002"), found);
+    assert_eq!(
+        lookup("--fgl", "10", "02-00-00-00-00-01"),
+        "FGL 10 02-00-00-00-00-01 is not known\n"
+    );
+
+    let printed = good(&run_in(
+        &folder,
+        &["age", "--table", "table", "--by", "300"],
+    ));
+    assert_eq!(
+        printed,
+        "300 seconds passed: 1 of 2 learned records became free\n\
+         table: 4 slots, 1 learned, 1 configured, 0 spoilt, 2 free\n  \
+         slot 1: configured FGL 70000 02-00-00-00-00-02 behind 1234, confidence 7, 0 s\n  \
+         slot 3: learned VLAN 10 02-00-00-00-00-03 behind 1234, confidence 255, 7891 s\n"
+    );
+    reference::age(300, &mut table);
+    assert!(bytes(&folder.join("table")) == table);
+
+    let good_check = good(&run_in(&folder, &["check", "--table", "table"]));
+    assert!(good_check.starts_with("no slot is spoilt\n"));
+    // state 3; and a learned record with a group address
+    table[2 * RECORD] = 0xC0;
+    table.extend(record(true, vlan(1), 0x0300_0000_0001, 0, 9));
+    fs::write(folder.join("table"), &table).expect("a table");
+    let output = run_in(&folder, &["check", "--table", "table"]);
+    assert_eq!(output.status.code(), Some(1));
+    assert_eq!(
+        text(&output.stdout),
+        "lowest spoilt slot: 2\n\
+         table: 5 slots, 1 learned, 1 configured, 2 spoilt, 1 free\n  \
+         slot 1: configured FGL 70000 02-00-00-00-00-02 behind 1234, confidence 7, 0 s\n  \
+         slot 2: spoilt C0 00 00 00 00 00 00 00 00 00 00 00 00 00\n  \
+         slot 3: learned VLAN 10 02-00-00-00-00-03 behind 1234, confidence 255, 7891 s\n  \
+         slot 4: spoilt 40 00 00 20 60 00 00 00 00 22 46 80 00 09\n"
+    );
+    assert!(bytes(&folder.join("table")) == table);
+}
+
+#[test]
+fn bad_command_lines_get_a_message_and_status_2() {
+    let folder = folder("usage");
+    let lookup = ["lookup", "--table", "t", "--mac", "020000000001"];
+    let receive = [&["receive", "in", "--table", "t"][..], &SETTINGS].concat();
+    let expand = [&["expand", "in", "--out", "o"][..], &SETTINGS].concat();
+    let and = |words: &[&'static str], more: &[&'static str]| [words, more].concat();
+    let cases: Vec<(Vec<&str>, &str)> = vec![
+        (vec!["remove"], "`remove` is no command"),
+        (and(&receive, &["more"]), "`more` is one word too many"),
+        (
+            and(&receive, &["--by", "1"]),
+            "`--by` is no option of this command",
+        ),
+        (
+            and(&receive, &["--compact", "on"]),
+            "--compact is given twice",
+        ),
+        (and(&receive, &["--out"]), "--out needs a value: FILE"),
+        (and(&receive, &["--quiet=yes"]), "--quiet takes no value"),
+        (
+            and(&receive, &["--slots", "0"]),
+            "--slots takes a number from 1 to 4096, not `0`",
+        ),
+        (and(&receive, &["--slots=4097"]), "not `4097`"),
+        (
+            and(&receive, &["--confidence", "256"]),
+            "--confidence takes a number from 0 to 255",
+        ),
+        (and(&receive, &["--confidence", "-1"]), "not `-1`"),
+        (
+            and(&receive, &["--confidence", "18446744073709551621"]),
+            "--confidence takes a number",
+        ),
+        (
+            and(&receive, &["--seconds", "9"]),
+            "settings outside their ranges",
+        ),
+        (
+            and(&receive, &["--seconds", "1s"]),
+            "--seconds takes a number",
+        ),
+        (and(&receive, &["--out", "t"]), "are different files"),
+        (
+            vec!["receive", "in", "--table", "t"],
+            "--port ADDRESS is needed",
+        ),
+        (
+            SETTINGS
+                .iter()
+                .fold(vec!["receive", "--table", "t"], |words, word| {
+                    and(&words, &[word])
+                }),
+            "no capture is named",
+        ),
+        (
+            vec!["receive", "--port", "02-00-00-00-00"],
+            "--port takes an address",
+        ),
+        (
+            vec!["receive", "--port", "02-00-00-00-00:01"],
+            "--port takes an address",
+        ),
+        (
+            vec!["receive", "--port", "02000000000g"],
+            "--port takes an address",
+        ),
+        (
+            vec!["receive", "--nickname", "10000"],
+            "--nickname takes up to four hexadecimal digits",
+        ),
+        (
+            vec!["receive", "--compact", "yes"],
+            "--compact takes on or off, not `yes`",
+        ),
+        (vec!["receive", "--table", ""], "--table is empty"),
+        (lookup.to_vec(), "one of --vlan and --fgl is needed"),
+        (
+            and(&lookup, &["--vlan", "1", "--fgl", "1"]),
+            "one of --vlan and --fgl is needed",
+        ),
+        (
+            vec!["age", "--table", "t", "--by", "65536"],
+            "--by takes a number from 0 to 65535",
+        ),
+        (expand.clone(), "--source ADDRESS is needed"),
+        (
+            and(&expand, &["--source", "030000000001"]),
+            "--source is a group address",
+        ),
+        (
+            and(&expand, &["--source", "020000000001", "--tag", "4095"]),
+            "--tag takes a number from 1 to 4094",
+        ),
+        (
+            and(&["live", "--table", "t"], &SETTINGS),
+            "--interface NAME is needed",
+        ),
+    ];
+    for (words, said) in cases {
+        bad(&run_in(&folder, &words), 2, said);
+    }
+    // settings that the library refuses: a group address, two equal ones, a nickname out of range
+    for (place, value) in [
+        (1, "03-00-00-00-00-A1"),
+        (1, "02-00-00-00-00-AA"),
+        (5, "FFC0"),
+        (5, "0"),
+    ] {
+        let mut settings = SETTINGS;
+        settings[place] = value;
+        let words = [&["receive", "in", "--table", "t"][..], &settings].concat();
+        bad(&run_in(&folder, &words), 2, "settings outside their ranges");
+    }
+    let output = run_in(&folder, &[]);
+    assert_eq!(output.status.code(), Some(2));
+    assert!(text(&output.stderr).contains("no command is given"));
+    assert_eq!(names(&folder), [""; 0]);
+}
+
+#[test]
+fn each_command_has_help_on_each_of_its_options() {
+    let folder = folder("help");
+    let settings = [
+        "--port",
+        "--inner",
+        "--nickname",
+        "--compact",
+        "--confidence",
+        "--seconds",
+    ];
+    let commands: [(&str, &[&str], bool); 8] = [
+        ("receive", &["--table", "--slots", "--out", "--quiet"], true),
+        ("compact", &["--out", "--quiet"], true),
+        ("expand", &["--out", "--source", "--tag", "--quiet"], true),
+        ("lookup", &["--table", "--vlan", "--fgl", "--mac"], false),
+        ("age", &["--table", "--by"], false),
+        ("check", &["--table"], false),
+        (
+            "live",
+            &[
+                "--interface",
+                "--frames",
+                "--for",
+                "--table",
+                "--slots",
+                "--out",
+                "--quiet",
+            ],
+            true,
+        ),
+        ("send", &["--interface", "--quiet"], true),
+    ];
+    let all = good(&run_in(&folder, &["--help"]));
+    for (command, options, with_settings) in commands {
+        assert!(
+            all.contains(&format!("shinglebar-port {command} ")),
+            "{command}"
+        );
+        let help = good(&run_in(&folder, &[command, "--help"]));
+        let more: &[&str] = if with_settings { &settings } else { &[] };
+        let mut wanted: Vec<&str> = [options, more].concat();
+        let mut found: Vec<&str> = help
+            .lines()
+            .filter_map(|line| line.strip_prefix("  --"))
+            .map(|line| line.split(' ').next().expect("a name"))
+            .collect();
+        wanted.sort();
+        found.sort();
+        let wanted: Vec<&str> = wanted.iter().map(|name| &name[2..]).collect();
+        assert_eq!(found, wanted, "{command}");
+    }
+}
+
+#[test]
+fn a_missing_interface_is_said() {
+    let folder = folder("interface");
+    fs::write(folder.join("in"), USUAL.header()).expect("a capture");
+    let live = [
+        "live",
+        "--interface",
+        "none0",
+        "--table",
+        "table",
+        "--slots",
+        "1",
+    ];
+    let send = ["send", "in", "--interface", "none0"];
+    for words in [&live[..], &send] {
+        let output = run_in(&folder, &[words, &SETTINGS].concat());
+        bad(&output, 1, "interface none0: No such device");
+        assert_eq!(names(&folder), ["in"]);
+    }
+}
+
+#[test]
+fn a_long_capture_has_a_progress_line_on_a_terminal_only() {
+    let folder = folder("progress");
+    let frame = frames("lab_to_left").swap_remove(0);
+    let long = vec![frame; 25_000];
+    fs::write(folder.join("in"), captures::capture(USUAL, &long)).expect("a capture");
+    let words = [&receive_words("in")[..], &["--quiet"]].concat();
+    // nothing but the totals without a terminal
+    assert!(good(&run_in(&folder, &words)).starts_with("25000 frames: "));
+    let line = format!("{} {} >printed", program().display(), words.join(" "));
+    let output = Command::new("script")
+        .current_dir(&folder)
+        .args(["-qec", &line, "/dev/null"])
+        .stdin(Stdio::null())
+        .output()
+        .expect("script");
+    assert!(output.status.success());
+    let shown = text(&output.stdout);
+    for part in ["\r10000 frames, 40 %", "\r20000 frames, 80 %", "\r\x1b[K"] {
+        assert!(shown.contains(part), "{part:?} is not in {shown:?}");
+    }
+    assert!(text(&bytes(&folder.join("printed"))).starts_with("25000 frames: "));
+}
+
+#[test]
+fn the_words_for_refusals_are_those_of_the_header() {
+    let words = text(&bytes(&package().join("../driver/words.c")));
+    let header = text(&bytes(&package().join("../include/shinglebar.h")));
+    let lines: Vec<&str> = header.lines().map(str::trim).collect();
+    let mut from = 0;
+    let mut count = 0;
+    for pair in lines.windows(2) {
+        if !pair[1].starts_with("SHINGLEBAR_REFUSAL_") || !pair[1].contains(" = ") {
+            continue;
+        }
+        let comment = pair[0]
+            .strip_prefix("/* ")
+            .and_then(|line| line.strip_suffix(" */"))
+            .expect("the words");
+        // in the order of the numbers
+        let found = words[from..].find(&format!("\"{comment}\","));
+        from += found.unwrap_or_else(|| panic!("`{comment}` is not in driver/words.c"));
+        count += 1;
+    }
+    assert_eq!(count, 18);
+}
