@@ -1,5 +1,5 @@
 # Shinglebar. `make test` is the gate that every change passes.
-.PHONY: test run driver lab fuzz bench archive vectors captures outside outside-write fmt
+.PHONY: test run driver lab fuzz fuzzer bench archive vectors captures outside outside-write fmt
 
 # What `make run` says first: the minutes that `rt staticlib shinglebar` takes from nothing on two cores.
 PROVING_MINUTES = 3
@@ -42,13 +42,22 @@ lab: driver
 fuzz: archive
 	cd tests && SHINGLEBAR_CASES=$${SHINGLEBAR_CASES:-1000000} cargo test --offline --locked -- --nocapture
 
+# Runs the fuzz target of fuzz/ on the C boundary with libFuzzer (clang), for a minute or SHINGLEBAR_FUZZ_SECONDS.
+fuzzer: archive
+	mkdir -p fuzz/target/corpus
+	clang -std=c99 -O2 -g -fsanitize=fuzzer -Wall -Wextra -Werror -I include fuzz/boundary.c fuzz/mutator.c \
+	    $(ARCHIVE) -o fuzz/target/boundary
+	fuzz/target/boundary -max_total_time=$${SHINGLEBAR_FUZZ_SECONDS:-60} -max_len=16384 -dict=fuzz/boundary.dict \
+	    -artifact_prefix=fuzz/target/ -print_final_stats=1 fuzz/target/corpus fuzz/corpus
+
 # Times the calls beside hand-written Rust versions of them, on the same bytes in the same run. Writes docs/BENCH.md and its plots.
 bench: archive
 	cd bench && cargo run --release --offline --locked
 
-# Writes the calls that the program `replay` makes and what the second implementation says they give (docs/REPLAY.md).
+# Writes the calls that the program `replay` makes and what the second implementation says they give (docs/REPLAY.md), and from
+# them the first inputs of the fuzz target.
 vectors: archive
-	cd tests && cargo run --offline --locked --bin vectors
+	cd tests && cargo run --offline --locked --bin vectors && cargo run --offline --locked --bin corpus
 
 # Writes the captures of the port driver, driver/data/*.pcap.
 captures: $(ARCHIVE)

@@ -1,35 +1,22 @@
-//! Links the archive of the library and compiles the C test of the header.
-//!
-//! The archive is `../target/staticlib/libshinglebar.a`; the environment variable
-//! `SHINGLEBAR_ARCHIVE_DIR` names another folder.
+//! Compiles the C test of the header. The package in rust/ links the archive, and says where it and the
+//! header are.
 
 use std::env;
 use std::path::{Path, PathBuf};
 use std::process::Command;
 
 fn main() {
-    let package = PathBuf::from(env::var_os("CARGO_MANIFEST_DIR").expect("cargo sets this"));
-    let made = PathBuf::from(env::var_os("OUT_DIR").expect("cargo sets this"));
+    let path = |name: &str| PathBuf::from(env::var_os(name).expect("cargo sets this"));
+    let package = path("CARGO_MANIFEST_DIR");
+    let made = path("OUT_DIR");
+    let archive = path("DEP_SHINGLEBAR_ARCHIVE");
+    let include = path("DEP_SHINGLEBAR_INCLUDE");
 
-    println!("cargo:rerun-if-env-changed=SHINGLEBAR_ARCHIVE_DIR");
-    let folder = match env::var_os("SHINGLEBAR_ARCHIVE_DIR") {
-        Some(folder) => package.join(folder),
-        None => package.join("../target/staticlib"),
-    };
-    let archive = folder.join("libshinglebar.a");
+    println!("cargo:rerun-if-changed=build.rs");
     println!("cargo:rerun-if-changed={}", archive.display());
-    if !archive.is_file() {
-        panic!(
-            "{} is missing: run `rt staticlib shinglebar` first",
-            archive.display()
-        );
-    }
-    println!("cargo:rustc-link-search=native={}", folder.display());
-    println!("cargo:rustc-link-lib=static=shinglebar");
     // The test files of the later calls compile their C program themselves.
     println!("cargo:rustc-env=SHINGLEBAR_ARCHIVE={}", archive.display());
 
-    let include = package.join("../include");
     let source = package.join("c/null.c");
     println!(
         "cargo:rerun-if-changed={}",

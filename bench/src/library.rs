@@ -1,6 +1,12 @@
-//! The library's calls, as include/shinglebar.h declares them.
+//! The library's calls: the functions of the archive themselves, which the package in rust/ declares
+//! and links, and their types.
 //!
 //! A declaration that no row uses asks nothing of the archive.
+
+pub use shinglebar::exports::{
+    shinglebar_age, shinglebar_compact, shinglebar_expand, shinglebar_flush, shinglebar_lookup,
+    shinglebar_receive, shinglebar_send, shinglebar_spoilt,
+};
 
 pub type Lookup = unsafe extern "C" fn(
     kind: u32,
@@ -66,82 +72,3 @@ pub type Expand = unsafe extern "C" fn(
     out: *mut u8,
     out_len: usize,
 ) -> u64;
-
-extern "C" {
-    pub fn shinglebar_lookup(
-        kind: u32,
-        label: u32,
-        mac: u64,
-        table: *const u8,
-        table_len: usize,
-    ) -> u64;
-
-    pub fn shinglebar_age(seconds: u16, table: *mut u8, table_len: usize) -> u64;
-
-    pub fn shinglebar_spoilt(table: *const u8, table_len: usize) -> u64;
-
-    pub fn shinglebar_flush(
-        ingress: u32,
-        payload: *const u8,
-        payload_len: usize,
-        table: *mut u8,
-        table_len: usize,
-    ) -> u64;
-
-    pub fn shinglebar_receive(
-        port: u64,
-        inner: u64,
-        nickname: u32,
-        compact: u32,
-        confidence: u32,
-        seconds: u32,
-        frame: *const u8,
-        frame_len: usize,
-        table: *mut u8,
-        table_len: usize,
-        out: *mut u8,
-        out_len: usize,
-    ) -> u64;
-
-    pub fn shinglebar_compact(
-        port: u64,
-        inner: u64,
-        nickname: u32,
-        compact: u32,
-        confidence: u32,
-        seconds: u32,
-        frame: *const u8,
-        frame_len: usize,
-        out: *mut u8,
-        out_len: usize,
-    ) -> u64;
-
-    pub fn shinglebar_expand(
-        port: u64,
-        inner: u64,
-        nickname: u32,
-        compact: u32,
-        confidence: u32,
-        seconds: u32,
-        outer_source: u64,
-        tagged: u32,
-        tag: u32,
-        frame: *const u8,
-        frame_len: usize,
-        out: *mut u8,
-        out_len: usize,
-    ) -> u64;
-
-    pub fn shinglebar_send(
-        port: u64,
-        inner: u64,
-        nickname: u32,
-        compact: u32,
-        confidence: u32,
-        seconds: u32,
-        frame: *const u8,
-        frame_len: usize,
-        work: *mut u8,
-        work_len: usize,
-    ) -> u64;
-}

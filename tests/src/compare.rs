@@ -2,7 +2,7 @@
 //! every area must be equal.
 
 use crate::boundary;
-use crate::random::Random;
+use crate::lend::Lend;
 use crate::reference::{self, Settings};
 
 /// Bytes in hexadecimal.
@@ -30,9 +30,8 @@ fn words(library: u64, reference: u64) -> String {
     }
 }
 
-#[inline]
-pub fn lookup(random: &mut Random, kind: u32, label: u32, mac: u64, table: &[u8]) -> u64 {
-    let library = boundary::lookup(random, kind, label, mac, table);
+pub fn lookup(lender: &mut impl Lend, kind: u32, label: u32, mac: u64, table: &[u8]) -> u64 {
+    let library = boundary::lookup(lender, kind, label, mac, table);
     let paper = reference::lookup(kind, label, mac, table);
     assert!(
         library == paper,
@@ -43,11 +42,10 @@ pub fn lookup(random: &mut Random, kind: u32, label: u32, mac: u64, table: &[u8]
     paper
 }
 
-#[inline]
-pub fn age(random: &mut Random, seconds: u16, table: &mut [u8]) -> u64 {
+pub fn age(lender: &mut impl Lend, seconds: u16, table: &mut [u8]) -> u64 {
     let given = table.to_vec();
     let mut after = table.to_vec();
-    let library = boundary::age(random, seconds, &mut after);
+    let library = boundary::age(lender, seconds, &mut after);
     let paper = reference::age(seconds, table);
     assert!(
         library == paper && after == table,
@@ -59,9 +57,8 @@ pub fn age(random: &mut Random, seconds: u16, table: &mut [u8]) -> u64 {
     paper
 }
 
-#[inline]
-pub fn spoilt(random: &mut Random, table: &[u8]) -> u64 {
-    let library = boundary::spoilt(random, table);
+pub fn spoilt(lender: &mut impl Lend, table: &[u8]) -> u64 {
+    let library = boundary::spoilt(lender, table);
     let paper = reference::spoilt(table);
     assert!(
         library == paper,
@@ -72,11 +69,10 @@ pub fn spoilt(random: &mut Random, table: &[u8]) -> u64 {
     paper
 }
 
-#[inline]
-pub fn flush(random: &mut Random, ingress: u32, payload: &[u8], table: &mut [u8]) -> u64 {
+pub fn flush(lender: &mut impl Lend, ingress: u32, payload: &[u8], table: &mut [u8]) -> u64 {
     let given = table.to_vec();
     let mut after = table.to_vec();
-    let library = boundary::flush(random, ingress, payload, &mut after);
+    let library = boundary::flush(lender, ingress, payload, &mut after);
     let paper = reference::flush(ingress, payload, table);
     assert!(
         library == paper && after == table,
@@ -89,9 +85,8 @@ pub fn flush(random: &mut Random, ingress: u32, payload: &[u8], table: &mut [u8]
     paper
 }
 
-#[inline]
 pub fn receive(
-    random: &mut Random,
+    lender: &mut impl Lend,
     settings: &Settings,
     frame: &[u8],
     table: &mut [u8],
@@ -99,7 +94,7 @@ pub fn receive(
 ) -> u64 {
     let (given_table, given_out) = (table.to_vec(), out.to_vec());
     let (mut after_table, mut after_out) = (table.to_vec(), out.to_vec());
-    let library = boundary::receive(random, settings, frame, &mut after_table, &mut after_out);
+    let library = boundary::receive(lender, settings, frame, &mut after_table, &mut after_out);
     let paper = reference::receive(settings, frame, table, out);
     assert!(
         library == paper && after_table == table && after_out == out,
@@ -114,11 +109,10 @@ pub fn receive(
     paper
 }
 
-#[inline]
-pub fn compact(random: &mut Random, settings: &Settings, frame: &[u8], out: &mut [u8]) -> u64 {
+pub fn compact(lender: &mut impl Lend, settings: &Settings, frame: &[u8], out: &mut [u8]) -> u64 {
     let given = out.to_vec();
     let mut after = out.to_vec();
-    let library = boundary::compact(random, settings, frame, &mut after);
+    let library = boundary::compact(lender, settings, frame, &mut after);
     let paper = reference::compact(settings, frame, out);
     assert!(
         library == paper && after == out,
@@ -131,9 +125,8 @@ pub fn compact(random: &mut Random, settings: &Settings, frame: &[u8], out: &mut
     paper
 }
 
-#[inline]
 pub fn expand(
-    random: &mut Random,
+    lender: &mut impl Lend,
     settings: &Settings,
     outer_source: u64,
     tagged: u32,
@@ -144,7 +137,7 @@ pub fn expand(
     let given = out.to_vec();
     let mut after = out.to_vec();
     let library = boundary::expand(
-        random,
+        lender,
         settings,
         outer_source,
         tagged,
@@ -165,11 +158,10 @@ pub fn expand(
     paper
 }
 
-#[inline]
-pub fn send(random: &mut Random, settings: &Settings, frame: &[u8], work: &mut [u8]) -> u64 {
+pub fn send(lender: &mut impl Lend, settings: &Settings, frame: &[u8], work: &mut [u8]) -> u64 {
     let given = work.to_vec();
     let mut after = work.to_vec();
-    let library = boundary::send(random, settings, frame, &mut after);
+    let library = boundary::send(lender, settings, frame, &mut after);
     let paper = reference::send(settings, frame, work);
     assert!(
         library == paper && after == work,

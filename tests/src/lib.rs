@@ -1,7 +1,6 @@
 //! Comparison of the library with a second implementation, through the C boundary.
 //!
-//! Each test file belongs to one group of calls and refers to no other exports of the library, so
-//! that it links as soon as those are there:
+//! The library is called by the package in rust/. Each test file belongs to one group of calls:
 //!
 //! | file | calls |
 //! |---|---|
@@ -12,11 +11,16 @@
 //! | tests/convert.rs | compact, expand, send |
 //! | tests/driver.rs | all, through the port driver |
 //! | tests/lists.rs | receive, compact, lookup, age, spoilt: whole call lists |
+//! | tests/pages.rs | all, with areas against memory that cannot be accessed |
+//! | tests/words.rs | all, with typed answers; words that are no answers |
+//! | tests/fuzz.rs | all, by the fuzz target of fuzz/ on its corpus |
+//! | tests/replay.rs | flush: a good one cut at each of its lengths |
+//! | tests/vectors.rs | none: the files of the program `replay` |
 //! | tests/outside.rs | compact, expand, receive, lookup: what tshark says of the frames |
 //!
 //! Environment: `SHINGLEBAR_SEED` the seed, `SHINGLEBAR_CASES` the number of cases of each call,
-//! `SHINGLEBAR_CASE` the only case to run, and for build.rs `SHINGLEBAR_ARCHIVE_DIR` the folder of
-//! libshinglebar.a. Seeds and counts go to standard error, past the capture of the test runner.
+//! `SHINGLEBAR_CASE` the only case to run, and for rust/build.rs `SHINGLEBAR_ARCHIVE_DIR` the folder
+//! of libshinglebar.a. Seeds and counts go to standard error, past the capture of the test runner.
 
 #![deny(unsafe_code)]
 
@@ -24,8 +28,11 @@ pub mod boundary;
 pub mod c_program;
 pub mod captures;
 pub mod compare;
+pub mod corpus;
 pub mod generate;
+pub mod lend;
 pub mod outside;
+pub mod pages;
 pub mod random;
 pub mod reference;
 pub mod run;

@@ -1,0 +1,458 @@
+//! The answers, and the words of the C boundary that stand for them.
+//!
+//! | call | low byte | bits |
+//! |---|---|---|
+//! | receive | 64 onward | |
+//! | receive | 65 delivered | 8..23 length, 24..25 learning, 32 label kind, 40..63 label |
+//! | receive | 66 other channel | |
+//! | receive, flush | 67 flushed | 8..23 records cleared |
+//! | compact, expand | 64 written | 8..23 length |
+//! | send | 64 compacted | 8..23 length |
+//! | send | 65 the frame itself | |
+//! | lookup | 64 found | 8..23 nickname |
+//! | spoilt | 64 slot | 8..23 slot |
+//! | lookup, spoilt | 65 none | |
+//! | age | 64 done | |
+//!
+//! All other bits are 0. A refusal is its number alone.
+
+use core::error::Error;
+use core::fmt;
+use core::ops::RangeInclusive;
+
+use crate::{Label, Refusal};
+
+/// The bytes of what a call writes: a frame.
+const LENGTHS: RangeInclusive<u16> = 14..=9216;
+/// The records of a table that can be cleared, and its slots.
+const COUNTS: RangeInclusive<u16> = 0..=4096;
+const SLOTS: RangeInclusive<u16> = 0..=4095;
+const NICKNAMES: RangeInclusive<u16> = 0x0001..=0xFFBF;
+const VLANS: RangeInclusive<u16> = 0x001..=0xFFE;
+
+/// What learning did with the inner source of a frame delivered.
+#[derive(Clone, Copy, Debug, PartialEq, Eq, Hash)]
+pub enum Learning {
+    /// It stands in a slot that was free.
+    Learned,
+    /// Its record was overwritten.
+    Refreshed,
+    /// Its record stays: it is configured, or has a higher confidence.
+    Kept,
+    /// It is not in the table, which has no free slot.
+    Full,
+}
+
+/// What reading a frame came to.
+#[derive(Clone, Copy, Debug, PartialEq, Eq, Hash)]
+pub enum Received {
+    /// The frame is for another switch. Nothing was changed.
+    Onward,
+    /// A native frame starts the output area.
+    Delivered {
+        /// The bytes of the native frame.
+        length: usize,
+        /// What became of its source.
+        learning: Learning,
+        /// Its label.
+        label: Label,
+    },
+    /// A channel message that is no Address Flush. Nothing was changed.
+    OtherChannel,
+    /// An Address Flush was carried out.
+    Flushed {
+        /// The records cleared.
+        count: u16,
+    },
+}
+
+/// An Address Flush was carried out.
+#[derive(Clone, Copy, Debug, PartialEq, Eq, Hash)]
+pub struct Flushed {
+    /// The records cleared.
+    pub count: u16,
+}
+
+/// The result of a compaction starts the output area.
+#[derive(Clone, Copy, Debug, PartialEq, Eq, Hash)]
+pub struct Compacted {
+    /// The bytes written.
+    pub length: usize,
+}
+
+/// The result of an expansion starts the output area.
+#[derive(Clone, Copy, Debug, PartialEq, Eq, Hash)]
+pub struct Expanded {
+    /// The bytes written.
+    pub length: usize,
+}
+
+/// What to send.
+#[derive(Clone, Copy, Debug, PartialEq, Eq, Hash)]
+pub enum Sent {
+    /// The compacted frame, which starts the working area.
+    Compacted {
+        /// The bytes written.
+        length: usize,
+    },
+    /// The received frame itself. The working area is unchanged.
+    Itself,
+}
+
+impl Sent {
+    /// The bytes to send, of the frame and the working area of the call.
+    ///
+    /// # Panics
+    ///
+    /// If the working area is shorter than the compacted frame, and so another one.
+    pub fn bytes<'a>(&self, frame: &'a [u8], work: &'a [u8]) -> &'a [u8] {
+        match *self {
+            Sent::Compacted { length } => &work[..length],
+            Sent::Itself => frame,
+        }
+    }
+}
+
+/// What the table says of an address.
+#[derive(Clone, Copy, Debug, PartialEq, Eq, Hash)]
+pub enum Found {
+    /// The nickname of the switch that the address is behind.
+    Nickname(u16),
+    /// No record has the label and address.
+    None,
+}
+
+/// The table was aged.
+#[derive(Clone, Copy, Debug, PartialEq, Eq, Hash)]
+pub struct Aged;
+
+/// The lowest spoilt slot.
+#[derive(Clone, Copy, Debug, PartialEq, Eq, Hash)]
+pub enum Spoilt {
+    /// Counted from 0.
+    Slot(u16),
+    /// No slot is spoilt.
+    None,
+}
+
+/// The answers of a call, without its refusals.
+pub trait Answer: Sized {
+    /// The refusals that the call can give.
+    const REFUSALS: &'static [Refusal];
+
+    /// The answer whose kind and values are in the word, if they are those of an answer. Other bits
+    /// are not looked at: [`decode`] does.
+    fn from_word(word: u64) -> Option<Self>;
+
+    /// The word of the answer.
+    fn word(&self) -> u64;
+}
+
+/// A word that the call cannot give: the archive is not the one this package was made for.
+#[derive(Clone, Copy, Debug, PartialEq, Eq)]
+pub struct UnknownWord(
+    /// The word.
+    pub u64,
+);
+
+impl fmt::Display for UnknownWord {
+    fn fmt(&self, to: &mut fmt::Formatter) -> fmt::Result {
+        write!(to, "{:#018x} is no answer of this call", self.0)
+    }
+}
+
+impl Error for UnknownWord {}
+
+/// Reads the word of a call. Every bit counts: a word is read exactly if [`encode`] gives it back.
+///
+/// ```
+/// use shinglebar::{decode, Flushed, Refusal, UnknownWord};
+///
+/// assert_eq!(decode(0x0243), Ok(Ok(Flushed { count: 2 })));
+/// assert_eq!(decode::<Flushed>(15), Ok(Err(Refusal::Payload)));
+/// // No kind of a flush; a refusal of other calls; a bit that belongs to nothing.
+/// for word in [64, 18, 0x8000_0000_0000_0243] {
+///     assert_eq!(decode::<Flushed>(word), Err(UnknownWord(word)));
+/// }
+/// ```
+pub fn decode<A: Answer>(word: u64) -> Result<Result<A, Refusal>, UnknownWord> {
+    if let Some(refusal) = Refusal::from_number(word) {
+        return match A::REFUSALS.contains(&refusal) {
+            true => Ok(Err(refusal)),
+            false => Err(UnknownWord(word)),
+        };
+    }
+    match A::from_word(word) {
+        Some(answer) if answer.word() == word => Ok(Ok(answer)),
+        _ => Err(UnknownWord(word)),
+    }
+}
+
+/// The word of an answer or refusal.
+pub fn encode<A: Answer>(outcome: &Result<A, Refusal>) -> u64 {
+    match outcome {
+        Ok(answer) => answer.word(),
+        Err(refusal) => u64::from(refusal.number()),
+    }
+}
+
+fn kind(word: u64) -> u8 {
+    word as u8
+}
+
+/// The value in bits 8 to 23, if it is in the range.
+fn value(word: u64, range: RangeInclusive<u16>) -> Option<u16> {
+    let value = (word >> 8) as u16;
+    range.contains(&value).then_some(value)
+}
+
+fn length(word: u64) -> Option<usize> {
+    value(word, LENGTHS).map(usize::from)
+}
+
+fn with_value(kind: u64, value: u16) -> u64 {
+    kind | u64::from(value) << 8
+}
+
+/// A length out of range has no word of its own; none is read from a word.
+fn with_length(kind: u64, length: usize) -> u64 {
+    kind | (length as u64) << 8
+}
+
+impl Learning {
+    fn from_word(word: u64) -> Learning {
+        match word >> 24 & 3 {
+            0 => Learning::Learned,
+            1 => Learning::Refreshed,
+            2 => Learning::Kept,
+            _ => Learning::Full,
+        }
+    }
+
+    fn number(self) -> u64 {
+        match self {
+            Learning::Learned => 0,
+            Learning::Refreshed => 1,
+            Learning::Kept => 2,
+            Learning::Full => 3,
+        }
+    }
+}
+
+impl fmt::Display for Learning {
+    fn fmt(&self, to: &mut fmt::Formatter) -> fmt::Result {
+        to.write_str(match self {
+            Learning::Learned => "learned",
+            Learning::Refreshed => "refreshed",
+            Learning::Kept => "kept",
+            Learning::Full => "full",
+        })
+    }
+}
+
+fn label(word: u64) -> Option<Label> {
+    let number = (word >> 40) as u32;
+    if word >> 32 & 1 == 1 {
+        return Some(Label::Fine(number));
+    }
+    let number = u16::try_from(number).ok()?;
+    VLANS.contains(&number).then_some(Label::Vlan(number))
+}
+
+impl Answer for Received {
+    const REFUSALS: &'static [Refusal] = &[
+        Refusal::Settings,
+        Refusal::TableLength,
+        Refusal::FrameLength,
+        Refusal::NotTrill,
+        Refusal::NotForThisPort,
+        Refusal::Cut,
+        Refusal::Version,
+        Refusal::HopCount,
+        Refusal::Nickname,
+        Refusal::Label,
+        Refusal::GroupSource,
+        Refusal::Multicast,
+        Refusal::ReservedDestination,
+        Refusal::Channel,
+        Refusal::Payload,
+        Refusal::OutputLength,
+    ];
+
+    fn from_word(word: u64) -> Option<Received> {
+        match kind(word) {
+            64 => Some(Received::Onward),
+            65 => Some(Received::Delivered {
+                length: length(word)?,
+                learning: Learning::from_word(word),
+                label: label(word)?,
+            }),
+            66 => Some(Received::OtherChannel),
+            67 => Some(Received::Flushed {
+                count: value(word, COUNTS)?,
+            }),
+            _ => None,
+        }
+    }
+
+    fn word(&self) -> u64 {
+        match *self {
+            Received::Onward => 64,
+            Received::Delivered {
+                length,
+                learning,
+                label,
+            } => {
+                with_length(65, length)
+                    | learning.number() << 24
+                    | u64::from(label.kind()) << 32
+                    | u64::from(label.number()) << 40
+            }
+            Received::OtherChannel => 66,
+            Received::Flushed { count } => with_value(67, count),
+        }
+    }
+}
+
+impl Answer for Flushed {
+    const REFUSALS: &'static [Refusal] = &[Refusal::TableLength, Refusal::Payload];
+
+    fn from_word(word: u64) -> Option<Flushed> {
+        match kind(word) {
+            67 => Some(Flushed {
+                count: value(word, COUNTS)?,
+            }),
+            _ => None,
+        }
+    }
+
+    fn word(&self) -> u64 {
+        with_value(67, self.count)
+    }
+}
+
+impl Answer for Compacted {
+    const REFUSALS: &'static [Refusal] = &[
+        Refusal::Settings,
+        Refusal::FrameLength,
+        Refusal::NotTrill,
+        Refusal::NotForThisPort,
+        Refusal::Cut,
+        Refusal::Version,
+        Refusal::Label,
+        Refusal::Multicast,
+        Refusal::OutputLength,
+        Refusal::NotCompactable,
+    ];
+
+    fn from_word(word: u64) -> Option<Compacted> {
+        match kind(word) {
+            64 => Some(Compacted {
+                length: length(word)?,
+            }),
+            _ => None,
+        }
+    }
+
+    fn word(&self) -> u64 {
+        with_length(64, self.length)
+    }
+}
+
+impl Answer for Expanded {
+    const REFUSALS: &'static [Refusal] = &[
+        Refusal::Settings,
+        Refusal::FrameLength,
+        Refusal::NotTrill,
+        Refusal::NotForThisPort,
+        Refusal::Cut,
+        Refusal::Version,
+        Refusal::Label,
+        Refusal::OutputLength,
+        Refusal::General,
+    ];
+
+    fn from_word(word: u64) -> Option<Expanded> {
+        match kind(word) {
+            64 => Some(Expanded {
+                length: length(word)?,
+            }),
+            _ => None,
+        }
+    }
+
+    fn word(&self) -> u64 {
+        with_length(64, self.length)
+    }
+}
+
+impl Answer for Sent {
+    const REFUSALS: &'static [Refusal] = Compacted::REFUSALS;
+
+    fn from_word(word: u64) -> Option<Sent> {
+        match kind(word) {
+            64 => Some(Sent::Compacted {
+                length: length(word)?,
+            }),
+            65 => Some(Sent::Itself),
+            _ => None,
+        }
+    }
+
+    fn word(&self) -> u64 {
+        match *self {
+            Sent::Compacted { length } => with_length(64, length),
+            Sent::Itself => 65,
+        }
+    }
+}
+
+impl Answer for Found {
+    const REFUSALS: &'static [Refusal] = &[Refusal::TableLength];
+
+    fn from_word(word: u64) -> Option<Found> {
+        match kind(word) {
+            64 => Some(Found::Nickname(value(word, NICKNAMES)?)),
+            65 => Some(Found::None),
+            _ => None,
+        }
+    }
+
+    fn word(&self) -> u64 {
+        match *self {
+            Found::Nickname(nickname) => with_value(64, nickname),
+            Found::None => 65,
+        }
+    }
+}
+
+impl Answer for Aged {
+    const REFUSALS: &'static [Refusal] = &[Refusal::TableLength];
+
+    fn from_word(word: u64) -> Option<Aged> {
+        (kind(word) == 64).then_some(Aged)
+    }
+
+    fn word(&self) -> u64 {
+        64
+    }
+}
+
+impl Answer for Spoilt {
+    const REFUSALS: &'static [Refusal] = &[Refusal::TableLength];
+
+    fn from_word(word: u64) -> Option<Spoilt> {
+        match kind(word) {
+            64 => Some(Spoilt::Slot(value(word, SLOTS)?)),
+            65 => Some(Spoilt::None),
+            _ => None,
+        }
+    }
+
+    fn word(&self) -> u64 {
+        match *self {
+            Spoilt::Slot(slot) => with_value(64, slot),
+            Spoilt::None => 65,
+        }
+    }
+}

@@ -1,0 +1,90 @@
+//! The exports of the archive, as include/shinglebar.h declares them.
+//!
+//! [`raw`](crate::raw) is the safe way to call them. They are public for callers that need the
+//! functions themselves, such as the benchmark.
+//!
+//! # Safety
+//!
+//! A pointer is not null, also at length 0; a length does not exceed the memory behind its pointer;
+//! the areas of one call do not overlap, and those that a call may write are lent to it alone.
+
+#![allow(missing_docs)]
+
+extern "C" {
+    pub fn shinglebar_receive(
+        port: u64,
+        inner: u64,
+        nickname: u32,
+        compact: u32,
+        confidence: u32,
+        seconds: u32,
+        frame: *const u8,
+        frame_len: usize,
+        table: *mut u8,
+        table_len: usize,
+        out: *mut u8,
+        out_len: usize,
+    ) -> u64;
+
+    pub fn shinglebar_flush(
+        ingress: u32,
+        payload: *const u8,
+        payload_len: usize,
+        table: *mut u8,
+        table_len: usize,
+    ) -> u64;
+
+    pub fn shinglebar_compact(
+        port: u64,
+        inner: u64,
+        nickname: u32,
+        compact: u32,
+        confidence: u32,
+        seconds: u32,
+        frame: *const u8,
+        frame_len: usize,
+        out: *mut u8,
+        out_len: usize,
+    ) -> u64;
+
+    pub fn shinglebar_expand(
+        port: u64,
+        inner: u64,
+        nickname: u32,
+        compact: u32,
+        confidence: u32,
+        seconds: u32,
+        outer_source: u64,
+        tagged: u32,
+        tag: u32,
+        frame: *const u8,
+        frame_len: usize,
+        out: *mut u8,
+        out_len: usize,
+    ) -> u64;
+
+    pub fn shinglebar_send(
+        port: u64,
+        inner: u64,
+        nickname: u32,
+        compact: u32,
+        confidence: u32,
+        seconds: u32,
+        frame: *const u8,
+        frame_len: usize,
+        work: *mut u8,
+        work_len: usize,
+    ) -> u64;
+
+    pub fn shinglebar_lookup(
+        kind: u32,
+        label: u32,
+        mac: u64,
+        table: *const u8,
+        table_len: usize,
+    ) -> u64;
+
+    pub fn shinglebar_age(seconds: u16, table: *mut u8, table_len: usize) -> u64;
+
+    pub fn shinglebar_spoilt(table: *const u8, table_len: usize) -> u64;
+}

@@ -1,0 +1,241 @@
+//! The receiver of a TRILL edge switch: reads Ethernet frames in General and Compact Format, learns
+//! which switch each address is behind, and obeys Address Flush messages (RFC 8383).
+//!
+//! This package is a safe wrapper over the static library, whose functions are proved to meet their
+//! contracts; build.rs says where the archive is looked for. The package allocates nothing and
+//! needs no standard library.
+//!
+//! | call | what it does |
+//! |---|---|
+//! | [`receive`] | reads a frame: delivers a native frame and learns its source, or carries out a flush |
+//! | [`flush`] | carries out the payload of an Address Flush |
+//! | [`compact`], [`expand`] | convert between General and Compact Format |
+//! | [`send`] | chooses what to send to a far port |
+//! | [`lookup`], [`age`], [`spoilt`] | the address table |
+//!
+//! Each takes any bytes. A [`Refusal`] has changed nothing; an area keeps its bytes behind what a
+//! call writes. [`raw`] has the calls with any numbers too.
+//!
+//! The address table is a lent area of 1 to 4,096 records of 14 bytes; all zero is free.
+//!
+//! ```
+//! use shinglebar::{Found, Label, Learning, Mac, Received, Settings};
+//!
+//! let settings = Settings {
+//!     port: Mac([0x02, 0, 0, 0, 0, 0xA1]),
+//!     inner: Mac([0x02, 0, 0, 0, 0, 0xB1]),
+//!     nickname: 0x0102,
+//!     compact: true,
+//!     confidence: 20,
+//!     seconds: 0,
+//! };
+//! // Compact Format: inner addresses, VLAN 10, TRILL header from 1234 to 0102, content.
+//! let frame = [
+//!     0x02, 0, 0, 0, 0, 0x0D, 0x02, 0, 0, 0, 0, 0x01, 0x81, 0x00, 0x00, 0x0A, 0x22, 0xF3, 0x00,
+//!     0x05, 0x01, 0x02, 0x12, 0x34, 0x08, 0x00, 0x45, 0x00,
+//! ];
+//! let mut table = [0; 4 * shinglebar::RECORD_LENGTH];
+//! let mut out = [0; shinglebar::FRAME_LENGTH_MAX];
+//! let delivered = Received::Delivered {
+//!     length: 16,
+//!     learning: Learning::Learned,
+//!     label: Label::Vlan(10),
+//! };
+//! assert_eq!(shinglebar::receive(&settings, &frame, &mut table, &mut out), Ok(delivered));
+//! assert_eq!(out[..16], [2, 0, 0, 0, 0, 0x0D, 2, 0, 0, 0, 0, 1, 0x08, 0x00, 0x45, 0x00]);
+//!
+//! let source = Mac([0x02, 0, 0, 0, 0, 0x01]);
+//! let found = shinglebar::lookup(Label::Vlan(10), source, &table);
+//! assert_eq!(found, Ok(Found::Nickname(0x1234)));
+//! ```
+
+#![no_std]
+#![deny(unsafe_code)]
+#![warn(missing_docs)]
+
+mod answer;
+#[allow(unsafe_code)]
+pub mod exports;
+pub mod raw;
+mod refusal;
+mod values;
+
+pub use answer::{
+    decode, encode, Aged, Answer, Compacted, Expanded, Flushed, Found, Learning, Received, Sent,
+    Spoilt, UnknownWord,
+};
+pub use refusal::Refusal;
+pub use values::{Label, Mac, Outer, Settings};
+
+/// The bytes of a record of the address table.
+pub const RECORD_LENGTH: usize = 14;
+/// The bytes of the longest table.
+pub const TABLE_LENGTH_MAX: usize = 57_344;
+/// The bytes of the longest frame: an output area in which every result has room.
+pub const FRAME_LENGTH_MAX: usize = 9216;
+/// The bytes of a working area in which every compaction has room.
+pub const COMPACT_LENGTH_MAX: usize = 9204;
+
+/// The answer of a word that the library gave. It gives no others: a panic here means that the
+/// archive and this package do not belong together.
+#[inline]
+fn answered<A: Answer>(word: u64) -> Result<A, Refusal> {
+    match decode(word) {
+        Ok(outcome) => outcome,
+        Err(unknown) => panic!("libshinglebar.a: {unknown}"),
+    }
+}
+
+/// Reads one Ethernet frame without FCS at a port with these settings: delivers a native frame to
+/// the output area and learns its source, or carries out a flush.
+///
+/// ```
+/// use shinglebar::{Mac, Refusal, Settings};
+///
+/// let settings = Settings {
+///     port: Mac([0x02, 0, 0, 0, 0, 0xA1]),
+///     inner: Mac([0x02, 0, 0, 0, 0, 0xB1]),
+///     nickname: 0x0102,
+///     compact: false,
+///     confidence: 20,
+///     seconds: 0,
+/// };
+/// let mut table = [0; shinglebar::RECORD_LENGTH];
+/// let refused = shinglebar::receive(&settings, &[0xFF; 60], &mut table, &mut []);
+/// assert_eq!(refused, Err(Refusal::NotForThisPort));
+/// ```
+#[inline]
+pub fn receive(
+    settings: &Settings,
+    frame: &[u8],
+    table: &mut [u8],
+    out: &mut [u8],
+) -> Result<Received, Refusal> {
+    answered(raw::receive(&settings.into(), frame, table, out))
+}
+
+/// Carries out the payload of an Address Flush that came with this ingress nickname; one outside
+/// 0001 to FFBF matches no record.
+///
+/// ```
+/// use shinglebar::{Flushed, Refusal};
+///
+/// // Learned: VLAN 10, 02-00-00-00-00-01, nickname 1234.
+/// let mut table = [
+///     0x40, 0x00, 0x01, 0x40, 0x40, 0x00, 0x00, 0x00, 0x00, 0x22, 0x46, 0x82, 0x81, 0x2C,
+/// ];
+/// // One nickname, 1234; one block, the VLANs 10 to 12.
+/// let payload = [0x01, 0x12, 0x34, 0x01, 0x00, 0x0A, 0x00, 0x0C];
+/// let cut = &payload[..7];
+/// assert_eq!(shinglebar::flush(0x0102, cut, &mut table), Err(Refusal::Payload));
+/// assert_eq!(shinglebar::flush(0x0102, &payload, &mut table), Ok(Flushed { count: 1 }));
+/// assert_eq!(table, [0; 14]);
+/// ```
+#[inline]
+pub fn flush(ingress: u16, payload: &[u8], table: &mut [u8]) -> Result<Flushed, Refusal> {
+    answered(raw::flush(u32::from(ingress), payload, table))
+}
+
+/// Compacts a General frame for a far port with these settings.
+#[inline]
+pub fn compact(far: &Settings, frame: &[u8], out: &mut [u8]) -> Result<Compacted, Refusal> {
+    answered(raw::compact(&far.into(), frame, out))
+}
+
+/// Expands a Compact frame for a far port with these settings.
+///
+/// ```
+/// use shinglebar::{Compacted, Expanded, Mac, Outer, Settings};
+///
+/// let far = Settings {
+///     port: Mac([0x02, 0, 0, 0, 0, 0xA1]),
+///     inner: Mac([0x02, 0, 0, 0, 0, 0xB1]),
+///     nickname: 0x0102,
+///     compact: true,
+///     confidence: 20,
+///     seconds: 0,
+/// };
+/// let outer = Outer {
+///     source: Mac([0x02, 0, 0, 0, 0, 0xB2]),
+///     tag: Some(5),
+/// };
+/// let frame = [
+///     0x02, 0, 0, 0, 0, 0x0D, 0x02, 0, 0, 0, 0, 0x01, 0x81, 0x00, 0x00, 0x0A, 0x22, 0xF3, 0x00,
+///     0x05, 0x01, 0x02, 0x12, 0x34, 0x08, 0x00, 0x45, 0x00,
+/// ];
+/// let mut general = [0; 44];
+/// let expanded = shinglebar::expand(&far, &outer, &frame, &mut general);
+/// assert_eq!(expanded, Ok(Expanded { length: 44 }));
+///
+/// let mut again = [0; 28];
+/// let compacted = shinglebar::compact(&far, &general, &mut again);
+/// assert_eq!(compacted, Ok(Compacted { length: 28 }));
+/// assert_eq!(again, frame);
+/// ```
+#[inline]
+pub fn expand(
+    far: &Settings,
+    outer: &Outer,
+    frame: &[u8],
+    out: &mut [u8],
+) -> Result<Expanded, Refusal> {
+    answered(raw::expand(&far.into(), &outer.into(), frame, out))
+}
+
+/// Chooses what to send to a far port with these settings: the compacted frame, or the frame itself.
+/// [`Sent::bytes`] gives its bytes.
+#[inline]
+pub fn send(far: &Settings, frame: &[u8], work: &mut [u8]) -> Result<Sent, Refusal> {
+    answered(raw::send(&far.into(), frame, work))
+}
+
+/// The nickname in the lowest slot with the label and address.
+#[inline]
+pub fn lookup(label: Label, mac: Mac, table: &[u8]) -> Result<Found, Refusal> {
+    answered(raw::lookup(
+        label.kind(),
+        label.number(),
+        mac.number(),
+        table,
+    ))
+}
+
+/// Frees the learned records with at most so many seconds; other learned ones lose them.
+#[inline]
+pub fn age(seconds: u16, table: &mut [u8]) -> Result<Aged, Refusal> {
+    answered(raw::age(seconds, table))
+}
+
+/// The lowest spoilt slot.
+///
+/// ```
+/// use shinglebar::{Refusal, Spoilt};
+///
+/// // State 0 with another bit set.
+/// let mut table = [0; 2 * shinglebar::RECORD_LENGTH];
+/// assert_eq!(shinglebar::spoilt(&table), Ok(Spoilt::None));
+/// table[27] = 1;
+/// assert_eq!(shinglebar::spoilt(&table), Ok(Spoilt::Slot(1)));
+/// assert_eq!(shinglebar::spoilt(&table[1..]), Err(Refusal::TableLength));
+/// ```
+#[inline]
+pub fn spoilt(table: &[u8]) -> Result<Spoilt, Refusal> {
+    answered(raw::spoilt(table))
+}
+
+#[cfg(test)]
+mod tests {
+    use super::*;
+
+    #[test]
+    fn a_word_of_the_call_is_its_answer() {
+        assert_eq!(answered(67), Ok(Flushed { count: 0 }));
+        assert_eq!(answered::<Flushed>(15), Err(Refusal::Payload));
+    }
+
+    #[test]
+    #[should_panic(expected = "libshinglebar.a: 0x0000000000000044 is no answer of this call")]
+    fn an_unknown_word_is_not_taken_for_an_answer() {
+        let _ = answered::<Received>(68);
+    }
+}

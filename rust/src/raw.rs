@@ -1,0 +1,163 @@
+//! The calls with any numbers, answered by the word of the C boundary as it is.
+//!
+//! Safe, because a slice is never null, also where it is empty, is as long as it says, and a `&mut`
+//! slice shares no byte with another slice. [`decode`](crate::decode) reads a word.
+
+#![allow(unsafe_code)]
+
+use crate::exports;
+
+/// The settings of a port as the C boundary passes them: any numbers. Those out of range are
+/// refusal 1.
+#[derive(Clone, Copy, Debug, PartialEq, Eq)]
+pub struct Settings {
+    /// The port's address, a number below 2^48, the first byte on the wire most significant.
+    pub port: u64,
+    /// The own inner address.
+    pub inner: u64,
+    /// The own nickname.
+    pub nickname: u32,
+    /// 1 Compact on, 0 off.
+    pub compact: u32,
+    /// The learning confidence.
+    pub confidence: u32,
+    /// The learning seconds, 0 for the default.
+    pub seconds: u32,
+}
+
+/// The part of a General frame that an expansion adds, as the C boundary passes it: any numbers.
+#[derive(Clone, Copy, Debug, PartialEq, Eq)]
+pub struct Outer {
+    /// The outer source.
+    pub source: u64,
+    /// 1 with an outer tag, 0 without.
+    pub tagged: u32,
+    /// The number in the outer tag; not read without one.
+    pub tag: u32,
+}
+
+/// Reads one Ethernet frame.
+#[inline]
+pub fn receive(settings: &Settings, frame: &[u8], table: &mut [u8], out: &mut [u8]) -> u64 {
+    // SAFETY: three slices: none is null, each is as long as said, and the two that are lent for
+    // writing overlap nothing, being `&mut`.
+    unsafe {
+        exports::shinglebar_receive(
+            settings.port,
+            settings.inner,
+            settings.nickname,
+            settings.compact,
+            settings.confidence,
+            settings.seconds,
+            frame.as_ptr(),
+            frame.len(),
+            table.as_mut_ptr(),
+            table.len(),
+            out.as_mut_ptr(),
+            out.len(),
+        )
+    }
+}
+
+/// Carries out the payload of an Address Flush.
+#[inline]
+pub fn flush(ingress: u32, payload: &[u8], table: &mut [u8]) -> u64 {
+    // SAFETY: two slices: neither is null, each is as long as said, and the one that is lent for
+    // writing overlaps nothing, being `&mut`.
+    unsafe {
+        exports::shinglebar_flush(
+            ingress,
+            payload.as_ptr(),
+            payload.len(),
+            table.as_mut_ptr(),
+            table.len(),
+        )
+    }
+}
+
+/// Compacts a General frame for a far port.
+#[inline]
+pub fn compact(far: &Settings, frame: &[u8], out: &mut [u8]) -> u64 {
+    // SAFETY: two slices: neither is null, each is as long as said, and the one that is lent for
+    // writing overlaps nothing, being `&mut`.
+    unsafe {
+        exports::shinglebar_compact(
+            far.port,
+            far.inner,
+            far.nickname,
+            far.compact,
+            far.confidence,
+            far.seconds,
+            frame.as_ptr(),
+            frame.len(),
+            out.as_mut_ptr(),
+            out.len(),
+        )
+    }
+}
+
+/// Expands a Compact frame for a far port.
+#[inline]
+pub fn expand(far: &Settings, outer: &Outer, frame: &[u8], out: &mut [u8]) -> u64 {
+    // SAFETY: two slices: neither is null, each is as long as said, and the one that is lent for
+    // writing overlaps nothing, being `&mut`.
+    unsafe {
+        exports::shinglebar_expand(
+            far.port,
+            far.inner,
+            far.nickname,
+            far.compact,
+            far.confidence,
+            far.seconds,
+            outer.source,
+            outer.tagged,
+            outer.tag,
+            frame.as_ptr(),
+            frame.len(),
+            out.as_mut_ptr(),
+            out.len(),
+        )
+    }
+}
+
+/// Chooses what to send to a far port.
+#[inline]
+pub fn send(far: &Settings, frame: &[u8], work: &mut [u8]) -> u64 {
+    // SAFETY: two slices: neither is null, each is as long as said, and the one that is lent for
+    // writing overlaps nothing, being `&mut`.
+    unsafe {
+        exports::shinglebar_send(
+            far.port,
+            far.inner,
+            far.nickname,
+            far.compact,
+            far.confidence,
+            far.seconds,
+            frame.as_ptr(),
+            frame.len(),
+            work.as_mut_ptr(),
+            work.len(),
+        )
+    }
+}
+
+/// Looks an address up. `kind` 0 is VLAN, 1 fine-grained; any other finds none.
+#[inline]
+pub fn lookup(kind: u32, label: u32, mac: u64, table: &[u8]) -> u64 {
+    // SAFETY: a slice: not null, as long as said, and only read.
+    unsafe { exports::shinglebar_lookup(kind, label, mac, table.as_ptr(), table.len()) }
+}
+
+/// Ages the table.
+#[inline]
+pub fn age(seconds: u16, table: &mut [u8]) -> u64 {
+    // SAFETY: a slice: not null, as long as said, and lent for writing to this call alone.
+    unsafe { exports::shinglebar_age(seconds, table.as_mut_ptr(), table.len()) }
+}
+
+/// Names the lowest spoilt slot.
+#[inline]
+pub fn spoilt(table: &[u8]) -> u64 {
+    // SAFETY: a slice: not null, as long as said, and only read.
+    unsafe { exports::shinglebar_spoilt(table.as_ptr(), table.len()) }
+}

@@ -1,0 +1,134 @@
+//! What goes into a call beside bytes.
+
+use core::fmt;
+
+use crate::raw;
+
+/// An address of six bytes, in the order of the wire.
+///
+/// ```
+/// use shinglebar::Mac;
+///
+/// let port = Mac([0x02, 0, 0, 0, 0, 0xA1]);
+/// assert_eq!(port.to_string(), "02-00-00-00-00-A1");
+/// assert_eq!(port.number(), 0x0200_0000_00A1);
+/// ```
+#[derive(Clone, Copy, Debug, PartialEq, Eq, PartialOrd, Ord, Hash)]
+pub struct Mac(pub [u8; 6]);
+
+impl Mac {
+    /// The address as a number, the first byte most significant.
+    #[inline]
+    pub const fn number(self) -> u64 {
+        let [a, b, c, d, e, f] = self.0;
+        u64::from_be_bytes([0, 0, a, b, c, d, e, f])
+    }
+
+    /// The address of a number below 2^48.
+    #[inline]
+    pub const fn from_number(number: u64) -> Option<Mac> {
+        match number.to_be_bytes() {
+            [0, 0, a, b, c, d, e, f] => Some(Mac([a, b, c, d, e, f])),
+            _ => None,
+        }
+    }
+}
+
+impl fmt::Display for Mac {
+    fn fmt(&self, to: &mut fmt::Formatter) -> fmt::Result {
+        let [a, b, c, d, e, f] = self.0;
+        write!(to, "{a:02X}-{b:02X}-{c:02X}-{d:02X}-{e:02X}-{f:02X}")
+    }
+}
+
+/// A label. VLAN 10 and fine-grained 10 are different labels.
+#[derive(Clone, Copy, Debug, PartialEq, Eq, PartialOrd, Ord, Hash)]
+pub enum Label {
+    /// A VLAN, 1 to FFE.
+    Vlan(u16),
+    /// A fine-grained label of 24 bits.
+    Fine(u32),
+}
+
+impl Label {
+    /// 0 for a VLAN, 1 for a fine-grained label.
+    #[inline]
+    pub const fn kind(self) -> u32 {
+        match self {
+            Label::Vlan(_) => 0,
+            Label::Fine(_) => 1,
+        }
+    }
+
+    /// The number of the VLAN or of the fine-grained label.
+    #[inline]
+    pub const fn number(self) -> u32 {
+        match self {
+            Label::Vlan(number) => number as u32,
+            Label::Fine(number) => number,
+        }
+    }
+}
+
+impl fmt::Display for Label {
+    fn fmt(&self, to: &mut fmt::Formatter) -> fmt::Result {
+        match self {
+            Label::Vlan(number) => write!(to, "VLAN {number}"),
+            Label::Fine(number) => write!(to, "fine-grained {number}"),
+        }
+    }
+}
+
+/// The settings of a port.
+///
+/// Values outside the ranges below are [`Refusal::Settings`](crate::Refusal::Settings) in every
+/// call that takes settings.
+#[derive(Clone, Copy, Debug, PartialEq, Eq)]
+pub struct Settings {
+    /// The port's address, an individual address.
+    pub port: Mac,
+    /// The own inner address, an individual address other than the port's.
+    pub inner: Mac,
+    /// The own nickname, 0001 to FFBF.
+    pub nickname: u16,
+    /// Compact on or off.
+    pub compact: bool,
+    /// The confidence with which addresses are learned.
+    pub confidence: u8,
+    /// The seconds for which addresses are learned, 10 to 8191, or 0 for the default 300.
+    pub seconds: u16,
+}
+
+impl From<&Settings> for raw::Settings {
+    #[inline]
+    fn from(settings: &Settings) -> raw::Settings {
+        raw::Settings {
+            port: settings.port.number(),
+            inner: settings.inner.number(),
+            nickname: u32::from(settings.nickname),
+            compact: u32::from(settings.compact),
+            confidence: u32::from(settings.confidence),
+            seconds: u32::from(settings.seconds),
+        }
+    }
+}
+
+/// What an expansion writes in front of the inner frame beside the far port's address.
+#[derive(Clone, Copy, Debug, PartialEq, Eq)]
+pub struct Outer {
+    /// The outer source, an individual address.
+    pub source: Mac,
+    /// The number of the outer tag, 1 to FFE, if there is to be one.
+    pub tag: Option<u16>,
+}
+
+impl From<&Outer> for raw::Outer {
+    #[inline]
+    fn from(outer: &Outer) -> raw::Outer {
+        raw::Outer {
+            source: outer.source.number(),
+            tagged: u32::from(outer.tag.is_some()),
+            tag: u32::from(outer.tag.unwrap_or(0)),
+        }
+    }
+}

@@ -1,0 +1,236 @@
+//! Every call compared with its areas against memory that cannot be accessed, on one side and then on
+//! the other; what a call may only read cannot be written. An access outside the areas, reads included,
+//! ends the run by SIGSEGV.
+
+use std::env;
+use std::os::unix::process::ExitStatusExt;
+use std::process::{Command, ExitStatus};
+
+use shinglebar_tests::compare;
+use shinglebar_tests::generate::{self, Pool};
+use shinglebar_tests::pages::{Access, Pages};
+use shinglebar_tests::random::Random;
+use shinglebar_tests::reference::{Settings, RECORD};
+use shinglebar_tests::run;
+
+/// Each case makes many calls: one for each side, and for each length at which the frame or payload is
+/// cut.
+const SHARE: u64 = 8;
+
+/// The bytes, the bytes with one byte changed, and now and then the bytes cut at every length.
+fn variants(random: &mut Random, bytes: Vec<u8>) -> Vec<Vec<u8>> {
+    let mut changed = bytes.clone();
+    generate::change_one_byte(random, &mut changed);
+    let mut variants = vec![changed];
+    if random.one_in(6) {
+        for length in generate::cuts(random, bytes.len()) {
+            variants.push(bytes[..length].to_vec());
+        }
+    }
+    variants.push(bytes);
+    variants
+}
+
+/// A table that is quickly copied, now and then a long one.
+fn table(random: &mut Random, pool: &Pool) -> Vec<u8> {
+    let mut table = generate::table(random, pool);
+    while table.len() > 40 * RECORD && !random.one_in(50) {
+        table = generate::table(random, pool);
+    }
+    table
+}
+
+/// A far port's settings, the variants of a frame to convert, and an output area for about as much as
+/// the frame and `more` bytes.
+fn conversion(
+    random: &mut Random,
+    pool: &Pool,
+    compact: bool,
+    more: isize,
+) -> (Settings, Vec<Vec<u8>>, Vec<u8>) {
+    let settings = generate::settings(random, pool);
+    let mut frame = generate::frame(random, pool, &settings);
+    if !random.one_in(10) {
+        frame.compact = compact;
+    }
+    let bytes = frame.bytes();
+    let length = generate::area_length(random, bytes.len().saturating_add_signed(more));
+    let area = random.bytes(length);
+    let bytes = generate::damage(random, bytes);
+    (settings, variants(random, bytes), area)
+}
+
+#[test]
+fn receive_touches_only_what_it_is_lent() {
+    let mut both = Pages::both();
+    run::cases(
+        "receive_touches_only_what_it_is_lent",
+        SHARE,
+        run::RECEIVE,
+        &[],
+        |random, tally| {
+            let pool = Pool::new(random);
+            let settings = generate::settings(random, &pool);
+            let frame = generate::frame(random, &pool, &settings);
+            let length = generate::area_length(random, 12 + frame.content.len());
+            let out = random.bytes(length);
+            let table = table(random, &pool);
+            let bytes = generate::damage(random, frame.bytes());
+            for bytes in variants(random, bytes) {
+                for pages in &mut both {
+                    let (mut table, mut out) = (table.clone(), out.clone());
+                    let word = compare::receive(pages, &settings, &bytes, &mut table, &mut out);
+                    tally.word(word);
+                }
+            }
+        },
+    );
+}
+
+#[test]
+fn flush_touches_only_what_it_is_lent() {
+    let mut both = Pages::both();
+    run::cases(
+        "flush_touches_only_what_it_is_lent",
+        SHARE,
+        run::FLUSH,
+        &[],
+        |random, tally| {
+            let pool = Pool::new(random);
+            let ingress = generate::ingress(random, &pool);
+            let payload = generate::payload(random, &pool);
+            let table = table(random, &pool);
+            for payload in variants(random, payload) {
+                for pages in &mut both {
+                    let mut table = table.clone();
+                    tally.word(compare::flush(pages, ingress, &payload, &mut table));
+                }
+            }
+        },
+    );
+}
+
+#[test]
+fn compact_touches_only_what_it_is_lent() {
+    let mut both = Pages::both();
+    run::cases(
+        "compact_touches_only_what_it_is_lent",
+        SHARE,
+        run::COMPACT,
+        &[],
+        |random, tally| {
+            let pool = Pool::new(random);
+            let (settings, frames, out) = conversion(random, &pool, false, -12);
+            for frame in frames {
+                for pages in &mut both {
+                    let word = compare::compact(pages, &settings, &frame, &mut out.clone());
+                    tally.word(word);
+                }
+            }
+        },
+    );
+}
+
+#[test]
+fn expand_touches_only_what_it_is_lent() {
+    let mut both = Pages::both();
+    run::cases(
+        "expand_touches_only_what_it_is_lent",
+        SHARE,
+        run::EXPAND,
+        &[],
+        |random, tally| {
+            let pool = Pool::new(random);
+            let (source, tagged, tag) = generate::outer(random, &pool);
+            let longer = if tagged == 1 { 16 } else { 12 };
+            let (settings, frames, out) = conversion(random, &pool, true, longer);
+            for frame in frames {
+                for pages in &mut both {
+                    let mut out = out.clone();
+                    let word =
+                        compare::expand(pages, &settings, source, tagged, tag, &frame, &mut out);
+                    tally.word(word);
+                }
+            }
+        },
+    );
+}
+
+#[test]
+fn send_touches_only_what_it_is_lent() {
+    let mut both = Pages::both();
+    run::cases(
+        "send_touches_only_what_it_is_lent",
+        SHARE,
+        run::SEND,
+        &[],
+        |random, tally| {
+            let pool = Pool::new(random);
+            let (settings, frames, work) = conversion(random, &pool, false, -12);
+            for frame in frames {
+                for pages in &mut both {
+                    let word = compare::send(pages, &settings, &frame, &mut work.clone());
+                    tally.word(word);
+                }
+            }
+        },
+    );
+}
+
+#[test]
+fn lookup_age_and_spoilt_touch_only_what_they_are_lent() {
+    let mut both = Pages::both();
+    run::cases(
+        "lookup_age_and_spoilt_touch_only_what_they_are_lent",
+        4,
+        run::LOOKUP,
+        &[],
+        |random, tally| {
+            let pool = Pool::new(random);
+            let table = generate::table(random, &pool);
+            let (kind, label, mac) = generate::key(random, &pool, &table);
+            let seconds = generate::seconds(random, &table);
+            for pages in &mut both {
+                tally.word(compare::lookup(pages, kind, label, mac, &table));
+                tally.word(compare::age(pages, seconds, &mut table.clone()));
+                tally.word(compare::spoilt(pages, &table));
+            }
+        },
+    );
+}
+
+/// Names the access that the test below is to make.
+const ACCESS: &str = "SHINGLEBAR_ACCESS";
+
+#[test]
+#[ignore = "run by `an_access_outside_the_areas_ends_the_run`: most of its accesses are faults"]
+fn makes_an_access() {
+    if let Ok(name) = env::var(ACCESS) {
+        let named = |access: &&Access| format!("{access:?}") == name;
+        let access = Access::ALL.iter().find(named).expect("an access");
+        access.make();
+    }
+}
+
+/// How this program ends if it makes an access.
+fn end_of(access: Access) -> ExitStatus {
+    let program = env::current_exe().expect("this program");
+    Command::new(program)
+        .args(["--ignored", "--exact", "makes_an_access"])
+        .env(ACCESS, format!("{access:?}"))
+        .output()
+        .expect("this program runs again")
+        .status
+}
+
+#[test]
+fn an_access_outside_the_areas_ends_the_run() {
+    const SIGSEGV: i32 = 11;
+    for access in Access::ALL {
+        let end = end_of(access);
+        match access {
+            Access::AllThatIsLent => assert!(end.success(), "{access:?}: {end}"),
+            _ => assert_eq!(end.signal(), Some(SIGSEGV), "{access:?}: {end}"),
+        }
+    }
+}

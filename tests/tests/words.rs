@@ -1,0 +1,436 @@
+//! The typed answers of the package in rust/. Every word of every comparison is decoded and packed again
+//! (`boundary`); here the typed calls give what the words say, and words that are no answers are not
+//! taken for any.
+
+use shinglebar::{
+    decode, encode, raw, Aged, Answer, Compacted, Expanded, Flushed, Found, Label, Learning, Mac,
+    Outer, Received, Refusal, Sent, Settings, Spoilt,
+};
+use shinglebar_tests::generate::{self, Pool};
+use shinglebar_tests::random::Random;
+use shinglebar_tests::reference;
+use shinglebar_tests::run::{self, Answers};
+
+/// The words by the table of the C boundary, beside the package's own packing of them.
+trait Packed {
+    fn packed(&self) -> u64;
+}
+
+fn value(kind: u64, value: usize) -> u64 {
+    assert!(value < 1 << 16);
+    kind + 0x100 * value as u64
+}
+
+impl Packed for Received {
+    fn packed(&self) -> u64 {
+        match self {
+            Received::Onward => 64,
+            Received::Delivered {
+                length,
+                learning,
+                label,
+            } => {
+                let learning = match learning {
+                    Learning::Learned => 0,
+                    Learning::Refreshed => 0x0100_0000,
+                    Learning::Kept => 0x0200_0000,
+                    Learning::Full => 0x0300_0000,
+                };
+                let (kind, number) = match label {
+                    Label::Vlan(number) => (0, u64::from(*number)),
+                    Label::Fine(number) => (0x1_0000_0000, u64::from(*number)),
+                };
+                value(65, *length) + learning + kind + 0x100_0000_0000 * number
+            }
+            Received::OtherChannel => 66,
+            Received::Flushed { count } => value(67, usize::from(*count)),
+        }
+    }
+}
+
+impl Packed for Flushed {
+    fn packed(&self) -> u64 {
+        value(67, usize::from(self.count))
+    }
+}
+
+impl Packed for Compacted {
+    fn packed(&self) -> u64 {
+        value(64, self.length)
+    }
+}
+
+impl Packed for Expanded {
+    fn packed(&self) -> u64 {
+        value(64, self.length)
+    }
+}
+
+impl Packed for Sent {
+    fn packed(&self) -> u64 {
+        match self {
+            Sent::Compacted { length } => value(64, *length),
+            Sent::Itself => 65,
+        }
+    }
+}
+
+impl Packed for Found {
+    fn packed(&self) -> u64 {
+        match self {
+            Found::Nickname(nickname) => value(64, usize::from(*nickname)),
+            Found::None => 65,
+        }
+    }
+}
+
+impl Packed for Aged {
+    fn packed(&self) -> u64 {
+        64
+    }
+}
+
+impl Packed for Spoilt {
+    fn packed(&self) -> u64 {
+        match self {
+            Spoilt::Slot(slot) => value(64, usize::from(*slot)),
+            Spoilt::None => 65,
+        }
+    }
+}
+
+fn packed<A: Packed>(outcome: Result<A, Refusal>) -> u64 {
+    match outcome {
+        Ok(answer) => answer.packed(),
+        Err(refusal) => u64::from(refusal.number()),
+    }
+}
+
+/// Settings that the typed calls can be given, and the numbers that the second implementation gets.
+fn settings(random: &mut Random, pool: &Pool) -> (Settings, reference::Settings) {
+    let mut numbers = generate::settings(random, pool);
+    numbers.port &= (1 << 48) - 1;
+    numbers.inner &= (1 << 48) - 1;
+    numbers.nickname &= 0xFFFF;
+    numbers.compact &= 1;
+    numbers.confidence &= 0xFF;
+    numbers.seconds &= 0xFFFF;
+    let settings = Settings {
+        port: mac(numbers.port),
+        inner: mac(numbers.inner),
+        nickname: numbers.nickname as u16,
+        compact: numbers.compact == 1,
+        confidence: numbers.confidence as u8,
+        seconds: numbers.seconds as u16,
+    };
+    (settings, numbers)
+}
+
+fn mac(number: u64) -> Mac {
+    let [_, _, bytes @ ..] = number.to_be_bytes();
+    Mac(bytes)
+}
+
+#[test]
+fn typed_receive_gives_what_the_paper_says() {
+    run::cases(
+        "typed_receive_gives_what_the_paper_says",
+        1,
+        run::RECEIVE,
+        &[],
+        |random, tally| {
+            let pool = Pool::new(random);
+            let (settings, numbers) = settings(random, &pool);
+            let frame = generate::frame(random, &pool, &numbers);
+            let length = generate::area_length(random, 12 + frame.content.len());
+            let frame = generate::damage(random, frame.bytes());
+            let (mut table, mut out) = (generate::table(random, &pool), random.bytes(length));
+            let (mut paper_table, mut paper_out) = (table.clone(), out.clone());
+            let outcome = shinglebar::receive(&settings, &frame, &mut table, &mut out);
+            let paper = reference::receive(&numbers, &frame, &mut paper_table, &mut paper_out);
+            assert_eq!(packed(outcome), paper, "{outcome:?}");
+            assert!(table == paper_table && out == paper_out);
+            tally.word(paper);
+        },
+    );
+}
+
+#[test]
+fn typed_flush_gives_what_the_paper_says() {
+    run::cases(
+        "typed_flush_gives_what_the_paper_says",
+        1,
+        run::FLUSH,
+        &[],
+        |random, tally| {
+            let pool = Pool::new(random);
+            let ingress = generate::ingress(random, &pool) as u16;
+            let payload = generate::payload(random, &pool);
+            let mut table = generate::table(random, &pool);
+            let mut paper_table = table.clone();
+            let outcome = shinglebar::flush(ingress, &payload, &mut table);
+            let paper = reference::flush(u32::from(ingress), &payload, &mut paper_table);
+            assert_eq!(packed(outcome), paper, "{outcome:?}");
+            assert!(table == paper_table);
+            tally.word(paper);
+        },
+    );
+}
+
+#[test]
+fn typed_conversions_give_what_the_paper_says() {
+    run::cases(
+        "typed_conversions_give_what_the_paper_says",
+        1,
+        &[],
+        &["compacted", "expanded", "sent compacted", "sent itself"],
+        |random, tally| {
+            let pool = Pool::new(random);
+            let (far, numbers) = settings(random, &pool);
+            let frame = generate::frame(random, &pool, &numbers).bytes();
+            let length = generate::area_length(random, frame.len());
+            let (frame, area) = (generate::damage(random, frame), random.bytes(length));
+            let (mut out, mut paper_out) = (area.clone(), area.clone());
+
+            let outcome = shinglebar::compact(&far, &frame, &mut out);
+            let paper = reference::compact(&numbers, &frame, &mut paper_out);
+            assert_eq!(packed(outcome), paper, "{outcome:?}");
+            assert!(out == paper_out);
+            if outcome.is_ok() {
+                tally.situation("compacted");
+            }
+
+            let (source, tagged, tag) = generate::outer(random, &pool);
+            let outer = Outer {
+                source: mac(source),
+                tag: (tagged == 1).then_some(tag as u16),
+            };
+            let (source, tagged) = (outer.source.number(), u32::from(outer.tag.is_some()));
+            let outcome = shinglebar::expand(&far, &outer, &frame, &mut out);
+            let tag = u32::from(tag as u16);
+            let paper = reference::expand(&numbers, source, tagged, tag, &frame, &mut paper_out);
+            assert_eq!(packed(outcome), paper, "{outcome:?}");
+            assert!(out == paper_out);
+            if outcome.is_ok() {
+                tally.situation("expanded");
+            }
+
+            let outcome = shinglebar::send(&far, &frame, &mut out);
+            let paper = reference::send(&numbers, &frame, &mut paper_out);
+            assert_eq!(packed(outcome), paper, "{outcome:?}");
+            assert!(out == paper_out);
+            if let Ok(sent) = outcome {
+                let compacted = matches!(sent, Sent::Compacted { .. });
+                let length = (paper >> 8) as usize;
+                let expected = if compacted { &out[..length] } else { &frame };
+                assert_eq!(sent.bytes(&frame, &out), expected);
+                tally.situation(if compacted {
+                    "sent compacted"
+                } else {
+                    "sent itself"
+                });
+            }
+        },
+    );
+}
+
+#[test]
+fn typed_lookup_age_and_spoilt_give_what_the_paper_says() {
+    run::cases(
+        "typed_lookup_age_and_spoilt_give_what_the_paper_says",
+        1,
+        run::LOOKUP,
+        &["VLAN", "fine-grained", "a spoilt slot"],
+        |random, tally| {
+            let pool = Pool::new(random);
+            let mut table = generate::table(random, &pool);
+            let (kind, label, address) = generate::key(random, &pool, &table);
+            let label = match kind {
+                0 => Label::Vlan(label as u16),
+                _ => Label::Fine(label),
+            };
+            tally.situation(match label {
+                Label::Vlan(_) => "VLAN",
+                Label::Fine(_) => "fine-grained",
+            });
+            let address = mac(address);
+            let outcome = shinglebar::lookup(label, address, &table);
+            let paper = reference::lookup(label.kind(), label.number(), address.number(), &table);
+            assert_eq!(packed(outcome), paper, "{outcome:?}");
+            tally.word(paper);
+
+            let outcome = shinglebar::spoilt(&table);
+            assert_eq!(packed(outcome), reference::spoilt(&table), "{outcome:?}");
+            if matches!(outcome, Ok(Spoilt::Slot(_))) {
+                tally.situation("a spoilt slot");
+            }
+
+            let seconds = generate::seconds(random, &table);
+            let mut paper_table = table.clone();
+            let outcome = shinglebar::age(seconds, &mut table);
+            let paper = reference::age(seconds, &mut paper_table);
+            assert_eq!(packed(outcome), paper, "{outcome:?}");
+            assert!(table == paper_table);
+        },
+    );
+}
+
+/// The bits of a word by their use: the low byte, those of values, and all others, which are 0.
+struct Bits {
+    kind: u8,
+    values: u64,
+    /// A good word of the kind.
+    good: u64,
+}
+
+const NO_VALUE: u64 = 0;
+const ONE_VALUE: u64 = 0xFF_FF00;
+
+/// Of all kinds of a call, as the table of the C boundary says.
+fn bits(kind: u8, values: u64, good: u64) -> Bits {
+    Bits { kind, values, good }
+}
+
+/// Every low byte, every stray bit and random words: what is decoded is packed as the same word, and
+/// nothing else is taken for an answer.
+fn check_words<A: Answer + Packed>(name: &str, answers: Answers, kinds: &[Bits]) {
+    let mut random = run::random(name);
+    for low in 0..=255u8 {
+        let listed = answers.iter().any(|(byte, _)| *byte == low);
+        let known = match kinds.iter().find(|bits| bits.kind == low) {
+            // A kind with values is looked at below; its word without any may be out of range.
+            Some(bits) => decode::<A>(bits.good).is_ok(),
+            None => decode::<A>(u64::from(low)).is_ok(),
+        };
+        assert_eq!(known, listed, "{name}: low byte {low}");
+        if low < 64 {
+            // "A refusal is its number alone, the whole 64 bits."
+            for bit in 8..64 {
+                let word = u64::from(low) | 1 << bit;
+                assert!(decode::<A>(word).is_err(), "{name}: {word:#x}");
+            }
+        }
+    }
+    for bits in kinds {
+        for bit in 8..64 {
+            let word = bits.good ^ (1 << bit);
+            if bits.values >> bit & 1 == 0 {
+                assert!(decode::<A>(word).is_err(), "{name}: {word:#x}");
+            }
+        }
+    }
+    let mut decoded = 0;
+    for _ in 0..1_000_000 {
+        // Mostly bits of values, so that many are words of the call.
+        let kind = &kinds[random.below(kinds.len() as u64) as usize];
+        let mut word = u64::from(kind.kind) | random.number() & kind.values;
+        if random.one_in(3) {
+            word ^= 1 << random.below(64);
+        }
+        if let Ok(outcome) = decode::<A>(word) {
+            assert_eq!(encode(&outcome), word, "{name}");
+            assert_eq!(packed(outcome), word, "{name}");
+            decoded += 1;
+        }
+    }
+    assert!(decoded > 1000, "{name}: only {decoded} words were decoded");
+}
+
+#[test]
+fn a_word_that_is_no_answer_is_not_taken_for_one() {
+    let delivered = 0xFFFF_FF01_03FF_FF00;
+    check_words::<Received>(
+        "receive",
+        run::RECEIVE,
+        &[
+            bits(64, NO_VALUE, 64),
+            bits(65, delivered, 0x0000_0A00_0000_1041),
+            bits(65, delivered, 0x8000_0001_0000_1041),
+            bits(66, NO_VALUE, 66),
+            bits(67, ONE_VALUE, 67),
+        ],
+    );
+    check_words::<Flushed>("flush", run::FLUSH, &[bits(67, ONE_VALUE, 67)]);
+    check_words::<Compacted>("compact", run::COMPACT, &[bits(64, ONE_VALUE, 0x1040)]);
+    check_words::<Expanded>("expand", run::EXPAND, &[bits(64, ONE_VALUE, 0x1040)]);
+    check_words::<Sent>(
+        "send",
+        run::SEND,
+        &[bits(64, ONE_VALUE, 0x1040), bits(65, NO_VALUE, 65)],
+    );
+    check_words::<Found>(
+        "lookup",
+        run::LOOKUP,
+        &[bits(64, ONE_VALUE, 0x0140), bits(65, NO_VALUE, 65)],
+    );
+    check_words::<Aged>("age", run::AGE, &[bits(64, NO_VALUE, 64)]);
+    check_words::<Spoilt>(
+        "spoilt",
+        run::SPOILT,
+        &[bits(64, ONE_VALUE, 64), bits(65, NO_VALUE, 65)],
+    );
+}
+
+#[test]
+fn values_that_no_answer_has_are_not_taken_for_one() {
+    let received = |word| decode::<Received>(word).is_ok();
+    let delivered = |kind: u64, label: u64| 0x1041 | kind << 32 | label << 40;
+    for vlan in [0, 0xFFF, 0x1000, 0x1_0001, 0xFF_FFFF] {
+        assert!(!received(delivered(0, vlan)), "VLAN {vlan:#x}");
+        assert!(received(delivered(1, vlan)), "fine-grained {vlan:#x}");
+    }
+    assert!(received(delivered(0, 1)) && received(delivered(0, 0xFFE)));
+    let length = |length: u64| decode::<Compacted>(64 | length << 8).is_ok();
+    assert!(!length(13) && length(14) && length(9216) && !length(9217));
+    let nickname = |nickname: u64| decode::<Found>(64 | nickname << 8).is_ok();
+    assert!(!nickname(0) && nickname(1) && nickname(0xFFBF) && !nickname(0xFFC0));
+    let count = |count: u64| decode::<Flushed>(67 | count << 8).is_ok();
+    assert!(count(0) && count(4096) && !count(4097));
+    let slot = |slot: u64| decode::<Spoilt>(64 | slot << 8).is_ok();
+    assert!(slot(0) && slot(4095) && !slot(4096));
+}
+
+/// The words of the table of document 01, which the second implementation has as comments.
+#[test]
+fn the_refusals_are_those_of_the_header() {
+    let header = include_str!("../../include/shinglebar.h");
+    assert_eq!(Refusal::ALL.len(), 18);
+    for (at, refusal) in Refusal::ALL.iter().enumerate() {
+        let number = at as u64 + 1;
+        assert_eq!(u64::from(refusal.number()), number);
+        assert_eq!(Refusal::from_number(number), Some(*refusal));
+        let comment = format!("/* {refusal} */\n    SHINGLEBAR_REFUSAL_");
+        let (_, behind) = header
+            .split_once(&comment)
+            .unwrap_or_else(|| panic!("{refusal}"));
+        let line = behind.lines().next().unwrap_or_default();
+        assert!(
+            line.trim_end_matches(',')
+                .ends_with(&format!(" = {number}")),
+            "{line}"
+        );
+    }
+    for number in [0, 19, 64, 257, u64::MAX] {
+        assert_eq!(Refusal::from_number(number), None);
+    }
+}
+
+#[test]
+fn empty_slices_are_areas_too() {
+    let settings = raw::Settings {
+        port: 0x0200_0000_00A1,
+        inner: 0x0200_0000_00B1,
+        nickname: 0x0102,
+        compact: 1,
+        confidence: 20,
+        seconds: 0,
+    };
+    assert_eq!(raw::receive(&settings, &[], &mut [], &mut []), 2);
+    assert_eq!(raw::compact(&settings, &[], &mut []), 3);
+    assert_eq!(raw::send(&settings, &[], &mut []), 3);
+    assert_eq!(raw::flush(1, &[], &mut []), 2);
+    assert_eq!(raw::flush(1, &[], &mut [0; 14]), 15);
+    assert_eq!(raw::lookup(0, 1, 0, &[]), 2);
+    assert_eq!(raw::age(0, &mut []), 2);
+    assert_eq!(raw::spoilt(&[]), 2);
+}
