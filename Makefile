@@ -2,7 +2,9 @@
 .PHONY: test run driver lab fuzz fuzzer bench archive vectors captures outside outside-write fmt
 
 # What `make run` says first: the minutes that `rt staticlib shinglebar` takes from nothing on two cores.
-PROVING_MINUTES = 3
+PROVING_MINUTES = 4
+# What `make test` says first: the minutes of the whole gate on two cores.
+GATE_MINUTES = 20
 
 ARCHIVE = target/staticlib/libshinglebar.a
 DRIVER = target/driver/shinglebar-port
@@ -10,6 +12,7 @@ CFLAGS = -O2 -g
 
 # Proves every crate from nothing, tries every must-fail edit and runs the tests.
 test:
+	@echo "make test: proving, wrong programs and tests take about $(GATE_MINUTES) minutes"
 	@.ci/run
 
 # Proves the crates and writes the static library target/staticlib/libshinglebar.a.
