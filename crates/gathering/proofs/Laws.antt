@@ -8,12 +8,12 @@ use mathlib.Core.Path.{_≡_, refl, sym, ap, _∙_}
 use native.Mathlib.Nat.{mod-lt}
 use native.Mathlib.Numerals.{add-one}
 use native.Mathlib.Omega.{arith}
-use lib.Dec.{leb, eqb}
-use borrow.Author.Tests.{le-leb, lt-leb, leb-true, leb-false, eq-eqb, ne-eqb}
+use lib.Dec.{leb}
+use borrow.Author.Tests.{le-leb, lt-leb}
 use lib.ListN.{length, take, drop, set, length-set, length-drop}
 use lib.Seq.{take-suc-set, getD-set-same, getD-set-other, drop-drop}
 use Rattle.numbers.specs.Tests.{pick, both, either, anyOf, between}
-use Rattle.numbers.specs.Bytes.{num, parts}
+use Rattle.numbers.specs.Bytes.{num}
 use Rattle.numbers.specs.Numberings.{numberOf, atLeast, atMost, startOf, endOf, inBlock}
 use Rattle.numbers.specs.declared.Numbering.{Numbering}
 use Rattle.numbers.proofs.Truth.{both-left}

@@ -16,7 +16,7 @@ use Rattle.numbers.specs.Numberings.{vlans, fines, macs, numberOf, inBlocks, in
 use Rattle.numbers.proofs.Widths.{bit-past, maps-hold}
 use Rattle.table.specs.Record.{labelFrom}
 use Rattle.table.specs.declared.Label.the-variants.{Vlan, Fine}
-use Rattle.flush.specs.Payload.{everyType, Piece, tlv, block, stump, tlvEnd, tlvs, blockBytes, piecesOf}
+use Rattle.flush.specs.Payload.{everyType, Piece, tlv, block, stump, tlvEnd, tlvs, piecesOf}
 use Rattle.flush.specs.Meaning.{vlanIn, fineIn, macIn, bringsLabel, bringsMac, labelMeant, macMeant}
 use Rattle.flush.proofs.Lists.{false-true}
 use Rattle.flush.proofs.Validity.{tlvs-end, tlvs-stump, tlvs-more}

@@ -7,14 +7,13 @@ use mathlib.Core.List.{List, _++_}
 use mathlib.Core.Path.{_≡_, refl, sym, ap, _∙_}
 use native.Mathlib.Nat.{add-zero}
 use native.Mathlib.Omega.{arith}
-use lib.Dec.{eqb}
 use lib.ListN.{length, take, drop, getD, length-drop}
 use lib.Seq.{drop-drop, getD-drop, length-take-le}
 use borrow.Author.Tests.{eq-eqb, ne-eqb}
 use Rattle.numbers.specs.Tests.{pick, either, anyOf}
 use Rattle.numbers.specs.Numberings.{inBlocks, inList}
 use Rattle.numbers.specs.declared.Numbering.{Numbering}
-use Rattle.flush.specs.Payload.{Piece, tlv, stump, tlvEnd, tlvs, piecesOf}
+use Rattle.flush.specs.Payload.{tlv, tlvEnd, tlvs, piecesOf}
 use Rattle.flush.proofs.Validity.{tlvs-end, tlvs-stump, tlvs-more}
 use Rattle.sorting.specs.Sorting.{All, SortOf}
 use Rattle.sorting.proofs.Laws.{either-none, either-assoc}
