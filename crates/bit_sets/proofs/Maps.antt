@@ -10,16 +10,16 @@ use native.Mathlib.Omega.{arith}
 use lib.Bits.{bitOr}
 use lib.Dec.{leb, eqb}
 use lib.ListN.{length, take, drop, getD, set, length-drop, length-set}
-use lib.Seq.{drop-drop, getD-drop}
+use lib.Seq.{getD-drop}
 use borrow.Author.Tests.{le-leb, lt-leb, leb-true, leb-false, eq-eqb, ne-eqb}
 use Rattle.numbers.specs.Tests.{both, either, between}
 use Rattle.numbers.specs.Bytes.{num}
-use Rattle.numbers.specs.Numberings.{vlans, numberOf, bitOf, bitAt, mapBits, inMap}
+use Rattle.numbers.specs.Numberings.{vlans, numberOf, bitOf, bitAt, inMap}
 use Rattle.numbers.proofs.Truth.{both-left, both-right, between-above}
 use Rattle.numbers.proofs.Widths.{bit-past}
 use Rattle.bits.proofs.Laws.{every, every-at, alike, alike-same, byte-other, added-same}
 use Rattle.bit_sets.specs.Gains.{Gains, inVlanMap, Edged, inByte, vlanInByte, inShifted, vlanInShifted}
-use Rattle.bit_sets.proofs.Adding.{either-none, either-assoc, gains-same, gains-none}
+use Rattle.bit_sets.proofs.Adding.{either-none, either-assoc, gains-none}
 
 -- ---- the bits that are no VLAN's
 

@@ -1,30 +1,32 @@
 -- Laws of preparing VLANs: what a TLV adds, a walk in which what was added and what is left make up the whole, and the whole.
 -- Assumes nothing.
-use Prim.Native.Nat.{ℕ, _+_, _-_, _*_, _^_, _<_, _≤_}
+use Prim.Native.Nat.{ℕ, suc, _+_, _-_, _*_, _^_, _<_, _≤_}
 use mathlib.Core.Bool.{Bool, true, false}
 use mathlib.Core.List.{List, [], _∷_}
 use mathlib.Core.Path.{_≡_, refl, sym, ap, _∙_}
 use native.Mathlib.Decide.{ℕ-discrete}
 use native.Mathlib.Nat.{add-zero}
 use native.Mathlib.Omega.{arith}
-use lib.Dec.{eqb}
+use lib.Dec.{leb, eqb}
 use lib.ListN.{length, take, drop, getD, length-drop}
 use lib.Seq.{drop-drop, getD-drop}
-use borrow.Author.Tests.{eq-eqb, ne-eqb}
+use borrow.Author.Tests.{leb-false, eq-eqb, ne-eqb}
 use Rattle.numbers.specs.Tests.{pick, both, either, anyOf}
-use Rattle.numbers.specs.Numberings.{vlans, fines, macs, inBlocks, inList, inMap, bitAt}
-use Rattle.numbers.proofs.Widths.{bit-past}
+use Rattle.numbers.specs.Numberings.{vlans, fines, macs, numberOf, inBlocks, inList, inMap, bitAt}
+use Rattle.numbers.proofs.Widths.{bit-past, maps-hold}
 use Rattle.table.specs.Record.{labelFrom}
 use Rattle.table.specs.declared.Label.the-variants.{Vlan, Fine}
-use Rattle.flush.specs.Payload.{everyType, Piece, tlv, block, stump, tlvEnd, tlvs, blockBytes, piecesOf}
+use Rattle.flush.specs.Payload.{everyType, Piece, tlv, block, stump, tlvEnd, tlvs, piecesOf}
 use Rattle.flush.specs.Meaning.{vlanIn, fineIn, macIn, bringsLabel, bringsMac, labelMeant, macMeant}
 use Rattle.flush.proofs.Lists.{false-true}
 use Rattle.flush.proofs.Validity.{tlvs-end, tlvs-stump, tlvs-more}
+use Rattle.sets.proofs.Laws.{map-short}
 use Rattle.tlvs.proofs.Laws.{label-vlan, label-fine}
 use Rattle.payloads.proofs.Laws.{of-tlvs, none-brought, blocks-vlan}
 use Rattle.sorting.specs.Sorting.{Sorted}
 use Rattle.bit_sets.specs.Gains.{Gains, None, inVlanBlock, inVlanBlocks, inVlanMap}
 use Rattle.bit_sets.proofs.Adding.{either-none, either-assoc, gains-none, gains-same}
+use Rattle.gathering.specs.Gathering.{mapSpan}
 use Rattle.spans.specs.Spans.{spanIn, spansOf, Told}
 use Rattle.plans.specs.Plans.{isType, vlansIn, vlansOf, VlansTold, finesOf, macsOf, FinesTold, MacsTold}
 
@@ -154,78 +156,106 @@ module _ (every : Bool) (s : List ℕ) (x : ℕ) where
     unfolding either
     asked-set b e ps t = e ∙ (rw some at (t .each x))
 
--- ---- fine-grained labels: every label, or named in a block or a list, or in a map
+-- ---- fine-grained labels
 
-mapIn : Piece → ℕ → Bool
-mapIn (tlv k v) x = pick (eqb k 5) (inMap fines x v) false
-mapIn (block b) x = false
-mapIn stump x = false
-
-mapsOf : List Piece → ℕ → Bool
-mapsOf ps x = anyOf (λ p. mapIn p x) ps
+-- a map brings only what it has bits for
+map-within : (x : ℕ) (v : List ℕ) → mapSpan fines v x ≡ false → inMap fines x v ≡ false
+unfolding mapSpan both
+map-within x v h = go (leb 3 (length v)) (leb (numberOf fines v) x) (leb (suc x) (numberOf fines v + 8 * (length v - 3))) refl refl refl h
+  where
+    go : (a b c : Bool) → leb 3 (length v) ≡ a → leb (numberOf fines v) x ≡ b → leb (suc x) (numberOf fines v + 8 * (length v - 3)) ≡ c → both a (both b c) ≡ false → inMap fines x v ≡ false
+    go false b c p q r e = sym (map-short fines x v (leb-false 3 (length v) p))
+    go true false c p q r e = maps-hold .every fines v .none-before x (leb-false (numberOf fines v) x q)
+    go true true false p q r e =
+        let d : length (drop 3 v) ≡ length v - 3 = length-drop 3 v in
+        let g = leb-false (suc x) (numberOf fines v + 8 * (length v - 3)) r in
+        maps-hold .every fines v .none-behind x (omega arith)
+    go true true true p q r e = false-true (sym e)
 
 module _ (x k : ℕ) (v : List ℕ) where
-  fine-cases : Dec (k ≡ 3) → Dec (k ≡ 4) → fineIn x k v ≡ either (eqb k 6) (either (spanIn 3 4 fines (tlv k v) x) (mapIn (tlv k v) x))
-  unfolding fineIn spanIn mapIn pick either
-  fine-cases (yes e) q = rw e (sym (either-none (inBlocks fines x v)))
-  fine-cases (no d) (yes e) = rw e (sym (either-none (inList fines x v)))
-  fine-cases (no d) (no e) = rw (ne-eqb k 3 d, ne-eqb k 4 e) (pick-either (eqb k 6) _)
+  -- no interval of the TLV has it: only type 6 brings it
+  tlv-none : Dec (k ≡ 3) → Dec (k ≡ 4) → Dec (k ≡ 5) → spanIn 3 4 5 fines (tlv k v) x ≡ false → fineIn x k v ≡ eqb k 6
+  unfolding fineIn spanIn pick
+  tlv-none (yes e) q r h = rw e (rw e at h)
+  tlv-none (no d) (yes e) r h = rw e (rw e at h)
+  tlv-none (no d) (no e) (yes f) h = rw f (map-within x v (rw f at h))
+  tlv-none (no d) (no e) (no f) h = rw (ne-eqb k 3 d, ne-eqb k 4 e, ne-eqb k 5 f) (pick-self (eqb k 6))
+    where
+      pick-self : (b : Bool) → pick b true false ≡ b
+      pick-self true = refl
+      pick-self false = refl
 
-fine-is : (x : ℕ) (p : Piece) → bringsLabel everyType (Fine x) p ≡ either (isType 6 p) (either (spanIn 3 4 fines p x) (mapIn p x))
-unfolding bringsLabel isType spanIn mapIn both either
-fine-is x (tlv k v) = fine-cases x k v (ℕ-discrete k 3) (ℕ-discrete k 4)
-fine-is x (block b) = refl
-fine-is x stump = refl
+  -- the TLV is no map
+  tlv-exact : Dec (k ≡ 3) → Dec (k ≡ 4) → eqb k 5 ≡ false → fineIn x k v ≡ either (eqb k 6) (spanIn 3 4 5 fines (tlv k v) x)
+  unfolding fineIn spanIn pick either
+  tlv-exact (yes e) q h = rw e
+  tlv-exact (no d) (yes e) h = rw e
+  tlv-exact (no d) (no e) h = rw (ne-eqb k 3 d, ne-eqb k 4 e, h) (pick-either (eqb k 6) false)
 
-either-thrice : (a b c d e f : Bool) → either (either a (either b c)) (either d (either e f)) ≡ either (either a d) (either (either b e) (either c f))
+-- and so a piece, and all of them
+piece-none : (x : ℕ) (p : Piece) → spanIn 3 4 5 fines p x ≡ false → bringsLabel everyType (Fine x) p ≡ isType 6 p
+unfolding bringsLabel isType both
+piece-none x (tlv k v) h = tlv-none x k v (ℕ-discrete k 3) (ℕ-discrete k 4) (ℕ-discrete k 5) h
+piece-none x (block b) h = refl
+piece-none x stump h = refl
+
+piece-exact : (x : ℕ) (p : Piece) → isType 5 p ≡ false → bringsLabel everyType (Fine x) p ≡ either (isType 6 p) (spanIn 3 4 5 fines p x)
+unfolding bringsLabel isType spanIn both either
+piece-exact x (tlv k v) h = tlv-exact x k v (ℕ-discrete k 3) (ℕ-discrete k 4) h
+piece-exact x (block b) h = refl
+piece-exact x stump h = refl
+
+piece-six : (x : ℕ) (p : Piece) → isType 6 p ≡ true → bringsLabel everyType (Fine x) p ≡ true
+unfolding bringsLabel isType fineIn both pick
+piece-six x (tlv k v) h = rw h
+piece-six x (block b) h = false-true h
+piece-six x stump h = false-true h
+
+neither : (a b : Bool) → either a b ≡ false → (a ≡ false) × (b ≡ false)
 unfolding either
-either-thrice true b c d e f = refl
-either-thrice false true c true e f = refl
-either-thrice false true c false e f = refl
-either-thrice false false true true e f = refl
-either-thrice false false true false true f = refl
-either-thrice false false true false false f = refl
-either-thrice false false false d e f = refl
+neither true b h = (h, false-true (sym h))
+neither false b h = (refl, h)
 
-fines-are : (x : ℕ) (ps : List Piece) → labelMeant everyType ps (Fine x) ≡ either (anyOf (isType 6) ps) (either (finesOf ps x) (mapsOf ps x))
-unfolding labelMeant spansOf mapsOf anyOf either
-fines-are x [] = refl
-fines-are x (p ∷ ps) =
-    rw (fine-is x p, fines-are x ps)
-    (either-thrice (isType 6 p) (spanIn 3 4 fines p x) (mapIn p x) (anyOf (isType 6) ps) (finesOf ps x) (mapsOf ps x))
+second-true : (a b : Bool) → b ≡ true → either a b ≡ true
+unfolding either
+second-true true b h = refl
+second-true false b h = h
 
-no-map : (x : ℕ) (p : Piece) → isType 5 p ≡ false → mapIn p x ≡ false
-unfolding isType mapIn pick
-no-map x (tlv k v) e = rw e
-no-map x (block b) e = refl
-no-map x stump e = refl
+fines-none : (x : ℕ) (ps : List Piece) → finesOf ps x ≡ false → labelMeant everyType ps (Fine x) ≡ anyOf (isType 6) ps
+unfolding labelMeant spansOf anyOf
+fines-none x [] h = refl
+fines-none x (p ∷ ps) h =
+    let n = neither (spanIn 3 4 5 fines p x) (finesOf ps x) h in
+    rw (piece-none x p (n .0), fines-none x ps (n .1))
 
-no-maps : (x : ℕ) (ps : List Piece) → anyOf (isType 5) ps ≡ false → mapsOf ps x ≡ false
-unfolding mapsOf anyOf either
-no-maps x [] e = refl
-no-maps x (p ∷ ps) e = go (isType 5 p) (anyOf (isType 5) ps) refl (no-maps x ps) e
+fines-exact : (x : ℕ) (ps : List Piece) → anyOf (isType 5) ps ≡ false → labelMeant everyType ps (Fine x) ≡ either (anyOf (isType 6) ps) (finesOf ps x)
+unfolding labelMeant spansOf anyOf either
+fines-exact x [] h = refl
+fines-exact x (p ∷ ps) h =
+    let n = neither (isType 5 p) (anyOf (isType 5) ps) h in
+    rw (piece-exact x p (n .0), fines-exact x ps (n .1))
+    (either-swap (isType 6 p) (spanIn 3 4 5 fines p x) (anyOf (isType 6) ps) (finesOf ps x))
+
+fines-six : (x : ℕ) (ps : List Piece) → anyOf (isType 6) ps ≡ true → labelMeant everyType ps (Fine x) ≡ true
+unfolding labelMeant anyOf either
+fines-six x [] h = false-true h
+fines-six x (p ∷ ps) h = go (isType 6 p) refl (fines-six x ps) h
   where
-    go : (a b : Bool) → isType 5 p ≡ a → (b ≡ false → mapsOf ps x ≡ false) → either a b ≡ false → either (mapIn p x) (mapsOf ps x) ≡ false
-    go true b h g q = false-true (sym q)
-    go false b h g q = rw (no-map x p h) (g q)
+    go : (a : Bool) → isType 6 p ≡ a → (anyOf (isType 6) ps ≡ true → labelMeant everyType ps (Fine x) ≡ true) → either a (anyOf (isType 6) ps) ≡ true → either (bringsLabel everyType (Fine x) p) (labelMeant everyType ps (Fine x)) ≡ true
+    go true e f q = rw (piece-six x p e)
+    go false e f q = second-true (bringsLabel everyType (Fine x) p) (labelMeant everyType ps (Fine x)) (f q)
 
 module _ (ps : List Piece) (every maps : Bool) (keys tops : List ℕ) (n x : ℕ) (t : FinesTold ps every maps keys tops n) where
   pub fine-every : every ≡ true → true ≡ labelMeant everyType ps (Fine x)
-  unfolding either
-  fine-every h = sym (fines-are x ps ∙ rw (← t .all, h))
+  fine-every h = sym (fines-six x ps (sym (t .all) ∙ h))
 
   module _ (some : every ≡ false) (few : n ≤ 4096) (r : Bool) (told : (q : ℕ → Bool) → Told q keys tops n → r ≡ q x) where
-    fine-left : labelMeant everyType ps (Fine x) ≡ either r (mapsOf ps x)
-    unfolding either
-    fine-left = fines-are x ps ∙ rw (← t .all, some, ← told (finesOf ps) (t .spans few))
+    pub fine-missed : r ≡ false → false ≡ labelMeant everyType ps (Fine x)
+    fine-missed h = sym (fines-none x ps (sym (told (finesOf ps) (t .spans few)) ∙ h) ∙ sym (t .all) ∙ some)
 
-    pub fine-hit : r ≡ true → true ≡ labelMeant everyType ps (Fine x)
+    pub fine-hit : r ≡ true → maps ≡ false → true ≡ labelMeant everyType ps (Fine x)
     unfolding either
-    fine-hit h = sym (fine-left ∙ rw h)
-
-    pub fine-missed : r ≡ false → maps ≡ false → false ≡ labelMeant everyType ps (Fine x)
-    unfolding either
-    fine-missed h m = sym (fine-left ∙ rw h (no-maps x ps (sym (t .mapped) ∙ m)))
+    fine-hit h m = sym (fines-exact x ps (sym (t .mapped) ∙ m) ∙ rw (← t .all, some, ← told (finesOf ps) (t .spans few), h))
 
 pub fine-walked : (ps : List Piece) (x : ℕ) (b : Bool) → b ≡ labelMeant everyType ps (labelFrom 1 x) → b ≡ labelMeant everyType ps (Fine x)
 fine-walked ps x b e = e ∙ ap (labelMeant everyType ps) (label-fine 1 x (λ z. omega arith))
@@ -240,13 +270,18 @@ by-fine ps kind x b e h = rw (label-fine kind x h) e
 
 -- ---- MACs
 
-mac-is : (m : ℕ) (p : Piece) → bringsMac everyType m p ≡ spanIn 8 7 macs p m
+pick-twice : (a x y : Bool) → pick a x false ≡ pick a x (pick a y false)
+unfolding pick
+pick-twice true x y = refl
+pick-twice false x y = refl
+
+mac-is : (m : ℕ) (p : Piece) → bringsMac everyType m p ≡ spanIn 8 7 8 macs p m
 unfolding bringsMac macIn spanIn both pick
 mac-is m (tlv k v) = go (ℕ-discrete k 7)
   where
-    go : Dec (k ≡ 7) → pick (eqb k 7) (inList macs m v) (pick (eqb k 8) (inBlocks macs m v) false) ≡ pick (eqb k 8) (inBlocks macs m v) (pick (eqb k 7) (inList macs m v) false)
+    go : Dec (k ≡ 7) → pick (eqb k 7) (inList macs m v) (pick (eqb k 8) (inBlocks macs m v) false) ≡ pick (eqb k 8) (inBlocks macs m v) (pick (eqb k 7) (inList macs m v) (pick (eqb k 8) (mapSpan macs v m) false))
     go (yes e) = rw e
-    go (no d) = rw (ne-eqb k 7 d)
+    go (no d) = rw (ne-eqb k 7 d) (pick-twice (eqb k 8) (inBlocks macs m v) (mapSpan macs v m))
 mac-is m (block b) = refl
 mac-is m stump = refl
 

@@ -35,12 +35,13 @@ pub record VlansTold (ps : List Piece) (every : Bool) (s : List ℕ) : Type 0 wh
   pub long : length s ≡ 512
   pub each : (x : ℕ) → either every (bitAt x s) ≡ labelMeant everyType ps (Vlan x)
 
--- the fine-grained labels in type 3 blocks and type 4 lists, and the MACs in type 8 blocks and type 7 lists
+-- the fine-grained labels in type 3 blocks and type 4 lists, and those that type 5 maps have bits for
 abbrev pub finesOf : List Piece → ℕ → Bool
-finesOf ps = spansOf 3 4 fines ps
+finesOf ps = spansOf 3 4 5 fines ps
 
+-- the MACs in type 8 blocks and type 7 lists; they have no maps
 abbrev pub macsOf : List Piece → ℕ → Bool
-macsOf ps = spansOf 8 7 macs ps
+macsOf ps = spansOf 8 7 8 macs ps
 
 -- fine-grained labels: whether every label is meant, whether there are maps, and the intervals, where they found room
 pub record FinesTold (ps : List Piece) (every maps : Bool) (keys tops : List ℕ) (n : ℕ) : Type 0 where

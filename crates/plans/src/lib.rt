@@ -94,7 +94,7 @@ pub fn vlan_set(rest: &[u8], blocks: usize, every: bool, s: &mut [u8])
     bit_sets::add_blocks(&rest[..e], s);
 }
 
-// The fine-grained labels in blocks and lists, as intervals.
+// The fine-grained labels in blocks and lists, and those that maps have bits for, as intervals.
 pub fn fine_plan(
     rest: &[u8],
     blocks: usize,
@@ -111,7 +111,7 @@ pub fn fine_plan(
         low: 0,
         high: 0xff_ffff,
     };
-    spans::span_set(rest, blocks, 3, 4, w, keys, past, tops)
+    spans::span_set(rest, blocks, 3, 4, 5, w, keys, past, tops)
 }
 
 // The MACs, as intervals.
@@ -131,7 +131,7 @@ pub fn mac_plan(
         low: 0,
         high: 0xffff_ffff_ffff,
     };
-    spans::span_set(rest, blocks, 8, 7, w, keys, past, tops)
+    spans::span_set(rest, blocks, 8, 7, 8, w, keys, past, tops)
 }
 
 // Whether a VLAN is meant: by its bit.
@@ -148,7 +148,7 @@ fn vlan_meant(every: bool, vlans: &[u8], x: u64) -> bool
     bits::has(vlans, x)
 }
 
-// Whether a fine-grained label is meant: by the intervals; by a walk where there are maps, or where the intervals found no room.
+// Whether a fine-grained label is meant: by the intervals; by a walk where it lies in one and there are maps, or where they found no room.
 fn fine_meant(
     rest: &[u8],
     blocks: usize,
@@ -166,11 +166,11 @@ fn fine_meant(
         return true;
     }
     if n <= 4096 {
-        if spans::asks(keys, tops, n, x) {
-            return true;
+        if !spans::asks(keys, tops, n, x) {
+            return false;
         }
         if !maps {
-            return false;
+            return true;
         }
     }
     payloads::label_meant(rest, blocks, 1, x)

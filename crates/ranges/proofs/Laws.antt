@@ -5,13 +5,13 @@ use Prim.Native.Nat.{ℕ, zero, suc, _+_, _-_, _*_, _/_, _%_, _^_, _≤_, _<_}
 use mathlib.Core.Bool.{Bool, true, false}
 use mathlib.Core.List.{List, [], _∷_, _++_}
 use mathlib.Core.Path.{_≡_, refl, sym, ap, _∙_}
-use native.Mathlib.Nat.{mul-one, mul-zero, le-trans, lt-of-lt-of-le, lt-of-le-of-lt}
+use native.Mathlib.Nat.{mul-one, mul-zero, le-trans, lt-of-le-of-lt}
 use native.Mathlib.Numerals.{add-one}
 use native.Mathlib.Omega.{arith}
 use lib.Dec.{leb}
 use borrow.Author.Tests.{le-leb, lt-leb, leb-true, leb-false}
 use lib.ListN.{length, take, drop, getD, set, take-append-drop, length-set, drop-of-length-le, List·getD-eq-default}
-use lib.Seq.{drop-drop, drop-cons, take-suc-set, append-snoc, take-all, take-length}
+use lib.Seq.{drop-drop, drop-cons, take-suc-set, append-snoc, take-all}
 use Rattle.numbers.specs.Tests.{pick, both, either, anyOf}
 use Rattle.sorting.specs.Sorting.{All, Sorted}
 use Rattle.sorting.proofs.Laws.{any-append, either-none, either-assoc}

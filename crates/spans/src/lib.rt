@@ -10,25 +10,30 @@ ghost use Rattle.gathering.specs.Gathering.{Narrow, Own, Grown};
 ghost use Rattle.spans.specs.Spans.{spanIn, spansOf, Gathered, Told};
 use numbers::Numbering;
 
-// Gathers what a TLV names, if it is of one of two types: one of blocks, and one of single numbers.
+// Gathers what a TLV names, if it is of one of two types: one of blocks, and one of single numbers. Of a third type, bit maps, it gathers
+// what there are bits for.
 fn add_value(
     k: u8,
     v: &[u8],
     blocks: u8,
     singles: u8,
+    maps: u8,
     w: Numbering,
     keys: &mut [u64],
     past: &mut [u64],
     n: usize,
 ) -> usize
     requires { ⌜ Narrow w × ((n ≤ length (now keys)) × ((length (now keys) ≤ 4096) × ((length (now past) ≡ length (now keys)) × Own n (now keys)))) ⌝ }
-    ensures { λ (r : ℕ). ⌜ (r ≤ 4096 → Grown (spanIn blocks singles w (tlv k (now (v .entry)))) (now (keys .entry)) (now (past .entry)) n (now (keys .exit)) (now (past .exit)) r) ⌝ }
+    ensures { λ (r : ℕ). ⌜ (r ≤ 4096 → Grown (spanIn blocks singles maps w (tlv k (now (v .entry)))) (now (keys .entry)) (now (past .entry)) n (now (keys .exit)) (now (past .exit)) r) ⌝ }
 {
     if k == blocks {
         return gathering::add_parts(v, true, w, keys, past, n);
     }
     if k == singles {
         return gathering::add_parts(v, false, w, keys, past, n);
+    }
+    if k == maps {
+        return gathering::add_map_span(v, w, keys, past, n);
     }
     n
 }
@@ -38,12 +43,13 @@ fn add_tlvs(
     l: &[u8],
     blocks: u8,
     singles: u8,
+    maps: u8,
     w: Numbering,
     keys: &mut [u64],
     past: &mut [u64],
 ) -> usize
     requires { ⌜ Narrow w × ((length (now keys) ≤ 4096) × (length (now past) ≡ length (now keys))) ⌝ }
-    ensures { λ (r : ℕ). ⌜ (r ≤ 4096 → Gathered (spansOf blocks singles w (tlvs (now (l .entry)))) (now (keys .exit)) (now (past .exit)) r) ⌝ }
+    ensures { λ (r : ℕ). ⌜ (r ≤ 4096 → Gathered (spansOf blocks singles maps w (tlvs (now (l .entry)))) (now (keys .exit)) (now (past .exit)) r) ⌝ }
 {
     let mut n = 0;
     let mut at = 0;
@@ -53,7 +59,7 @@ fn add_tlvs(
             return n;
         }
         let f = at + 2;
-        let m = add_value(l[at], &l[f..e], blocks, singles, w, keys, past, n);
+        let m = add_value(l[at], &l[f..e], blocks, singles, maps, w, keys, past, n);
         if 4096 < m {
             return 4097;
         }
@@ -78,18 +84,19 @@ pub fn span_set(
     count: usize,
     blocks: u8,
     singles: u8,
+    maps: u8,
     w: Numbering,
     keys: &mut [u64],
     past: &mut [u64],
     tops: &mut [u64],
 ) -> usize
     requires { ⌜ (Narrow w × (length (now keys) ≤ 4096)) × ((length (now past) ≡ length (now keys)) × (length (now tops) ≡ length (now keys) + 1)) ⌝ }
-    ensures { λ (r : ℕ). ⌜ (r ≤ 4096 → Told (spansOf blocks singles w (piecesOf count (now (rest .entry)))) (now (keys .exit)) (now (tops .exit)) r) ⌝ }
+    ensures { λ (r : ℕ). ⌜ (r ≤ 4096 → Told (spansOf blocks singles maps w (piecesOf count (now (rest .entry)))) (now (keys .exit)) (now (tops .exit)) r) ⌝ }
 {
     if count != 0 {
         return 4097;
     }
-    let n = add_tlvs(rest, blocks, singles, w, keys, past);
+    let n = add_tlvs(rest, blocks, singles, maps, w, keys, past);
     if keys.len() < n {
         return 4097;
     }

@@ -1,7 +1,6 @@
 -- `bit_sets::at_least` meets its contract.
 -- Assumes nothing.
 use Rattle.bit_sets.proofs.Adding.{least-second, least-first}
-use borrow.Author.Needs.{needs}
 use Rattle.bit_sets.proofs.at_least.Statement.{statement}
 use Rattle.bit_sets.proofs.at_least.Tie as tie
 

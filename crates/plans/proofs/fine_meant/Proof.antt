@@ -1,6 +1,6 @@
 -- `plans::fine_meant` meets its contract: every label, the intervals, no maps, or the walk.
 -- Assumes nothing.
-use borrow.Author.Tests.{not-true}
+use borrow.Author.Tests.{not-true, not-false}
 use Rattle.plans.proofs.Laws.{fine-every, fine-hit, fine-missed, fine-walked, may-ask}
 use borrow.Author.Needs.{needs}
 use Rattle.plans.proofs.fine_meant.Statement.{statement}
@@ -13,10 +13,10 @@ asks-requires : tie.Need-asks-requires
 asks-requires c κs = may-ask _ _ _ _ _ (c .before .before .before .before .before .pre .1 .spans (c .if2 .taken)) (c .before .before .before .before .before .pre .0 .1)
 
 returns-2 : tie.Need-returns-2
-returns-2 c = search fine-hit
+returns-2 c = search (fine-missed, not-true)
 
 returns-3 : tie.Need-returns-3
-returns-3 c = search (fine-missed, not-true)
+returns-3 c = search (fine-hit, not-true, not-false)
 
 label-meant-requires : tie.Need-label-meant-requires
 label-meant-requires c κs = search needs

@@ -2,7 +2,6 @@
 -- Assumes nothing.
 use mathlib.Core.Path.{refl}
 use Rattle.plans.specs.Plans.{isType}
-use borrow.Author.Needs.{needs}
 use Rattle.plans.proofs.is_type.Statement.{statement}
 use Rattle.plans.proofs.is_type.Tie as tie
 

@@ -1,15 +1,10 @@
 -- `ranges::count_below` meets its contract. The invariant: all before base are below, all from base + n on are not.
 -- Assumes nothing.
-use Prim.Native.Nat.{ℕ, _+_, _-_, _*_, _^_, _≤_, _<_}
-use lib.ListN.{length}
-use native.Mathlib.Omega.{arith}
+use Prim.Native.Nat.{_-_, _*_}
 use Rattle.ranges.proofs.Laws.{Bracket, bracket-start, bracket-half, bracket-last, bracket-none}
 use borrow.Author.Needs.{needs}
 use Rattle.ranges.proofs.count_below.Statement.{statement}
 use Rattle.ranges.proofs.count_below.Tie as tie
-use Rattle.ranges.proofs.count_below.Reads as reads
-use Rattle.ranges.proofs.count_below.Lts as lts
-use Rattle.ranges.proofs.step.Reads as step-reads
 
 abbrev Inv-loop : tie.InvT-loop
 Inv-loop keys z base₀ n₀ base n = Bracket keys (z * 4096) base n

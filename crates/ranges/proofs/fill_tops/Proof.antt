@@ -2,18 +2,13 @@
 -- Assumes nothing.
 use lib.ListN.{length-set}
 use mathlib.Core.Path.{sym, _∙_}
-use Prim.Native.Nat.{ℕ, _+_, _-_, _*_, _≤_, _<_}
+use Prim.Native.Nat.{_-_}
 use lib.ListN.{length}
-use native.Mathlib.Omega.{arith}
 use Rattle.ranges.proofs.Laws.{Passing, pass-start, pass-step, pass-done}
 use Rattle.ranges.specs.Ranges.{pastOf}
 use borrow.Author.Needs.{needs}
 use Rattle.ranges.proofs.fill_tops.Statement.{statement}
 use Rattle.ranges.proofs.fill_tops.Tie as tie
-use Rattle.ranges.proofs.fill_tops.Reads as reads
-use Rattle.ranges.proofs.fill_tops.Lts as lts
-use Rattle.ranges.proofs.max.Reads as max-reads
-use Rattle.ranges.proofs.past_of.Reads as past-of-reads
 
 abbrev Inv-loop : tie.InvT-loop
 Inv-loop keys past tops₀ i₀ top₀ tops i top = Passing (pastOf past) keys tops i top

@@ -1,14 +1,10 @@
 -- `ranges::is_covered` meets its contract: the greatest end of the intervals that start at or below x tells.
 -- Assumes nothing.
-use Prim.Native.Nat.{ℕ, _+_, _-_, _*_, _≤_, _<_}
-use native.Mathlib.Omega.{arith}
+use Prim.Native.Nat.{_-_}
 use Rattle.ranges.proofs.Laws.{asked}
 use borrow.Author.Needs.{needs}
 use Rattle.ranges.proofs.is_covered.Statement.{statement}
 use Rattle.ranges.proofs.is_covered.Tie as tie
-use Rattle.ranges.proofs.is_covered.Reads as reads
-use Rattle.ranges.proofs.is_covered.Lts as lts
-use Rattle.ranges.proofs.count_below.Reads as count-below-reads
 
 add-count-below : tie.Need-add-count-below
 add-count-below c = search needs

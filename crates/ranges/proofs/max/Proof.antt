@@ -1,14 +1,9 @@
 -- `ranges::max` meets its contract: the larger of two.
 -- Assumes nothing.
-use Prim.Native.Nat.{ℕ, _+_, _-_, _*_, _≤_, _<_}
-use lib.ListN.{length}
-use native.Mathlib.Omega.{arith}
+use Prim.Native.Nat.{_-_}
 use Rattle.ranges.proofs.Laws.{larger-first, larger-second}
-use borrow.Author.Needs.{needs}
 use Rattle.ranges.proofs.max.Statement.{statement}
 use Rattle.ranges.proofs.max.Tie as tie
-use Rattle.ranges.proofs.max.Reads as reads
-use Rattle.ranges.proofs.max.Lts as lts
 
 returns : tie.Need-returns
 returns c = search larger-second

@@ -1,16 +1,12 @@
 -- `ranges::past_of` meets its contract: past the end there is none.
 -- Assumes nothing.
-use Prim.Native.Nat.{ℕ, _+_, _-_, _*_, _≤_, _<_}
-use lib.ListN.{length}
-use native.Mathlib.Omega.{arith}
+use Prim.Native.Nat.{_-_}
 use Rattle.ranges.proofs.Laws.{past-none}
 use mathlib.Core.Path.{refl}
 use Rattle.ranges.specs.Ranges.{pastOf}
 use borrow.Author.Needs.{needs}
 use Rattle.ranges.proofs.past_of.Statement.{statement}
 use Rattle.ranges.proofs.past_of.Tie as tie
-use Rattle.ranges.proofs.past_of.Reads as reads
-use Rattle.ranges.proofs.past_of.Lts as lts
 
 mul-result : tie.Need-mul-result
 mul-result c = search needs

@@ -1,15 +1,11 @@
 -- `ranges::step` meets its contract: by arithmetic.
 -- Assumes nothing.
-use Prim.Native.Nat.{ℕ, _+_, _-_, _*_, _^_, _≤_, _<_}
-use lib.ListN.{length}
-use native.Mathlib.Omega.{arith}
+use Prim.Native.Nat.{_-_}
 use Rattle.ranges.proofs.Laws.{step-is}
 use mathlib.Core.Path.{refl}
 use borrow.Author.Needs.{needs}
 use Rattle.ranges.proofs.step.Statement.{statement}
 use Rattle.ranges.proofs.step.Tie as tie
-use Rattle.ranges.proofs.step.Reads as reads
-use Rattle.ranges.proofs.step.Lts as lts
 
 add-above : tie.Need-add-above
 add-above c = search needs
