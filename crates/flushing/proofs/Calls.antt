@@ -21,7 +21,8 @@ use Rattle.flush.specs.Validity.{Valid}
 use Rattle.flush.specs.declared.FlushAnswer.the-variants as answer
 use Rattle.flush.proofs.Validity.{validity}
 use Rattle.payloads.proofs.Laws.{rest-is}
-use Rattle.flushing.specs.Clearing.{payloadFrom, clearedOn}
+use Rattle.sweeping.specs.Clearing.{payloadFrom}
+use Rattle.flushing.specs.Clearing.{clearedOn}
 use Rattle.flushing.specs.declared.Cleared.{Cleared}
 use Rattle.flushing.specs.declared.Cleared.the-variants.{Refused, Count}
 

@@ -1,4 +1,2 @@
--- Laws of clearing, for this crate and those above it.
-pub mod Parts
-pub mod Slots
+-- Laws of the two calls, for this crate and those above it.
 pub mod Calls

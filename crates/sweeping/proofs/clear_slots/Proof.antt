@@ -1,4 +1,4 @@
--- `flushing::clear_slots` meets its contract. The invariant: of the first `i` slots those that are meant are cleared and counted.
+-- `sweeping::clear_slots` meets its contract. The invariant: of the first `i` slots those that are meant are cleared and counted.
 -- Assumes nothing.
 use Prim.Native.Nat.{_-_, _/_, _≤_}
 use mathlib.Core.Path.{_≡_}
@@ -6,11 +6,11 @@ use native.Mathlib.Omega.{arith}
 use lib.ListN.{length}
 use Rattle.table.proofs.Slots.{length-lent}
 use Rattle.flush.specs.Payload.{piecesOf}
-use Rattle.flushing.specs.Clearing.{slotAsked, ClearedFirst}
-use Rattle.flushing.proofs.Slots.{first-none, first-all, slots-done, slots-next}
+use Rattle.sweeping.specs.Clearing.{slotAsked, ClearedFirst}
+use Rattle.sweeping.proofs.Slots.{first-none, first-all, slots-done, slots-next}
 use borrow.Author.Needs.{needs}
-use Rattle.flushing.proofs.clear_slots.Statement.{statement}
-use Rattle.flushing.proofs.clear_slots.Tie as tie
+use Rattle.sweeping.proofs.clear_slots.Statement.{statement}
+use Rattle.sweeping.proofs.clear_slots.Tie as tie
 
 abbrev Inv-loop : tie.InvT-loop
 Inv-loop table₀ names rest blocks every vlans maps fkeys ftops fines gathered mkeys mtops macs n count₀ i₀ table count i = (i ≤ n) × ClearedFirst (slotAsked names (piecesOf blocks rest)) table₀ i count table

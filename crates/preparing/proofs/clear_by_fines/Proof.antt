@@ -1,8 +1,8 @@
--- `flushing::clear_by_fines` meets its contract: the fine-grained labels are ready.
+-- `preparing::clear_by_fines` meets its contract: the fine-grained labels are ready.
 -- Assumes nothing.
 use borrow.Author.Needs.{needs}
-use Rattle.flushing.proofs.clear_by_fines.Statement.{statement}
-use Rattle.flushing.proofs.clear_by_fines.Tie as tie
+use Rattle.preparing.proofs.clear_by_fines.Statement.{statement}
+use Rattle.preparing.proofs.clear_by_fines.Tie as tie
 
 has-type-requires : tie.Need-has-type-requires
 has-type-requires c κs = search needs

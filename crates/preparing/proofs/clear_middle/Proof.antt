@@ -1,10 +1,10 @@
--- `flushing::clear_middle` meets its contract: the sets are empty at first.
+-- `preparing::clear_middle` meets its contract: the sets are empty at first.
 -- Assumes nothing.
 use native.Mathlib.Omega.{arith}
-use Rattle.flushing.proofs.Parts.{zeros-empty, zeros-areas}
+use Rattle.sweeping.proofs.Parts.{zeros-empty, zeros-areas}
 use borrow.Author.Needs.{needs}
-use Rattle.flushing.proofs.clear_middle.Statement.{statement}
-use Rattle.flushing.proofs.clear_middle.Tie as tie
+use Rattle.preparing.proofs.clear_middle.Statement.{statement}
+use Rattle.preparing.proofs.clear_middle.Tie as tie
 
 slice-aggregate-clear-prepared : tie.Need-slice-aggregate-clear-prepared
 slice-aggregate-clear-prepared c = search needs

@@ -1,12 +1,12 @@
--- `flushing::next_candidate` meets its contract. The invariant: no slot from `from` on and before `k` is a candidate.
+-- `sweeping::next_candidate` meets its contract. The invariant: no slot from `from` on and before `k` is a candidate.
 -- Assumes nothing.
 use Prim.Native.Nat.{_-_, _≤_}
-use Rattle.flushing.specs.Clearing.{candidate, Passed}
-use Rattle.flushing.proofs.Parts.{candidate-near}
-use Rattle.flushing.proofs.Slots.{passed-none, passed-next, next-none, next-hit}
+use Rattle.sweeping.specs.Clearing.{candidate, Passed}
+use Rattle.sweeping.proofs.Parts.{candidate-near}
+use Rattle.sweeping.proofs.Slots.{passed-none, passed-next, next-none, next-hit}
 use borrow.Author.Needs.{needs}
-use Rattle.flushing.proofs.next_candidate.Statement.{statement}
-use Rattle.flushing.proofs.next_candidate.Tie as tie
+use Rattle.sweeping.proofs.next_candidate.Statement.{statement}
+use Rattle.sweeping.proofs.next_candidate.Tie as tie
 
 abbrev Inv-loop : tie.InvT-loop
 Inv-loop t from n names k₀ k = (k ≤ n) × Passed (candidate names) t from k

@@ -1,10 +1,10 @@
--- `flushing::clear_short` meets its contract: the sets are empty at first.
+-- `preparing::clear_long` meets its contract: the sets are empty at first.
 -- Assumes nothing.
 use native.Mathlib.Omega.{arith}
-use Rattle.flushing.proofs.Parts.{zeros-empty, zeros-areas}
+use Rattle.sweeping.proofs.Parts.{zeros-empty, zeros-areas}
 use borrow.Author.Needs.{needs}
-use Rattle.flushing.proofs.clear_short.Statement.{statement}
-use Rattle.flushing.proofs.clear_short.Tie as tie
+use Rattle.preparing.proofs.clear_long.Statement.{statement}
+use Rattle.preparing.proofs.clear_long.Tie as tie
 
 slice-aggregate-clear-prepared : tie.Need-slice-aggregate-clear-prepared
 slice-aggregate-clear-prepared c = search needs
@@ -31,7 +31,7 @@ slice-aggregate-clear-prepared-8 : tie.Need-slice-aggregate-clear-prepared-8
 slice-aggregate-clear-prepared-8 c = search needs
 
 clear-prepared-requires : tie.Need-clear-prepared-requires
-clear-prepared-requires c κs = ((search needs, (zeros-empty 8192, zeros-empty 512)), (zeros-areas 48 (omega arith), zeros-areas 24 (omega arith)))
+clear-prepared-requires c κs = ((search needs, (zeros-empty 8192, zeros-empty 512)), (zeros-areas 3072 (omega arith), zeros-areas 1536 (omega arith)))
 
 same-length : tie.Need-same-length
 same-length c = search needs
@@ -39,8 +39,8 @@ same-length c = search needs
 returns : tie.Need-returns
 returns c = search needs
 
-pub clear-short-spec : {M : Type 1} → statement M
-clear-short-spec =
+pub clear-long-spec : {M : Type 1} → statement M
+clear-long-spec =
     tie.close
     (tie.spec
     slice-aggregate-clear-prepared

@@ -1,8 +1,8 @@
--- `flushing::clear_by_macs` meets its contract: the MACs are ready.
+-- `preparing::clear_by_macs` meets its contract: the MACs are ready.
 -- Assumes nothing.
 use borrow.Author.Needs.{needs}
-use Rattle.flushing.proofs.clear_by_macs.Statement.{statement}
-use Rattle.flushing.proofs.clear_by_macs.Tie as tie
+use Rattle.preparing.proofs.clear_by_macs.Statement.{statement}
+use Rattle.preparing.proofs.clear_by_macs.Tie as tie
 
 mac-plan-requires : tie.Need-mac-plan-requires
 mac-plan-requires c κs = search needs

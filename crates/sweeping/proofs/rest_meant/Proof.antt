@@ -1,10 +1,10 @@
--- `flushing::rest_meant` meets its contract: the label, whether the entry is good, and then the MAC.
+-- `sweeping::rest_meant` meets its contract: the label, whether the entry is good, and then the MAC.
 -- Assumes nothing.
 use borrow.Author.Tests.{not-true, not-false}
-use Rattle.flushing.proofs.Parts.{entry-bad-rest, other-label, that-label}
+use Rattle.sweeping.proofs.Parts.{entry-bad-rest, other-label, that-label}
 use borrow.Author.Needs.{needs}
-use Rattle.flushing.proofs.rest_meant.Statement.{statement}
-use Rattle.flushing.proofs.rest_meant.Tie as tie
+use Rattle.sweeping.proofs.rest_meant.Statement.{statement}
+use Rattle.sweeping.proofs.rest_meant.Tie as tie
 
 kind-at-requires : tie.Need-kind-at-requires
 kind-at-requires c κs = search needs

@@ -1,9 +1,9 @@
--- `flushing::candidate_at` meets its contract: no nickname near, another state, or the bit of the nickname.
+-- `sweeping::candidate_at` meets its contract: no nickname near, another state, or the bit of the nickname.
 -- Assumes nothing.
-use Rattle.flushing.proofs.Parts.{none-named, other-state, by-nickname}
+use Rattle.sweeping.proofs.Parts.{none-named, other-state, by-nickname}
 use borrow.Author.Needs.{needs}
-use Rattle.flushing.proofs.candidate_at.Statement.{statement}
-use Rattle.flushing.proofs.candidate_at.Tie as tie
+use Rattle.sweeping.proofs.candidate_at.Statement.{statement}
+use Rattle.sweeping.proofs.candidate_at.Tie as tie
 
 nickname-at-requires : tie.Need-nickname-at-requires
 nickname-at-requires c κs = search needs

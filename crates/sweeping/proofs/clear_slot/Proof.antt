@@ -1,10 +1,10 @@
--- `flushing::clear_slot` meets its contract: kept, or freed and counted.
+-- `sweeping::clear_slot` meets its contract: kept, or freed and counted.
 -- Assumes nothing.
 use borrow.Author.Tests.{not-true, not-false}
-use Rattle.flushing.proofs.Slots.{one-cleared, one-kept}
+use Rattle.sweeping.proofs.Slots.{one-cleared, one-kept}
 use borrow.Author.Needs.{needs}
-use Rattle.flushing.proofs.clear_slot.Statement.{statement}
-use Rattle.flushing.proofs.clear_slot.Tie as tie
+use Rattle.sweeping.proofs.clear_slot.Statement.{statement}
+use Rattle.sweeping.proofs.clear_slot.Tie as tie
 
 rest-meant-requires : tie.Need-rest-meant-requires
 rest-meant-requires c κs = search needs

@@ -1,9 +1,9 @@
--- `flushing::clear_prepared` meets its contract: the sets say what is meant.
+-- `preparing::clear_prepared` meets its contract: the sets say what is meant.
 -- Assumes nothing.
-use Rattle.flushing.proofs.Parts.{cleared-as-meant}
+use Rattle.sweeping.proofs.Parts.{cleared-as-meant}
 use borrow.Author.Needs.{needs}
-use Rattle.flushing.proofs.clear_prepared.Statement.{statement}
-use Rattle.flushing.proofs.clear_prepared.Tie as tie
+use Rattle.preparing.proofs.clear_prepared.Statement.{statement}
+use Rattle.preparing.proofs.clear_prepared.Tie as tie
 
 some-mac-requires : tie.Need-some-mac-requires
 some-mac-requires c κs = search needs

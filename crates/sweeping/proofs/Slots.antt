@@ -17,7 +17,7 @@ use Rattle.table.proofs.Slots.{Local, length-onSlots, lent-onSlots, on-step}
 use Rattle.flush.specs.Payload.{Piece}
 use Rattle.flush.specs.Flush.{clearedSlot, clearedBy}
 use Rattle.flush.proofs.Flushing.{cleared-hit, cleared-miss, cleared-keeps}
-use Rattle.flushing.specs.Clearing.{candidate, restMeant, slotAsked, Passed, Next, ClearedOne, ClearedFirst}
+use Rattle.sweeping.specs.Clearing.{candidate, restMeant, slotAsked, Passed, Next, ClearedOne, ClearedFirst}
 
 -- ---- one slot
 

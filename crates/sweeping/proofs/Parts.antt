@@ -28,7 +28,7 @@ use Rattle.flush.specs.Meaning.{nicknameMeant, labelMeant, macMeant, entryMeant
 use Rattle.flush.specs.Flush.{heldMeant, slotMeant, clearedBy}
 use Rattle.flush.proofs.Lists.{false-true}
 use Rattle.bit_sets.specs.Gains.{NicknamesTold}
-use Rattle.flushing.specs.Clearing.{Empty, Areas, candidate, restMeant, slotAsked}
+use Rattle.sweeping.specs.Clearing.{Empty, Areas, candidate, restMeant, slotAsked}
 
 -- ---- a candidate
 
