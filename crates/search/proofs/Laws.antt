@@ -1,7 +1,7 @@
 -- Laws of searching: each test looks at a slot's own bytes; what the telling bytes rule out; numbers that no good record can hold.
 -- Assumes nothing.
 use Prim.Native.Nat.{ℕ, zero, suc, _+_, _-_, _*_, _%_, _^_, _<_, _≤_}
-use mathlib.Core.Bool.{Bool, true, false}
+use mathlib.Core.Bool.{Bool, true, false, not, _&&_}
 use mathlib.Core.List.{List}
 use mathlib.Core.Path.{_≡_, refl, sym, ap, _∙_}
 use native.Mathlib.Nat.{zero-add}
@@ -9,7 +9,7 @@ use native.Mathlib.Decide.{ℕ-discrete}
 use native.Mathlib.Omega.{arith}
 use lib.Dec.{eqb}
 use lib.ListN.{drop, length}
-use borrow.Author.Tests.{ne-eqb}
+use borrow.Author.Tests.{ne-eqb, not-false}
 use Rattle.numbers.specs.Tests.{pick, between}
 use Rattle.numbers.specs.Result.{check, settled}
 use Rattle.numbers.proofs.Truth.{not-true-false, both-true, between-is}
@@ -25,9 +25,11 @@ use Rattle.table.specs.declared.LookupAnswer.the-variants as lookup
 use Rattle.table.specs.declared.SpoiltAnswer.the-variants as spoilt
 use Rattle.table.proofs.Slots.{Local, search-next, lowest-none, lowest-within}
 use Rattle.records.specs.Halves.{keyIn, keyOf, pairGood}
-use Rattle.records.specs.Rounds.{Keyed, Passed}
-use Rattle.records.proofs.Laws.{record-near, unpacked-near, pair-key, free-state, pair-fits}
+use Rattle.records.specs.Rounds.{Keyed, NoneOfFour, Passed}
+use Rattle.records.proofs.Laws.{record-near, unpacked-near, pair-key, free-state, pair-fits, and-both}
 use Rattle.records.proofs.Fronts.{pair-holds}
+use Rattle.records.proofs.Rounds.{passed-four}
+use Rattle.search.specs.States.{InNoState}
 
 pub holds-near : (l : Label) (m : ℕ) → Local (holds l m)
 unfolding holds
@@ -46,15 +48,20 @@ pub other-key : (k x m : ℕ) → k ≤ 1 → (r : List ℕ) → (keyIn (recordO
 unfolding holds unpacked
 other-key k x m hk r h = sym (not-true-false _ (λ e. h (pair-key k x m (recordOf r) hk e)))
 
--- slots with other keys are passed by
-pub search-past : (k x m key : ℕ) → k ≤ 1 → key ≡ keyOf m → (t : List ℕ) (i j : ℕ) → i ≤ j → Passed (Keyed key) i j t → firstSlot (holds (labelFrom k x) m) i t ≡ Nowhere → firstSlot (holds (labelFrom k x) m) j t ≡ Nowhere
-search-past k x m key hk e t i j h passed so-far = let far : j - i + i ≡ j = omega arith in rw far at (go (j - i) (omega arith))
+-- slots that a round rules out are passed by
+past : (p : List ℕ → Bool) → Local p → (P : List ℕ → Type 0) → ((r : List ℕ) → (P r → ⊥) → false ≡ p r)
+    → (t : List ℕ) (i j : ℕ) → i ≤ j → Passed P i j t → firstSlot p i t ≡ Nowhere → firstSlot p j t ≡ Nowhere
+past p near P other t i j h passed so-far = let far : j - i + i ≡ j = omega arith in rw far at (go (j - i) (omega arith))
   where
-    go : (d : ℕ) → d + i ≤ j → firstSlot (holds (labelFrom k x) m) (d + i) t ≡ Nowhere
+    go : (d : ℕ) → d + i ≤ j → firstSlot p (d + i) t ≡ Nowhere
     go zero b = rw (zero-add i) so-far
     go (suc d) b =
         let next : suc d + i ≡ d + i + 1 = omega arith in
-        rw next (search-next (holds (labelFrom k x) m) (holds-near (labelFrom k x) m) t (d + i) (go d (omega arith)) false (other-key k x m hk (drop (slotBytes * (d + i)) t) (λ q. passed (d + i) (omega arith) (omega arith) (q ∙ sym e))) refl)
+        rw next (search-next p near t (d + i) (go d (omega arith)) false (other (drop (slotBytes * (d + i)) t) (passed (d + i) (omega arith) (omega arith))) refl)
+
+pub search-past : (k x m key : ℕ) → k ≤ 1 → key ≡ keyOf m → (t : List ℕ) (i j : ℕ) → i ≤ j → Passed (Keyed key) i j t → firstSlot (holds (labelFrom k x) m) i t ≡ Nowhere → firstSlot (holds (labelFrom k x) m) j t ≡ Nowhere
+search-past k x m key hk e =
+    past (holds (labelFrom k x) m) (holds-near (labelFrom k x) m) (Keyed key) (λ r h. other-key k x m hk r (λ q. h (q ∙ sym e)))
 
 -- a label and an address that no good record can hold are nowhere
 pub pair-nowhere : (k x m : ℕ) (t : List ℕ) → k ≤ 1 → (g : Bool) → g ≡ pairGood (labelFrom k x) m → g ≡ false → Nowhere ≡ lowest (holds (labelFrom k x) m) t
@@ -69,6 +76,9 @@ pair-nowhere k x m t hk g e h =
 pub other-state : (r : List ℕ) → (stateOf (recordOf r) ≡ 0 → ⊥) → false ≡ freeSlot r
 unfolding freeSlot unpacked
 other-state r h = sym (not-true-false _ (λ e. h (free-state (recordOf r) e)))
+
+pub free-past : (t : List ℕ) (i j : ℕ) → i ≤ j → Passed InNoState i j t → firstSlot freeSlot i t ≡ Nowhere → firstSlot freeSlot j t ≡ Nowhere
+free-past = past freeSlot free-near InNoState other-state
 
 -- ---- a lookup of any numbers
 
@@ -142,3 +152,11 @@ module _ (t : List ℕ) (g : Bool) (good : g ≡ tableGood t) where
         let b = both-true (between 1 (slotBytes * mostSlots) (length t)) (eqb (length t % slotBytes) 0) (sym good ∙ ok) in
         let c = between-is 1 (slotBytes * mostSlots) (length t) (b .0) in
         omega arith
+
+-- ---- a round of eight
+
+pub passed-eight : (P : List ℕ → Type 0) (t : List ℕ) (from i at : ℕ) → at ≡ slotBytes * i → Passed P from i t → (a b : Bool) → not (a && b) ≡ false
+    → (a ≡ true → NoneOfFour P at t) → (b ≡ true → NoneOfFour P (at + 56) t) → Passed P from (i + 8) t
+passed-eight P t from i at e so-far a b h low high k above below =
+    let both = both-true _ _ (sym (and-both a b) ∙ not-false _ h) in
+    passed-four P t from (i + 4) (at + 56) (omega arith) (passed-four P t from i at e so-far (low (both .0))) (high (both .1)) k above (omega arith)

@@ -10,6 +10,7 @@ ghost use Rattle.table.specs.Slots.{slotsOf, lowest};
 ghost use Rattle.table.specs.Table.{holds, placeOf, lookedUp, spoiltSlot, lowestSpoilt};
 ghost use Rattle.records.specs.Halves.{keyOf, Pair};
 ghost use Rattle.records.specs.Rounds.{Keyed, NoneOfFour, Passed};
+ghost use Rattle.search.specs.States.{InNoState};
 use numbers::refusals::TABLE_LENGTH_BAD;
 use table::LookupAnswer;
 use table::Place;
@@ -27,18 +28,20 @@ fn other_keys(t: &[u8], at: usize, key: u64) -> bool
     (a & b) & (c & d)
 }
 
-// The lowest slot from a slot on in whose round of four some slot has a key, or that is one of the last three.
+// The lowest slot from a slot on in whose round of eight some slot has a key, or that is one of the last seven.
 fn next_keyed(t: &[u8], from: usize, key: u64) -> usize
     requires { ⌜ from ≤ slotsOf (now t) ⌝ }
     ensures { λ r. ⌜ (from ≤ r) × ((r ≤ slotsOf (now (t .entry))) × Passed (Keyed key) from r (now (t .entry))) ⌝ }
 {
     let n = t.len() / 14;
     let mut i = from;
-    while 4 <= n - i {
-        if !other_keys(t, 14 * i, key) {
+    while 8 <= n - i {
+        let low = other_keys(t, 14 * i, key);
+        let high = other_keys(t, 14 * i + 56, key);
+        if !(low & high) {
             return i;
         }
-        i += 4;
+        i += 8;
     }
     i
 }
@@ -85,6 +88,36 @@ fn free_at(t: &[u8], at: usize) -> bool
     records::is_free(records::split(t, at))
 }
 
+// Whether none of the four slots at a place has state bits 0.
+fn other_states(t: &[u8], at: usize) -> bool
+    requires { ⌜ at + 56 ≤ length (now t) ⌝ }
+    ensures { λ r. ⌜ (r ≡ true → NoneOfFour InNoState at (now (t .entry))) ⌝ }
+{
+    let a = records::state_at(t, at) != 0;
+    let b = records::state_at(t, at + 14) != 0;
+    let c = records::state_at(t, at + 28) != 0;
+    let d = records::state_at(t, at + 42) != 0;
+    (a & b) & (c & d)
+}
+
+// The lowest slot from a slot on in whose round of eight some slot has state bits 0, or that is one of the last seven.
+fn next_unset(t: &[u8], from: usize) -> usize
+    requires { ⌜ from ≤ slotsOf (now t) ⌝ }
+    ensures { λ r. ⌜ (from ≤ r) × ((r ≤ slotsOf (now (t .entry))) × Passed InNoState from r (now (t .entry))) ⌝ }
+{
+    let n = t.len() / 14;
+    let mut k = from;
+    while 8 <= n - k {
+        let low = other_states(t, 14 * k);
+        let high = other_states(t, 14 * k + 56);
+        if !(low & high) {
+            return k;
+        }
+        k += 8;
+    }
+    k
+}
+
 // The lowest free slot.
 pub fn find_free(t: &[u8]) -> Place
     ensures { λ r. ⌜ r ≡ lowest freeSlot (now (t .entry)) ⌝ }
@@ -95,7 +128,7 @@ pub fn find_free(t: &[u8]) -> Place
         if free_at(t, 14 * j) {
             return Place::At(j);
         }
-        j += 1;
+        j = next_unset(t, j + 1);
     }
     Place::Nowhere
 }

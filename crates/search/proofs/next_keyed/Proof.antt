@@ -1,11 +1,11 @@
 -- `search::next_keyed` meets its contract. The invariant: no slot from `from` up to `i` has the key.
 -- Assumes nothing.
-use Prim.Native.Nat.{_*_, _-_, _≤_}
-use mathlib.Core.Path.{refl}
-use native.Mathlib.Omega.{arith}
-use borrow.Author.Tests.{not-false}
+use Rattle.search.proofs.Laws.{passed-eight}
+use Rattle.records.proofs.Rounds.{passed-none}
 use Rattle.records.specs.Rounds.{Keyed, Passed}
-use Rattle.records.proofs.Rounds.{passed-none, passed-four}
+use native.Mathlib.Omega.{arith}
+use mathlib.Core.Path.{refl}
+use Prim.Native.Nat.{_*_, _-_, _≤_}
 use borrow.Author.Needs.{needs}
 use Rattle.search.proofs.next_keyed.Statement.{statement}
 use Rattle.search.proofs.next_keyed.Tie as tie
@@ -17,8 +17,7 @@ abbrev μ-loop : tie.MeasureT-loop
 μ-loop t from key n i₀ i = n - i
 
 loop-holds : tie.Need-loop-holds Inv-loop μ-loop
-loop-holds c =
-    let a = c .before .args in
+loop-holds c = let a = c .before .args in
     (search needs, (c .before .pre, passed-none (Keyed (a .key)) (a .t .now) (a .from)))
 
 sub-loop : tie.Need-sub-loop Inv-loop μ-loop
@@ -30,8 +29,17 @@ mul-other-keys c = search needs
 other-keys-requires : tie.Need-other-keys-requires Inv-loop μ-loop
 other-keys-requires c κs = omega arith
 
+mul-other-keys-2 : tie.Need-mul-other-keys-2 Inv-loop μ-loop
+mul-other-keys-2 c = search needs
+
+add-other-keys : tie.Need-add-other-keys Inv-loop μ-loop
+add-other-keys c = search needs
+
+other-keys-requires-2 : tie.Need-other-keys-requires-2 Inv-loop μ-loop
+other-keys-requires-2 c κs = omega arith
+
 returns : tie.Need-returns Inv-loop μ-loop
-returns c = c .before .before .before .loop .inv
+returns c = c .before .before .before .before .loop .inv
 
 add-i : tie.Need-add-i Inv-loop μ-loop
 add-i c = search needs
@@ -40,10 +48,9 @@ loop-less : tie.Need-loop-less Inv-loop μ-loop
 loop-less c = search needs
 
 loop-again : tie.Need-loop-again Inv-loop μ-loop
-loop-again c =
-    let at = c .before .before .before .loop in
-    let a = c .before .before .before .before .before .args in
-    (search needs, (search needs, passed-four (Keyed (a .key)) (a .t .now) (a .from) (at .i) (14 * at .i) refl (at .inv .1 .1) (c .before .other-keys .ensures (not-false _ (c .if1 .left)))))
+loop-again c = let at = c .before .before .before .before .loop in
+    let a = c .before .before .before .before .before .before .args in
+    (search needs, (search needs, passed-eight (Keyed (a .key)) (a .t .now) (a .from) (at .i) (14 * at .i) refl (at .inv .1 .1) _ _ (c .if1 .left) (c .before .before .other-keys .ensures) (c .before .other-keys2 .ensures)))
 
 returns-2 : tie.Need-returns-2 Inv-loop μ-loop
 returns-2 c = c .before .loop .inv
@@ -58,6 +65,9 @@ next-keyed-spec =
     sub-loop
     mul-other-keys
     other-keys-requires
+    mul-other-keys-2
+    add-other-keys
+    other-keys-requires-2
     returns
     add-i
     loop-less
