@@ -1,11 +1,9 @@
 -- The outcomes of learning, from facts as the code finds them.
 -- Assumes nothing.
-use Prim.Native.Nat.{ℕ, _+_, _*_, _^_, _<_, _≤_}
-use mathlib.Core.Bool.{Bool}
+use Prim.Native.Nat.{ℕ, _+_, _*_, _<_, _≤_}
 use mathlib.Core.List.{List}
-use mathlib.Core.Path.{_≡_, refl, sym, _∙_}
+use mathlib.Core.Path.{_≡_, sym, _∙_}
 use native.Mathlib.Omega.{arith}
-use lib.Dec.{ltb}
 use lib.ListN.{length, drop}
 use borrow.Author.Tests.{lt-ltb, le-ltb}
 use Rattle.numbers.specs.Tests.{pick}
@@ -14,8 +12,6 @@ use Rattle.table.specs.Learning.{putEntry, overMatch, freeSlot, intoFree, learn
 use Rattle.table.specs.Record.{kindNumber, labelNumber, labelFrom, unpacked}
 use Rattle.table.specs.Slots.{slotBytes, slotAt, lowest}
 use Rattle.table.specs.Table.{holds}
-use Rattle.table.specs.declared.Label.{Label}
-use Rattle.table.specs.declared.Label.the-variants.{Vlan, Fine}
 use Rattle.table.specs.declared.Entry.{Entry}
 use Rattle.table.specs.declared.Slot.{Slot}
 use Rattle.table.specs.declared.Slot.the-variants.{Free, Spoilt, Learned, Configured}

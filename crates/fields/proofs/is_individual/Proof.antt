@@ -3,7 +3,6 @@
 use mathlib.Core.Path.{refl}
 use Rattle.numbers.specs.Tests.{both}
 use Rattle.numbers.specs.Ranges.{individual}
-use borrow.Author.Needs.{needs}
 use Rattle.fields.proofs.is_individual.Statement.{statement}
 use Rattle.fields.proofs.is_individual.Tie as tie
 

@@ -3,7 +3,6 @@
 use mathlib.Core.Path.{refl}
 use Rattle.numbers.specs.Tests.{both, between}
 use Rattle.frame.specs.Front.{trillGroup}
-use borrow.Author.Needs.{needs}
 use Rattle.fields.proofs.is_trill_group.Statement.{statement}
 use Rattle.fields.proofs.is_trill_group.Tie as tie
 

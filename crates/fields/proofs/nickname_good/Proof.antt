@@ -3,7 +3,6 @@
 use mathlib.Core.Path.{refl}
 use Rattle.numbers.specs.Tests.{both, between}
 use Rattle.numbers.specs.Ranges.{nicknameGood}
-use borrow.Author.Needs.{needs}
 use Rattle.fields.proofs.nickname_good.Statement.{statement}
 use Rattle.fields.proofs.nickname_good.Tie as tie
 

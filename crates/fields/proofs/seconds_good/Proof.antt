@@ -3,7 +3,6 @@
 use mathlib.Core.Path.{refl}
 use Rattle.numbers.specs.Tests.{both, either, between}
 use Rattle.frame.specs.Settings.{secondsGood}
-use borrow.Author.Needs.{needs}
 use Rattle.fields.proofs.seconds_good.Statement.{statement}
 use Rattle.fields.proofs.seconds_good.Tie as tie
 

@@ -3,7 +3,6 @@
 use mathlib.Core.Path.{refl}
 use Rattle.numbers.specs.Tests.{both, between}
 use Rattle.numbers.specs.Ranges.{vlanGood}
-use borrow.Author.Needs.{needs}
 use Rattle.fields.proofs.vlan_good.Statement.{statement}
 use Rattle.fields.proofs.vlan_good.Tie as tie
 
