@@ -22,7 +22,7 @@ use Rattle.table.specs.declared.Label.{Label}
 use Rattle.table.specs.declared.Label.the-variants.{Vlan, Fine}
 use Rattle.table.specs.declared.Entry.{Entry}
 use Rattle.table.specs.declared.Slot.the-variants.{Free, Spoilt, Learned, Configured}
-use Rattle.records.specs.Halves.{wholeOf, Small, heldOrSpoilt, keyIn, keyOf}
+use Rattle.records.specs.Halves.{wholeOf, Small, heldOrSpoilt, keyIn, keyOf, roundKeyIn, roundKeyOf}
 use Rattle.records.specs.declared.Halves.{Halves}
 
 -- the library's tests are ours
@@ -306,6 +306,12 @@ learned-state n h = eqb-true (stateOf n) 1 (both-true _ _ (sym (learned-is n) �
 pub pair-key : (k x m n : ℕ) → k ≤ 1 → slotMatches (labelFrom k x) m (slotOf n) ≡ true → keyIn n ≡ keyOf m
 pair-key k x m n hk h = let mac = pair-fields k x m n hk h .mac in omega arith
 
+pub pair-round-key : (k x m n : ℕ) → k ≤ 1 → slotMatches (labelFrom k x) m (slotOf n) ≡ true → roundKeyIn n ≡ roundKeyOf m
+pair-round-key k x m n hk h =
+    let mac = pair-fields k x m n hk h .mac in
+    let low : n / 2 ^ 48 % 2 ^ 8 ≡ m / 2 ^ 11 % 2 ^ 8 = omega arith in
+    rw (low, pair-key k x m n hk h)
+
 -- a record of state 1 is learned where its entry is good
 pub learned-good : (n : ℕ) → stateOf n ≡ 1 → (g : Bool) → g ≡ entryGood (entryOf n) → isLearned (slotOf n) ≡ g
 unfolding both
@@ -336,6 +342,13 @@ state-byte l at b h =
 pub key-byte : (l : List ℕ) (at : ℕ) → AreBytes l → at + 14 ≤ length l → getD l (at + 8) 0 ≡ keyIn (num (take 14 (drop at l)))
 key-byte l at b h =
     omega (arith, num-add l at 8 6 h, num-add l (at + 8) 1 5 (omega arith), num-one l (at + 8) (omega arith), num-part-lt l (at + 8 + 1) 5 b (omega arith), b (at + 8))
+
+pub round-key-bytes : (l : List ℕ) (at : ℕ) → AreBytes l → at + 14 ≤ length l → getD l (at + 8) 0 * 2 ^ 8 + getD l (at + 7) 0 ≡ roundKeyIn (num (take 14 (drop at l)))
+round-key-bytes l at b h =
+    let high : getD l (at + 8) 0 ≡ keyIn (num (take 14 (drop at l))) = key-byte l at b h in
+    let low : getD l (at + 7) 0 ≡ num (take 14 (drop at l)) / 2 ^ 48 % 2 ^ 8 =
+    omega (arith, num-add l at 7 7 h, num-add l (at + 7) 1 6 (omega arith), num-one l (at + 7) (omega arith), num-part-lt l (at + 7 + 1) 6 b (omega arith), b (at + 7)) in
+    rw (high, low)
 
 pub last-bytes : (l : List ℕ) (at : ℕ) → AreBytes l → at + 14 ≤ length l → num (take 2 (drop (at + 12) l)) ≡ num (take 14 (drop at l)) % 2 ^ 16
 last-bytes l at b h =

@@ -45,6 +45,13 @@ keyIn n = n / 2 ^ 40 % 2 ^ 8
 abbrev pub keyOf : ℕ → ℕ
 keyOf mac = mac / 2 ^ 3 % 2 ^ 8
 
+-- bytes 7 and 8 of a record's number, byte 8 as the higher, and of one with this address
+abbrev pub roundKeyIn : ℕ → ℕ
+roundKeyIn n = n / 2 ^ 40 % 2 ^ 8 * 2 ^ 8 + n / 2 ^ 48 % 2 ^ 8
+
+abbrev pub roundKeyOf : ℕ → ℕ
+roundKeyOf mac = mac / 2 ^ 3 % 2 ^ 8 * 2 ^ 8 + mac / 2 ^ 11 % 2 ^ 8
+
 -- a label and an address that a good record can hold
 unfoldable pub pairGood : Label → ℕ → Bool
 pairGood l m = both (labelGood l) (individual m)

@@ -6,11 +6,11 @@ use mathlib.Core.Path.{_≡_}
 use lib.ListN.{drop}
 use Rattle.table.specs.Record.{recordOf, stateOf, learnedState}
 use Rattle.table.specs.Slots.{slotBytes}
-use Rattle.records.specs.Halves.{keyIn}
+use Rattle.records.specs.Halves.{roundKeyIn}
 
--- a slot with this key; a slot with the state of a learned one, good or not
+-- a slot with this key of a round; a slot with the state of a learned one, good or not
 abbrev pub Keyed : ℕ → List ℕ → Type 0
-Keyed key r = keyIn (recordOf r) ≡ key
+Keyed key r = roundKeyIn (recordOf r) ≡ key
 
 abbrev pub InLearnedState : List ℕ → Type 0
 InLearnedState r = stateOf (recordOf r) ≡ learnedState

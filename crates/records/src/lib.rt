@@ -8,7 +8,7 @@ ghost use Rattle.numbers.specs.Ranges.{nicknameGood};
 ghost use Rattle.table.specs.Record.{recordBytes, recordOf, stateOf, nicknameOf, learnedState, entryOf, entryGood, slotOf, unpacked, kindNumber, labelNumber, packed, recordNumber, isFree, isLearned, labelFrom, slotMatches};
 ghost use Rattle.table.specs.Slots.{slotBytes, freed, tableGood};
 ghost use Rattle.table.specs.Table.{spoiltSlot};
-ghost use Rattle.records.specs.Halves.{wholeOf, Small, Halved, Fits, heldOrSpoilt, keyIn, keyOf, pairGood, Pair};
+ghost use Rattle.records.specs.Halves.{wholeOf, Small, Halved, Fits, heldOrSpoilt, keyIn, keyOf, roundKeyIn, roundKeyOf, pairGood, Pair};
 use table::Entry;
 use table::Label;
 use table::Slot;
@@ -242,6 +242,22 @@ pub fn key_of(mac: u64) -> u64
     ensures { λ r. ⌜ r ≡ keyOf mac ⌝ }
 {
     mac / 8 % 0x100
+}
+
+// The key by which a round over many slots tells nearly all addresses apart: that byte and the one before it, bits 3 to 18 of the
+// MAC. The later byte is the higher, so that both are read as one number.
+pub fn round_key_at(t: &[u8], at: usize) -> u64
+    requires { ⌜ at + recordBytes ≤ length (now t) ⌝ }
+    ensures { λ r. ⌜ r ≡ roundKeyIn (recordOf (drop at (now (t .entry)))) ⌝ }
+{
+    numbers::wide(t[at + 8]) * 0x100 + numbers::wide(t[at + 7])
+}
+
+// Those two bytes of a record with this address.
+pub fn round_key_of(mac: u64) -> u64
+    ensures { λ r. ⌜ r ≡ roundKeyOf mac ⌝ }
+{
+    mac / 8 % 0x100 * 0x100 + mac / 0x800 % 0x100
 }
 
 // Whether a good record can hold a label and an address.

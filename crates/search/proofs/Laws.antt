@@ -24,9 +24,9 @@ use Rattle.table.specs.declared.Place.the-variants.{At, Nowhere}
 use Rattle.table.specs.declared.LookupAnswer.the-variants as lookup
 use Rattle.table.specs.declared.SpoiltAnswer.the-variants as spoilt
 use Rattle.table.proofs.Slots.{Local, search-next, lowest-none, lowest-within}
-use Rattle.records.specs.Halves.{keyIn, keyOf, pairGood}
+use Rattle.records.specs.Halves.{keyIn, keyOf, roundKeyIn, roundKeyOf, pairGood}
 use Rattle.records.specs.Rounds.{Keyed, NoneOfFour, Passed}
-use Rattle.records.proofs.Laws.{record-near, unpacked-near, pair-key, free-state, pair-fits, and-both}
+use Rattle.records.proofs.Laws.{record-near, unpacked-near, pair-key, pair-round-key, free-state, pair-fits, and-both}
 use Rattle.records.proofs.Fronts.{pair-holds}
 use Rattle.records.proofs.Rounds.{passed-four}
 use Rattle.search.specs.States.{InNoState}
@@ -48,6 +48,10 @@ pub other-key : (k x m : ℕ) → k ≤ 1 → (r : List ℕ) → (keyIn (recordO
 unfolding holds unpacked
 other-key k x m hk r h = sym (not-true-false _ (λ e. h (pair-key k x m (recordOf r) hk e)))
 
+other-round-key : (k x m : ℕ) → k ≤ 1 → (r : List ℕ) → (roundKeyIn (recordOf r) ≡ roundKeyOf m → ⊥) → false ≡ holds (labelFrom k x) m r
+unfolding holds unpacked
+other-round-key k x m hk r h = sym (not-true-false _ (λ e. h (pair-round-key k x m (recordOf r) hk e)))
+
 -- slots that a round rules out are passed by
 past : (p : List ℕ → Bool) → Local p → (P : List ℕ → Type 0) → ((r : List ℕ) → (P r → ⊥) → false ≡ p r)
     → (t : List ℕ) (i j : ℕ) → i ≤ j → Passed P i j t → firstSlot p i t ≡ Nowhere → firstSlot p j t ≡ Nowhere
@@ -59,9 +63,9 @@ past p near P other t i j h passed so-far = let far : j - i + i ≡ j = omega ar
         let next : suc d + i ≡ d + i + 1 = omega arith in
         rw next (search-next p near t (d + i) (go d (omega arith)) false (other (drop (slotBytes * (d + i)) t) (passed (d + i) (omega arith) (omega arith))) refl)
 
-pub search-past : (k x m key : ℕ) → k ≤ 1 → key ≡ keyOf m → (t : List ℕ) (i j : ℕ) → i ≤ j → Passed (Keyed key) i j t → firstSlot (holds (labelFrom k x) m) i t ≡ Nowhere → firstSlot (holds (labelFrom k x) m) j t ≡ Nowhere
+pub search-past : (k x m key : ℕ) → k ≤ 1 → key ≡ roundKeyOf m → (t : List ℕ) (i j : ℕ) → i ≤ j → Passed (Keyed key) i j t → firstSlot (holds (labelFrom k x) m) i t ≡ Nowhere → firstSlot (holds (labelFrom k x) m) j t ≡ Nowhere
 search-past k x m key hk e =
-    past (holds (labelFrom k x) m) (holds-near (labelFrom k x) m) (Keyed key) (λ r h. other-key k x m hk r (λ q. h (q ∙ sym e)))
+    past (holds (labelFrom k x) m) (holds-near (labelFrom k x) m) (Keyed key) (λ r h. other-round-key k x m hk r (λ q. h (q ∙ sym e)))
 
 -- a label and an address that no good record can hold are nowhere
 pub pair-nowhere : (k x m : ℕ) (t : List ℕ) → k ≤ 1 → (g : Bool) → g ≡ pairGood (labelFrom k x) m → g ≡ false → Nowhere ≡ lowest (holds (labelFrom k x) m) t

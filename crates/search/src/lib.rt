@@ -6,8 +6,9 @@ ghost use mathlib.Core.Bool.{true};
 ghost use lib.ListN.{length, drop};
 ghost use Rattle.table.specs.Learning.{freeSlot};
 ghost use Rattle.table.specs.Record.{recordBytes, labelFrom};
-ghost use Rattle.table.specs.Slots.{slotsOf, lowest};
+ghost use Rattle.table.specs.Slots.{slotsOf, firstSlot, lowest};
 ghost use Rattle.table.specs.Table.{holds, placeOf, lookedUp, spoiltSlot, lowestSpoilt};
+ghost use Rattle.table.specs.declared.Place.the-variants.{Nowhere};
 ghost use Rattle.records.specs.Halves.{keyOf, Pair};
 ghost use Rattle.records.specs.Rounds.{Keyed, NoneOfFour, Passed};
 ghost use Rattle.search.specs.States.{InNoState};
@@ -16,19 +17,19 @@ use table::LookupAnswer;
 use table::Place;
 use table::SpoiltAnswer;
 
-// Whether none of the four slots at a place has a key.
+// Whether none of the four slots at a place has a key of two bytes.
 fn other_keys(t: &[u8], at: usize, key: u64) -> bool
     requires { ⌜ at + 56 ≤ length (now t) ⌝ }
     ensures { λ r. ⌜ (r ≡ true → NoneOfFour (Keyed key) at (now (t .entry))) ⌝ }
 {
-    let a = records::key_at(t, at) != key;
-    let b = records::key_at(t, at + 14) != key;
-    let c = records::key_at(t, at + 28) != key;
-    let d = records::key_at(t, at + 42) != key;
+    let a = records::round_key_at(t, at) != key;
+    let b = records::round_key_at(t, at + 14) != key;
+    let c = records::round_key_at(t, at + 28) != key;
+    let d = records::round_key_at(t, at + 42) != key;
     (a & b) & (c & d)
 }
 
-// The lowest slot from a slot on in whose round of eight some slot has a key, or that is one of the last seven.
+// The lowest slot from a slot on in whose round of eight some slot has a key of two bytes, or that is one of the last seven.
 fn next_keyed(t: &[u8], from: usize, key: u64) -> usize
     requires { ⌜ from ≤ slotsOf (now t) ⌝ }
     ensures { λ r. ⌜ (from ≤ r) × ((r ≤ slotsOf (now (t .entry))) × Passed (Keyed key) from r (now (t .entry))) ⌝ }
@@ -46,7 +47,7 @@ fn next_keyed(t: &[u8], from: usize, key: u64) -> usize
     i
 }
 
-// Whether the slot at a place holds a label and an address, whose key is given.
+// Whether the slot at a place holds a label and an address, whose key of one byte is given.
 fn pair_at(t: &[u8], at: usize, key: u64, kind: u64, label: u64, mac: u64) -> bool
     requires { ⌜ (at + recordBytes ≤ length (now t)) × ((key ≡ keyOf mac) × Pair kind label mac) ⌝ }
     ensures { λ r. ⌜ r ≡ holds (labelFrom kind label) mac (drop at (now (t .entry))) ⌝ }
@@ -57,7 +58,24 @@ fn pair_at(t: &[u8], at: usize, key: u64, kind: u64, label: u64, mac: u64) -> bo
     records::pair_at(t, at, kind, label, mac)
 }
 
-// The lowest slot with a label and an address.
+// The lowest slot with a label and an address, whose key of one byte is given, where slot 0 does not hold them.
+fn find_behind(t: &[u8], key: u64, kind: u64, label: u64, mac: u64) -> Place
+    requires { ⌜ (1 ≤ slotsOf (now t)) × ((key ≡ keyOf mac) × (Pair kind label mac × (firstSlot (holds (labelFrom kind label) mac) 1 (now t) ≡ Nowhere))) ⌝ }
+    ensures { λ r. ⌜ r ≡ lowest (holds (labelFrom kind label) mac) (now (t .entry)) ⌝ }
+{
+    let round_key = records::round_key_of(mac);
+    let n = t.len() / 14;
+    let mut i = 1;
+    while i < n {
+        if pair_at(t, 14 * i, key, kind, label, mac) {
+            return Place::At(i);
+        }
+        i = next_keyed(t, i + 1, round_key);
+    }
+    Place::Nowhere
+}
+
+// The lowest slot with a label and an address. Slot 0 is looked at before the key of the rounds is made.
 pub fn find_pair(t: &[u8], kind: u64, label: u64, mac: u64) -> Place
     requires { ⌜ (kind ≤ 1) × ((label < 2 ^ 24) × (mac < 2 ^ 48)) ⌝ }
     ensures { λ r. ⌜ r ≡ lowest (holds (labelFrom kind label) mac) (now (t .entry)) ⌝ }
@@ -65,16 +83,14 @@ pub fn find_pair(t: &[u8], kind: u64, label: u64, mac: u64) -> Place
     if !records::pair_good(kind, label, mac) {
         return Place::Nowhere;
     }
-    let key = records::key_of(mac);
-    let n = t.len() / 14;
-    let mut i = 0;
-    while i < n {
-        if pair_at(t, 14 * i, key, kind, label, mac) {
-            return Place::At(i);
-        }
-        i = next_keyed(t, i + 1, key);
+    if t.len() < 14 {
+        return Place::Nowhere;
     }
-    Place::Nowhere
+    let key = records::key_of(mac);
+    if pair_at(t, 0, key, kind, label, mac) {
+        return Place::At(0);
+    }
+    find_behind(t, key, kind, label, mac)
 }
 
 // Whether the slot at a place is free: only where its state bits are 0 is it looked at whole.
