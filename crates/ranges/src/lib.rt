@@ -17,7 +17,7 @@ fn max(a: u64, b: u64) -> u64
     a
 }
 
-fn past_of(past: &[u64], v: u64) -> u64
+pub fn past_of(past: &[u64], v: u64) -> u64
     ensures { λ r. ⌜ r ≡ pastOf (now (past .entry)) v ⌝ }
 {
     let i = (v % 4096) as usize;
@@ -52,7 +52,7 @@ fn step(v: u64, z: u64, h: usize) -> usize
 }
 
 // How many are below z times 4096. The n from base on are still in question; each turn halves them.
-fn count_below(keys: &[u64], z: u64) -> usize
+pub fn count_below(keys: &[u64], z: u64) -> usize
     requires { ⌜ Sorted (now keys) × (z < 2 ^ 52) ⌝ }
     ensures { λ r. ⌜ Splits (now (keys .entry)) (z * 4096) r ⌝ }
 {

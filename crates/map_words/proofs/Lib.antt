@@ -1,0 +1,4 @@
+pub mod Shifts
+pub mod Gathering
+pub mod Uniting
+pub mod Apart

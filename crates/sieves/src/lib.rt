@@ -1,0 +1,77 @@
+// A sieve in front of the search in intervals: a bit for each stretch of 512 numbers, counted round. A number whose bit is not set lies in
+// no interval; most numbers that are asked for end there.
+ghost use Prim.Native.Nat.{ℕ, _/_, _^_, _<_};
+ghost use mathlib.Core.Bool.{true};
+ghost use mathlib.Core.Path.{_≡_};
+ghost use lib.ListN.{length};
+ghost use Rattle.numbers.specs.Numberings.{bitAt};
+ghost use Rattle.ranges.specs.Ranges.{covered};
+ghost use Rattle.sieves.specs.Sieves.{sieveBytes, spotOf, Keeps, Marked, Sieved};
+
+// The place of a number's bit.
+fn spot_of(x: u64) -> u64
+    ensures { λ r. ⌜ (r ≡ spotOf x) × (r < 2 ^ 15) ⌝ }
+{
+    x / 512 % 0x8000
+}
+
+// Marks the numbers from s to before e. Where they are many it answers false and marks nothing.
+fn mark(s: u64, e: u64, sieve: &mut [u8]) -> bool
+    requires { ⌜ length (now sieve) ≡ sieveBytes ⌝ }
+    ensures { λ r. ⌜ Keeps (now (sieve .entry)) (now (sieve .exit)) × (r ≡ true → Marked s e (now (sieve .exit))) ⌝ }
+{
+    if e <= s {
+        return true;
+    }
+    let last = e - 1;
+    if 0x8000 <= last - s {
+        return false;
+    }
+    let i = spot_of(s);
+    let j = spot_of(last);
+    if j < i {
+        return false;
+    }
+    bits::add_range(sieve, i as usize, j as usize + 1);
+    true
+}
+
+// Marks a stretch, which is given by its number.
+pub fn mark_stretch(h: u64, sieve: &mut [u8])
+    requires { ⌜ length (now sieve) ≡ sieveBytes ⌝ }
+    ensures { λ _. ⌜ Keeps (now (sieve .entry)) (now (sieve .exit)) × ((x : ℕ) → h ≡ x / 512 → bitAt (spotOf x) (now (sieve .exit)) ≡ true) ⌝ }
+{
+    bits::add_one(sieve, (h % 0x8000) as usize);
+}
+
+// Marks every number.
+pub fn mark_all(sieve: &mut [u8])
+    requires { ⌜ length (now sieve) ≡ sieveBytes ⌝ }
+    ensures { λ _. ⌜ Keeps (now (sieve .entry)) (now (sieve .exit)) × ((s e : ℕ) → Marked s e (now (sieve .exit))) ⌝ }
+{
+    bits::add_range(sieve, 0, 0x8000);
+}
+
+// Marks the numbers in intervals.
+pub fn mark_intervals(keys: &[u64], past: &[u64], sieve: &mut [u8])
+    requires { ⌜ length (now sieve) ≡ sieveBytes ⌝ }
+    ensures { λ _. ⌜ Keeps (now (sieve .entry)) (now (sieve .exit)) × Sieved (λ x. covered (now (past .entry)) x (now (keys .entry))) (now (sieve .exit)) ⌝ }
+{
+    let mut i = 0;
+    while i < keys.len() {
+        let v = keys[i];
+        if !mark(v / 4096, ranges::past_of(past, v), sieve) {
+            mark_all(sieve);
+            return;
+        }
+        i += 1;
+    }
+}
+
+// Whether a number may be in an interval.
+pub fn may_have(sieve: &[u8], x: u64) -> bool
+    requires { ⌜ length (now sieve) ≡ sieveBytes ⌝ }
+    ensures { λ r. ⌜ r ≡ bitAt (spotOf x) (now (sieve .entry)) ⌝ }
+{
+    bits::has(sieve, spot_of(x))
+}
