@@ -3,6 +3,7 @@
 use shinglebar_tests::c_program;
 use shinglebar_tests::compare;
 use shinglebar_tests::generate::{self, Pool, Raw};
+use shinglebar_tests::random::Random;
 use shinglebar_tests::reference::{self, Label, Record, RECORD};
 use shinglebar_tests::run::{self, Tally};
 
@@ -255,6 +256,156 @@ fn maps_and_blocks_at_the_ends_of_the_numberings_mean_what_the_paper_says() {
         }
     }
     assert!(cleared > 10_000, "only {cleared} records were cleared");
+}
+
+/// A message of many elements of a few types, and some numbers that it names.
+struct Crowd {
+    payload: Vec<u8>,
+    labels: Vec<u32>,
+    macs: Vec<u64>,
+}
+
+impl Crowd {
+    /// So many elements of each type, in TLVs as long as may be. With MACs, type 6 means every label.
+    fn new(random: &mut Random, types: &[(u8, usize)]) -> Crowd {
+        let mut crowd = Crowd {
+            payload: vec![0, 0],
+            labels: Vec::new(),
+            macs: Vec::new(),
+        };
+        if types.iter().any(|(kind, _)| *kind >= 7) {
+            crowd.payload.extend([6, 0]);
+        }
+        for (kind, count) in types {
+            let mut left = *count;
+            while left > 0 {
+                let mut value = Vec::new();
+                while left > 0 {
+                    let element = crowd.element(random, *kind);
+                    if value.len() + element.len() > 255 {
+                        break;
+                    }
+                    value.extend(element);
+                    left -= 1;
+                    if *kind == 5 {
+                        break;
+                    }
+                }
+                crowd.payload.extend([*kind, value.len() as u8]);
+                crowd.payload.extend(value);
+            }
+        }
+        crowd
+    }
+
+    fn element(&mut self, random: &mut Random, kind: u8) -> Vec<u8> {
+        let label = random.below(0x100_0000) as u32;
+        let mac = random.below(1 << 48) & !(1 << 40);
+        let three = |number: u32| number.to_be_bytes()[1..].to_vec();
+        let six = |number: u64| number.to_be_bytes()[2..].to_vec();
+        match kind {
+            3 => {
+                let end = (label + random.below(70_000) as u32).min(0xFF_FFFF);
+                self.labels.extend([label, end]);
+                [three(label), three(end)].concat()
+            }
+            4 => {
+                self.labels.push(label);
+                three(label)
+            }
+            5 => {
+                let length = random.length(0, 6);
+                let map = random.bytes(length);
+                self.labels
+                    .extend((0..48).map(|bit| label.saturating_add(bit).min(0xFF_FFFF)));
+                [three(label), map].concat()
+            }
+            7 => {
+                self.macs.push(mac);
+                six(mac)
+            }
+            _ => {
+                let end = (mac + random.below(70_000)).min((1 << 48) - 1);
+                self.macs.extend([mac, end]);
+                [six(mac), six(end)].concat()
+            }
+        }
+    }
+
+    /// A learned record of one of the numbers or of one beside it, or of another.
+    fn record(&self, random: &mut Random, nickname: u16) -> Raw {
+        let label = match self.labels.len() {
+            0 => random.below(0x100_0000) as u32,
+            _ if random.one_in(4) => random.below(0x100_0000) as u32,
+            _ => random
+                .pick(&self.labels)
+                .wrapping_add(random.below(3) as u32)
+                .wrapping_sub(1),
+        };
+        let mac = match self.macs.len() {
+            0 => random.below(1 << 48),
+            _ if random.one_in(4) => random.below(1 << 48),
+            _ => random
+                .pick(&self.macs)
+                .wrapping_add(random.below(3))
+                .wrapping_sub(1),
+        };
+        Raw {
+            state: 1,
+            kind: 1,
+            label: label & 0xFF_FFFF,
+            mac: mac & 0xFEFF_FFFF_FFFF,
+            nickname,
+            confidence: 20,
+            seconds: 300,
+        }
+    }
+}
+
+/// The library prepares areas for as many labels, maps and MACs as a message in a frame can have (docs/DECISIONS.md 50), in three sizes;
+/// what finds no room is looked up in the message. Messages about as long as each area, and longer.
+#[test]
+fn messages_that_find_room_and_messages_that_find_none_clear_what_the_paper_says() {
+    const FITS: &str = "a message that a frame can carry";
+    const LONGER: &str = "a longer message";
+    run::cases(
+        "messages_that_find_room_and_messages_that_find_none_clear_what_the_paper_says",
+        10,
+        &[(67, "flushed")],
+        &[
+            FITS,
+            LONGER,
+            "flushed: 1 cleared",
+            "flushed: 2 to 9 cleared",
+            "flushed: 10 to 999 cleared",
+        ],
+        |random, tally| {
+            let limit = random.pick(&[24, 48, 128, 256, 1536, 3072, 4096]);
+            let near = limit + random.length(0, 6) - 3;
+            let types = match random.below(7) {
+                0 => vec![(3, near)],
+                1 => vec![(4, near)],
+                2 => vec![(5, near)],
+                3 => vec![(7, near)],
+                4 => vec![(8, near)],
+                5 => vec![(4, near / 2), (5, near - near / 2)],
+                _ => vec![(3, near / 3), (5, near / 3), (7, near / 3)],
+            };
+            let crowd = Crowd::new(random, &types);
+            tally.situation(if crowd.payload.len() <= 9_216 {
+                FITS
+            } else {
+                LONGER
+            });
+            let nickname = random.pick(&[0x0001, 0x1234, 0xFFBF]);
+            let slots = random.length(1, 60);
+            let mut table: Vec<u8> = (0..slots)
+                .flat_map(|_| crowd.record(random, nickname).bytes())
+                .collect();
+            let word = compare::flush(random, u32::from(nickname), &crowd.payload, &mut table);
+            count_answer(tally, word);
+        },
+    );
 }
 
 #[test]

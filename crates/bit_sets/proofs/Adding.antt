@@ -8,7 +8,7 @@ use native.Mathlib.Nat.{mod-eq-of-lt}
 use native.Mathlib.Omega.{arith}
 use lib.Dec.{leb, eqb}
 use lib.ListN.{length, take, drop, length-drop}
-use lib.Seq.{drop-drop}
+use lib.Seq.{take-take, drop-drop}
 use borrow.Author.Tests.{le-leb, lt-leb, leb-true, leb-false, eq-eqb, ne-eqb, eqb-true, eqb-false}
 use Rattle.numbers.specs.Tests.{pick, both, either, anyOf, between}
 use Rattle.numbers.specs.Bytes.{num, parts}
@@ -105,6 +105,13 @@ module _ (v s₀ s : List ℕ) (at : ℕ) (g : Going 2 names v s₀ s at) where
       going-next 2 names v s₀ s at g (omega arith) h t (item-near nicknames)
       (gains-same s t (eqb n) (λ x. names x (drop at v)) (λ x. ap (λ (m : ℕ). eqb m x) (sym same)) (one-gains s t n r))
 
+eqb-swap : (a b : ℕ) → eqb a b ≡ eqb b a
+eqb-swap a b = go (eqb b a) refl
+  where
+    go : (c : Bool) → eqb b a ≡ c → eqb a b ≡ eqb b a
+    go true e = let q = eqb-true b a e in rw q
+    go false e = ne-eqb a b (λ q. eqb-false b a e (sym q)) ∙ sym e
+
 module _ (ingress : ℕ) (nicks s : List ℕ) (long : length s ≡ 8192) (none : None s) where
   gained : (t : List ℕ) (p : ℕ → Bool) → Gains s t p → (x : ℕ) → bitAt x t ≡ p x
   unfolding either
@@ -119,18 +126,25 @@ module _ (ingress : ℕ) (nicks s : List ℕ) (long : length s ≡ 8192) (none :
     unfolding nicknameMeant pick
     told-ingress t r =
         let g = one-gains s t ingress r in
-        record { long = g .long ∙ long; each = λ x few. rw (eq-eqb (length nicks) 0 empty) (gained t (eqb ingress) g x ∙ swap ingress x _ refl) }
-      where
-        swap : (a b : ℕ) (c : Bool) → eqb b a ≡ c → eqb a b ≡ eqb b a
-        swap a b true e = let q = eqb-true b a e in rw q
-        swap a b false e = e' a b e
-          where
-            e' : (a b : ℕ) → eqb b a ≡ false → eqb a b ≡ eqb b a
-            e' a b e = ne-eqb a b (λ q. eqb-false b a e (sym q)) ∙ sym e
+        record { long = g .long ∙ long; each = λ x few. rw (eq-eqb (length nicks) 0 empty) (gained t (eqb ingress) g x ∙ eqb-swap ingress x) }
 
     pub told-none : 2 ^ 16 ≤ ingress → NicknamesTold ingress nicks s
     unfolding nicknameMeant pick
     told-none h = record { long = long; each = λ x few. rw (eq-eqb (length nicks) 0 empty) (none x ∙ sym (ne-eqb x ingress (λ e. omega arith))) }
+
+-- ---- one nickname
+
+pub single-ingress : (ingress : ℕ) (nicks : List ℕ) → length nicks ≡ 0 → ingress < 2 ^ 16 → (x : ℕ) → eqb x ingress ≡ nicknameMeant ingress nicks x
+unfolding nicknameMeant pick
+single-ingress ingress nicks h few x = rw (eq-eqb (length nicks) 0 h)
+
+pub single-listed : (ingress : ℕ) (nicks : List ℕ) → length nicks ≡ 2 → (n : ℕ) → n ≡ num (take 2 (drop 0 nicks)) → n < 2 ^ 16 → (x : ℕ) → eqb x n ≡ nicknameMeant ingress nicks x
+unfolding nicknameMeant pick inList anyOf numberOf either
+single-listed ingress nicks h n e few x =
+    let d : length (drop 2 nicks) ≡ length nicks - 2 = length-drop 2 nicks in
+    let same : num (take 2 nicks) % 2 ^ 16 ≡ n = rw (← e) (mod-eq-of-lt few) in
+    rw (ne-eqb (length nicks) 0 (λ z. omega arith), parts-more 2 (omega arith) nicks (omega arith), parts-end 2 (omega arith) (drop 2 nicks) (omega arith), take-take 2 2 nicks (omega arith), same)
+    (eqb-swap x n ∙ sym (either-none (eqb n x)))
 
 -- ---- blocks of VLANs
 

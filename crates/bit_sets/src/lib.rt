@@ -1,8 +1,10 @@
 // The nicknames and the VLANs that a flush payload means, as sets of bits: made once for a message, asked for each record.
-ghost use Prim.Native.Nat.{_+_, _-_, _*_, _^_, _≤_, _<_};
+ghost use Prim.Native.Nat.{ℕ, _+_, _-_, _*_, _^_, _≤_, _<_};
 ghost use mathlib.Core.Path.{_≡_};
+ghost use lib.Dec.{eqb};
 ghost use lib.ListN.{length, drop};
 ghost use Rattle.numbers.specs.Numberings.{atLeast, atMost};
+ghost use Rattle.flush.specs.Meaning.{nicknameMeant};
 ghost use Rattle.bit_sets.specs.Gains.{Gains, None, inNicknames, inVlanBlock, inVlanBlocks, inVlanMap, Edged, vlanInByte, vlanInShifted, NicknamesTold};
 
 // Adds the nicknames of a list.
@@ -30,6 +32,19 @@ pub fn nickname_set(nicks: &[u8], ingress: u32, s: &mut [u8])
     if ingress < 0x1_0000 {
         bits::add_one(s, ingress as usize);
     }
+}
+
+// The one nickname that is meant, where it is one: the only one of a list, or without a list the ingress nickname. Else 0x10000 or more.
+pub fn single_of(nicks: &[u8], ingress: u32) -> u64
+    ensures { λ (r : ℕ). ⌜ (r < 2 ^ 16 → (x : ℕ) → eqb x r ≡ nicknameMeant ingress (now (nicks .entry)) x) ⌝ }
+{
+    if nicks.len() == 0 {
+        return ingress as u64;
+    }
+    if nicks.len() == 2 {
+        return numbers::be2(nicks, 0);
+    }
+    0x1_0000
 }
 
 pub fn at_least(m: u64, n: u64) -> u64

@@ -125,9 +125,9 @@ module _ (s : List ℕ) (i y x : ℕ) where
   unfolding bitAt
   byte-other d = ap (λ (n : ℕ). bitOf n (x % 8)) (getD-set-other s i (x / 8) y 0 d)
 
-pub byte-none : (s : List ℕ) (x : ℕ) → eqb (getD s (x / 8) 0) 0 ≡ true → bitAt x s ≡ false
+pub byte-none : (s : List ℕ) (i : ℕ) → eqb (getD s i 0) 0 ≡ true → (x : ℕ) → i ≡ x / 8 → bitAt x s ≡ false
 unfolding bitAt bitOf
-byte-none s x h = rw (eqb-true (getD s (x / 8) 0) 0 h, zero-div)
+byte-none s i h x e = rw (← e, eqb-true (getD s i 0) 0 h, zero-div)
 
 -- bits added to a byte
 module _ (s : List ℕ) (i m : ℕ) (h : i < length s) (x : ℕ) where

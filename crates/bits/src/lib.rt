@@ -1,5 +1,5 @@
 // Sets of numbers as bits: number x is bit x % 8 of byte x / 8, the high bit first.
-ghost use Prim.Native.Nat.{_+_, _-_, _*_, _/_, _^_, _<_, _≤_};
+ghost use Prim.Native.Nat.{ℕ, _+_, _-_, _*_, _/_, _^_, _<_, _≤_};
 ghost use mathlib.Core.Bool.{true, false};
 ghost use mathlib.Core.Path.{_≡_};
 ghost use lib.Bits.{bitOr};
@@ -16,12 +16,12 @@ pub fn has(s: &[u8], x: u64) -> bool
     (s[(x / 8) as usize] >> (7 - k)) % 2 == 1
 }
 
-// Whether the byte that would hold x is 0: then x is not in the set, and no number near it.
-pub fn none_near(s: &[u8], x: u64) -> bool
-    requires { ⌜ x < 8 * length (now s) ⌝ }
-    ensures { λ r. ⌜ (r ≡ true → bitAt x (now (s .entry)) ≡ false) ⌝ }
+// Whether byte h is 0: then none of its numbers is in the set.
+pub fn none_at(s: &[u8], h: u64) -> bool
+    requires { ⌜ h < length (now s) ⌝ }
+    ensures { λ r. ⌜ (r ≡ true → (x : ℕ) → h ≡ x / 8 → bitAt x (now (s .entry)) ≡ false) ⌝ }
 {
-    s[(x / 8) as usize] == 0
+    s[h as usize] == 0
 }
 
 // Adds the bits of a byte.

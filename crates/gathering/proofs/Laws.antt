@@ -4,19 +4,17 @@ use Prim.{tt}
 use Prim.Native.Nat.{ℕ, suc, _+_, _-_, _*_, _/_, _%_, _^_, _≤_, _<_}
 use mathlib.Core.Bool.{Bool, true, false}
 use mathlib.Core.List.{List, [], _∷_}
-use mathlib.Core.Path.{_≡_, refl, sym, ap, _∙_}
+use mathlib.Core.Path.{_≡_, refl, sym, _∙_}
 use native.Mathlib.Nat.{mod-lt}
 use native.Mathlib.Numerals.{add-one}
 use native.Mathlib.Omega.{arith}
 use lib.Dec.{leb}
-use borrow.Author.Tests.{le-leb, lt-leb}
 use lib.ListN.{length, take, drop, set, length-set, length-drop}
 use lib.Seq.{take-suc-set, getD-set-same, getD-set-other, drop-drop}
 use Rattle.numbers.specs.Tests.{pick, both, either, anyOf, between}
 use Rattle.numbers.specs.Bytes.{num}
 use Rattle.numbers.specs.Numberings.{numberOf, atLeast, atMost, startOf, endOf, inBlock}
 use Rattle.numbers.specs.declared.Numbering.{Numbering}
-use Rattle.numbers.proofs.Truth.{both-left}
 use Rattle.sorting.specs.Sorting.{All}
 use Rattle.sorting.proofs.Laws.{any-append, all-append, either-none, either-assoc}
 use Rattle.ranges.specs.Ranges.{pastOf, holds, covered}
@@ -24,7 +22,7 @@ use Rattle.ranges.proofs.Laws.{all-map}
 use Rattle.flush.proofs.Lists.{parts-end, parts-more}
 use Rattle.sets.proofs.Laws.{Near, item-near, block-near}
 use Rattle.bit_sets.proofs.Adding.{leb-next, one-is}
-use Rattle.gathering.specs.Gathering.{Narrow, spanFor, lowFor, pastFor, hitFor, partsHit, mapSpan, Own, Grown}
+use Rattle.gathering.specs.Gathering.{Narrow, spanFor, lowFor, pastFor, hitFor, partsHit, Own, Grown}
 
 -- ---- a part means an interval
 
@@ -180,33 +178,3 @@ module _ (t : Bool) (w : Numbering) (v keys₀ past₀ : List ℕ) (n₀ : ℕ) 
                 ∙ rw (parts-more (spanFor t w) (omega arith) (drop at v) (omega arith), hit-near t w x (drop at v) (omega arith), hit-is t w x (drop at v), ← es, ← ee, ← span, drop-drop k at v, put-covers keys past n s e (a .own) hk hp (omega arith) x)
                 (sym (either-assoc (covered past x (take n keys)) (both (leb s x) (leb (suc x) e)) _));
           })
-
--- ---- a bit map's span
-
-module _ (w : Numbering) (v keys past : List ℕ) (n : ℕ) (own : Own n keys) where
-  pub span-none : length v < w .size → n ≤ length keys → Grown (mapSpan w v) keys past n keys past n
-  unfolding mapSpan
-  span-none h within = record {
-    own = own;
-    within = within;
-    same-keys = refl;
-    same-past = refl;
-    means = λ x. sym (ap (either (covered past x (take n keys))) (both-left _ _ (lt-leb (w .size) (length v) h)) ∙ either-none (covered past x (take n keys)));
-  }
-
-  pub span-put : w .size ≤ length v → (n ≡ length keys → ⊥) → n ≤ length keys → length keys ≤ 4096 → length past ≡ length keys → (s : ℕ) → s ≡ numberOf w (drop 0 v)
-      → (u q : List ℕ) → u ≡ set keys n (s * 4096 + n) → q ≡ set past n (s + 8 * (length v - w .size)) → Grown (mapSpan w v) keys past n u q (n + 1)
-  unfolding mapSpan both
-  span-put h left within few same s es u q eu eq =
-      let e : ℕ = s + 8 * (length v - w .size) in
-      let hk : n < length keys = omega arith in
-      let hp : n < length past = omega arith in
-      let lk : length (set keys n (s * 4096 + n)) ≡ length keys = length-set keys n (s * 4096 + n) in
-      rw (eu, eq)
-      (record {
-        own = put-own keys past n s e own hk hp (omega arith);
-        within = omega arith;
-        same-keys = lk;
-        same-past = length-set past n e;
-        means = λ x. put-covers keys past n s e own hk hp (omega arith) x ∙ rw (le-leb (w .size) (length v) h, es);
-      })

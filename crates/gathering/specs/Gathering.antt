@@ -1,12 +1,12 @@
 -- Blocks and single numbers of a payload, gathered as intervals.
 -- Assumes nothing.
-use Prim.Native.Nat.{ℕ, suc, _+_, _-_, _*_, _%_, _^_, _≤_, _<_}
+use Prim.Native.Nat.{ℕ, _+_, _-_, _*_, _%_, _^_, _≤_, _<_}
 use mathlib.Core.Bool.{Bool, true, false}
 use mathlib.Core.List.{List}
 use mathlib.Core.Path.{_≡_}
-use lib.Dec.{leb, eqb}
+use lib.Dec.{eqb}
 use lib.ListN.{length, take}
-use Rattle.numbers.specs.Tests.{both, either, anyOf}
+use Rattle.numbers.specs.Tests.{either, anyOf}
 use Rattle.numbers.specs.Bytes.{parts}
 use Rattle.numbers.specs.Numberings.{numberOf, startOf, endOf, inBlock}
 use Rattle.numbers.specs.declared.Numbering.{Numbering}
@@ -42,12 +42,6 @@ hitFor false w x b = eqb (numberOf w b) x
 -- x is of some part of the value
 unfoldable pub partsHit : Bool → Numbering → List ℕ → ℕ → Bool
 partsHit block w v x = anyOf (hitFor block w x) (parts (spanFor block w) v)
-
--- x is a number that the bit map of the value has a bit for
-unfoldable pub mapSpan : Numbering → List ℕ → ℕ → Bool
-mapSpan w v x =
-    both (leb (w .size) (length v))
-    (both (leb (numberOf w v) x) (leb (suc x) (numberOf w v + 8 * (length v - w .size))))
 
 -- the first n intervals have their ends at the first n places
 abbrev pub Own : ℕ → List ℕ → Type 0

@@ -2,7 +2,7 @@
 ghost use Prim.Native.Nat.{ℕ, _+_, _*_, _^_, _<_, _≤_};
 ghost use mathlib.Core.Path.{_≡_};
 ghost use lib.ListN.{length, drop, set};
-ghost use Rattle.gathering.specs.Gathering.{Narrow, spanFor, lowFor, pastFor, partsHit, mapSpan, Own, Grown};
+ghost use Rattle.gathering.specs.Gathering.{Narrow, spanFor, lowFor, pastFor, partsHit, Own, Grown};
 use numbers::Numbering;
 
 // How many bytes a part takes: a block, or a number alone.
@@ -75,25 +75,4 @@ pub fn add_parts(
         at += k;
     }
     m
-}
-
-// Gathers the numbers that a bit map has bits for, set or not, as one interval behind the first n.
-pub fn add_map_span(v: &[u8], w: Numbering, keys: &mut [u64], past: &mut [u64], n: usize) -> usize
-    requires { ⌜ Narrow w × ((n ≤ length (now keys)) × ((length (now keys) ≤ 4096) × ((length (now past) ≡ length (now keys)) × Own n (now keys)))) ⌝ }
-    ensures { λ (r : ℕ). ⌜ (r ≤ 4096 → Grown (mapSpan w (now (v .entry))) (now (keys .entry)) (now (past .entry)) n (now (keys .exit)) (now (past .exit)) r) ⌝ }
-{
-    let size = w.size;
-    if v.len() < size {
-        return n;
-    }
-    if n == keys.len() {
-        return 4097;
-    }
-    if 0x1_0000 < v.len() {
-        return 4097;
-    }
-    let s = sets::number_at(v, 0, w);
-    let bits = 8 * (v.len() - size);
-    put(keys, past, n, s, s + bits as u64);
-    n + 1
 }

@@ -1,34 +1,38 @@
 -- Laws of preparing VLANs: what a TLV adds, a walk in which what was added and what is left make up the whole, and the whole.
 -- Assumes nothing.
-use Prim.Native.Nat.{ℕ, suc, _+_, _-_, _*_, _^_, _<_, _≤_}
+use Prim.Native.Nat.{ℕ, _+_, _-_, _*_, _/_, _^_, _<_, _≤_}
 use mathlib.Core.Bool.{Bool, true, false}
-use mathlib.Core.List.{List, [], _∷_}
+use mathlib.Core.List.{List, [], _∷_, _++_, append-nil}
 use mathlib.Core.Path.{_≡_, refl, sym, ap, _∙_}
 use native.Mathlib.Decide.{ℕ-discrete}
 use native.Mathlib.Nat.{add-zero}
 use native.Mathlib.Omega.{arith}
-use lib.Dec.{leb, eqb}
-use lib.ListN.{length, take, drop, getD, length-drop}
-use lib.Seq.{drop-drop, getD-drop}
-use borrow.Author.Tests.{leb-false, eq-eqb, ne-eqb}
+use lib.Dec.{eqb}
+use lib.ListN.{length, take, drop, getD, length-drop, length-append, drop-of-length-le}
+use lib.Seq.{drop-drop, getD-drop, length-take-le, take-at, drop-at}
+use borrow.Author.Tests.{eq-eqb, ne-eqb, eqb-true}
 use Rattle.numbers.specs.Tests.{pick, both, either, anyOf}
-use Rattle.numbers.specs.Numberings.{vlans, fines, macs, numberOf, inBlocks, inList, inMap, bitAt}
-use Rattle.numbers.proofs.Widths.{bit-past, maps-hold}
+use Rattle.numbers.specs.Numberings.{vlans, fines, macs, inBlocks, inList, bitAt}
+use Rattle.numbers.proofs.Widths.{bit-past}
 use Rattle.table.specs.Record.{labelFrom}
 use Rattle.table.specs.declared.Label.the-variants.{Vlan, Fine}
 use Rattle.flush.specs.Payload.{everyType, Piece, tlv, block, stump, tlvEnd, tlvs, piecesOf}
-use Rattle.flush.specs.Meaning.{vlanIn, fineIn, macIn, bringsLabel, bringsMac, labelMeant, macMeant}
-use Rattle.flush.proofs.Lists.{false-true}
+use Rattle.flush.specs.Meaning.{vlanIn, macIn, bringsLabel, bringsMac, labelMeant, macMeant}
 use Rattle.flush.proofs.Validity.{tlvs-end, tlvs-stump, tlvs-more}
-use Rattle.sets.proofs.Laws.{map-short}
 use Rattle.tlvs.proofs.Laws.{label-vlan, label-fine}
 use Rattle.payloads.proofs.Laws.{of-tlvs, none-brought, blocks-vlan}
 use Rattle.sorting.specs.Sorting.{Sorted}
+use Rattle.sorting.proofs.Parts.{rest-is}
 use Rattle.bit_sets.specs.Gains.{Gains, None, inVlanBlock, inVlanBlocks, inVlanMap}
 use Rattle.bit_sets.proofs.Adding.{either-none, either-assoc, gains-none, gains-same}
-use Rattle.gathering.specs.Gathering.{mapSpan}
 use Rattle.spans.specs.Spans.{spanIn, spansOf, Told}
-use Rattle.plans.specs.Plans.{isType, vlansIn, vlansOf, VlansTold, finesOf, macsOf, FinesTold, MacsTold}
+use Rattle.plans.specs.Plans.{isType, vlansIn, vlansOf, VlansTold, finesOf, macsOf, FinesReady, FinesTold, MacsTold}
+use Rattle.plans.specs.declared.Fines.{Fines}
+use Rattle.sieves.specs.Sieves.{spotOf, Keeps, Sieved}
+use Rattle.map_words.specs.Words.{mapIn, mapsOf, marks, inWord, marked, WordsTold}
+use Rattle.map_words.proofs.Apart.{fine-apart, labels-apart}
+use Rattle.numbers.proofs.Truth.{both-true}
+use Rattle.sieves.proofs.Laws.{not-marked}
 
 -- ---- types
 
@@ -158,104 +162,44 @@ module _ (every : Bool) (s : List ℕ) (x : ℕ) where
 
 -- ---- fine-grained labels
 
--- a map brings only what it has bits for
-map-within : (x : ℕ) (v : List ℕ) → mapSpan fines v x ≡ false → inMap fines x v ≡ false
-unfolding mapSpan both
-map-within x v h = go (leb 3 (length v)) (leb (numberOf fines v) x) (leb (suc x) (numberOf fines v + 8 * (length v - 3))) refl refl refl h
-  where
-    go : (a b c : Bool) → leb 3 (length v) ≡ a → leb (numberOf fines v) x ≡ b → leb (suc x) (numberOf fines v + 8 * (length v - 3)) ≡ c → both a (both b c) ≡ false → inMap fines x v ≡ false
-    go false b c p q r e = sym (map-short fines x v (leb-false 3 (length v) p))
-    go true false c p q r e = maps-hold .every fines v .none-before x (leb-false (numberOf fines v) x q)
-    go true true false p q r e =
-        let d : length (drop 3 v) ≡ length v - 3 = length-drop 3 v in
-        let g = leb-false (suc x) (numberOf fines v + 8 * (length v - 3)) r in
-        maps-hold .every fines v .none-behind x (omega arith)
-    go true true true p q r e = false-true (sym e)
+-- a piece brings a label as type 6, in a block or a list, or in a map
+piece-apart : (x : ℕ) (p : Piece) → bringsLabel everyType (Fine x) p ≡ either (isType 6 p) (either (spanIn 3 4 fines p x) (mapIn p x))
+unfolding bringsLabel isType spanIn mapIn both either
+piece-apart x (tlv k v) = fine-apart x k v
+piece-apart x (block b) = refl
+piece-apart x stump = refl
 
-module _ (x k : ℕ) (v : List ℕ) where
-  -- no interval of the TLV has it: only type 6 brings it
-  tlv-none : Dec (k ≡ 3) → Dec (k ≡ 4) → Dec (k ≡ 5) → spanIn 3 4 5 fines (tlv k v) x ≡ false → fineIn x k v ≡ eqb k 6
-  unfolding fineIn spanIn pick
-  tlv-none (yes e) q r h = rw e (rw e at h)
-  tlv-none (no d) (yes e) r h = rw e (rw e at h)
-  tlv-none (no d) (no e) (yes f) h = rw f (map-within x v (rw f at h))
-  tlv-none (no d) (no e) (no f) h = rw (ne-eqb k 3 d, ne-eqb k 4 e, ne-eqb k 5 f) (pick-self (eqb k 6))
-    where
-      pick-self : (b : Bool) → pick b true false ≡ b
-      pick-self true = refl
-      pick-self false = refl
+fines-apart : (x : ℕ) (ps : List Piece) → labelMeant everyType ps (Fine x) ≡ either (anyOf (isType 6) ps) (either (finesOf ps x) (mapsOf ps x))
+unfolding spansOf
+fines-apart x ps = labels-apart x (isType 6) (spanIn 3 4 fines) (piece-apart x) ps
 
-  -- the TLV is no map
-  tlv-exact : Dec (k ≡ 3) → Dec (k ≡ 4) → eqb k 5 ≡ false → fineIn x k v ≡ either (eqb k 6) (spanIn 3 4 5 fines (tlv k v) x)
-  unfolding fineIn spanIn pick either
-  tlv-exact (yes e) q h = rw e
-  tlv-exact (no d) (yes e) h = rw e
-  tlv-exact (no d) (no e) h = rw (ne-eqb k 3 d, ne-eqb k 4 e, h) (pick-either (eqb k 6) false)
-
--- and so a piece, and all of them
-piece-none : (x : ℕ) (p : Piece) → spanIn 3 4 5 fines p x ≡ false → bringsLabel everyType (Fine x) p ≡ isType 6 p
-unfolding bringsLabel isType both
-piece-none x (tlv k v) h = tlv-none x k v (ℕ-discrete k 3) (ℕ-discrete k 4) (ℕ-discrete k 5) h
-piece-none x (block b) h = refl
-piece-none x stump h = refl
-
-piece-exact : (x : ℕ) (p : Piece) → isType 5 p ≡ false → bringsLabel everyType (Fine x) p ≡ either (isType 6 p) (spanIn 3 4 5 fines p x)
-unfolding bringsLabel isType spanIn both either
-piece-exact x (tlv k v) h = tlv-exact x k v (ℕ-discrete k 3) (ℕ-discrete k 4) h
-piece-exact x (block b) h = refl
-piece-exact x stump h = refl
-
-piece-six : (x : ℕ) (p : Piece) → isType 6 p ≡ true → bringsLabel everyType (Fine x) p ≡ true
-unfolding bringsLabel isType fineIn both pick
-piece-six x (tlv k v) h = rw h
-piece-six x (block b) h = false-true h
-piece-six x stump h = false-true h
-
-neither : (a b : Bool) → either a b ≡ false → (a ≡ false) × (b ≡ false)
-unfolding either
-neither true b h = (h, false-true (sym h))
-neither false b h = (refl, h)
-
-second-true : (a b : Bool) → b ≡ true → either a b ≡ true
-unfolding either
-second-true true b h = refl
-second-true false b h = h
-
-fines-none : (x : ℕ) (ps : List Piece) → finesOf ps x ≡ false → labelMeant everyType ps (Fine x) ≡ anyOf (isType 6) ps
-unfolding labelMeant spansOf anyOf
-fines-none x [] h = refl
-fines-none x (p ∷ ps) h =
-    let n = neither (spanIn 3 4 5 fines p x) (finesOf ps x) h in
-    rw (piece-none x p (n .0), fines-none x ps (n .1))
-
-fines-exact : (x : ℕ) (ps : List Piece) → anyOf (isType 5) ps ≡ false → labelMeant everyType ps (Fine x) ≡ either (anyOf (isType 6) ps) (finesOf ps x)
-unfolding labelMeant spansOf anyOf either
-fines-exact x [] h = refl
-fines-exact x (p ∷ ps) h =
-    let n = neither (isType 5 p) (anyOf (isType 5) ps) h in
-    rw (piece-exact x p (n .0), fines-exact x ps (n .1))
-    (either-swap (isType 6 p) (spanIn 3 4 5 fines p x) (anyOf (isType 6) ps) (finesOf ps x))
-
-fines-six : (x : ℕ) (ps : List Piece) → anyOf (isType 6) ps ≡ true → labelMeant everyType ps (Fine x) ≡ true
-unfolding labelMeant anyOf either
-fines-six x [] h = false-true h
-fines-six x (p ∷ ps) h = go (isType 6 p) refl (fines-six x ps) h
-  where
-    go : (a : Bool) → isType 6 p ≡ a → (anyOf (isType 6) ps ≡ true → labelMeant everyType ps (Fine x) ≡ true) → either a (anyOf (isType 6) ps) ≡ true → either (bringsLabel everyType (Fine x) p) (labelMeant everyType ps (Fine x)) ≡ true
-    go true e f q = rw (piece-six x p e)
-    go false e f q = second-true (bringsLabel everyType (Fine x) p) (labelMeant everyType ps (Fine x)) (f q)
-
-module _ (ps : List Piece) (every maps : Bool) (keys tops : List ℕ) (n x : ℕ) (t : FinesTold ps every maps keys tops n) where
+module _ (ps : List Piece) (every : Bool) (keys tops sieve : List ℕ) (fs : Fines) (x : ℕ) (t : FinesTold ps every keys tops sieve fs) where
   pub fine-every : every ≡ true → true ≡ labelMeant everyType ps (Fine x)
-  fine-every h = sym (fines-six x ps (sym (t .all) ∙ h))
+  unfolding either
+  fine-every h = sym (fines-apart x ps ∙ rw (← t .all, h))
 
-  module _ (some : every ≡ false) (few : n ≤ 4096) (r : Bool) (told : (q : ℕ → Bool) → Told q keys tops n → r ≡ q x) where
-    pub fine-missed : r ≡ false → false ≡ labelMeant everyType ps (Fine x)
-    fine-missed h = sym (fines-none x ps (sym (told (finesOf ps) (t .spans few)) ∙ h) ∙ sym (t .all) ∙ some)
-
-    pub fine-hit : r ≡ true → maps ≡ false → true ≡ labelMeant everyType ps (Fine x)
+  module _ (some : every ≡ false) (few : fs .words ≤ 4096) where
+    by-both : labelMeant everyType ps (Fine x) ≡ either (finesOf ps x) (mapsOf ps x)
     unfolding either
-    fine-hit h m = sym (fines-exact x ps (sym (t .mapped) ∙ m) ∙ rw (← t .all, some, ← told (finesOf ps) (t .spans few), h))
+    by-both = fines-apart x ps ∙ rw (← t .all, some)
+
+    pub fine-unmarked : bitAt (spotOf x) sieve ≡ false → false ≡ labelMeant everyType ps (Fine x)
+    unfolding either
+    fine-unmarked h =
+        let r = t .told few in
+        sym (by-both ∙ rw (not-marked (finesOf ps) sieve (r .marks) x h, not-marked (mapsOf ps) sieve (r .word-marks) x h))
+
+    module _ (a : Bool) (asked : (q : ℕ → Bool) → Told q keys tops (fs .spans) → a ≡ q x) where
+      span-told : finesOf ps x ≡ a
+      span-told = sym (asked (finesOf ps) (t .told few .spans))
+
+      pub fine-spanned : a ≡ true → true ≡ labelMeant everyType ps (Fine x)
+      unfolding either
+      fine-spanned h = sym (by-both ∙ rw (span-told, h))
+
+      pub fine-mapped : a ≡ false → (b : Bool) → ((q : ℕ → Bool) → WordsTold q (drop (fs .spans) keys) (fs .words) → b ≡ q x) → b ≡ labelMeant everyType ps (Fine x)
+      unfolding either
+      fine-mapped h b told = told (mapsOf ps) (t .told few .words) ∙ sym (by-both ∙ rw (span-told, h))
 
 pub fine-walked : (ps : List Piece) (x : ℕ) (b : Bool) → b ≡ labelMeant everyType ps (labelFrom 1 x) → b ≡ labelMeant everyType ps (Fine x)
 fine-walked ps x b e = e ∙ ap (labelMeant everyType ps) (label-fine 1 x (λ z. omega arith))
@@ -270,18 +214,13 @@ by-fine ps kind x b e h = rw (label-fine kind x h) e
 
 -- ---- MACs
 
-pick-twice : (a x y : Bool) → pick a x false ≡ pick a x (pick a y false)
-unfolding pick
-pick-twice true x y = refl
-pick-twice false x y = refl
-
-mac-is : (m : ℕ) (p : Piece) → bringsMac everyType m p ≡ spanIn 8 7 8 macs p m
+mac-is : (m : ℕ) (p : Piece) → bringsMac everyType m p ≡ spanIn 8 7 macs p m
 unfolding bringsMac macIn spanIn both pick
 mac-is m (tlv k v) = go (ℕ-discrete k 7)
   where
-    go : Dec (k ≡ 7) → pick (eqb k 7) (inList macs m v) (pick (eqb k 8) (inBlocks macs m v) false) ≡ pick (eqb k 8) (inBlocks macs m v) (pick (eqb k 7) (inList macs m v) (pick (eqb k 8) (mapSpan macs v m) false))
+    go : Dec (k ≡ 7) → pick (eqb k 7) (inList macs m v) (pick (eqb k 8) (inBlocks macs m v) false) ≡ pick (eqb k 8) (inBlocks macs m v) (pick (eqb k 7) (inList macs m v) false)
     go (yes e) = rw e
-    go (no d) = rw (ne-eqb k 7 d) (pick-twice (eqb k 8) (inBlocks macs m v) (mapSpan macs v m))
+    go (no d) = rw (ne-eqb k 7 d)
 mac-is m (block b) = refl
 mac-is m stump = refl
 
@@ -290,16 +229,76 @@ unfolding spansOf anyOf
 macs-are m [] = refl
 macs-are m (p ∷ ps) = rw (mac-is m p, macs-are m ps)
 
-module _ (ps : List Piece) (gathered : Bool) (keys tops : List ℕ) (n m : ℕ) (t : MacsTold ps gathered keys tops n) where
+module _ (ps : List Piece) (gathered : Bool) (keys tops sieve : List ℕ) (n m : ℕ) (t : MacsTold ps gathered keys tops sieve n) where
   pub mac-every : gathered ≡ false → true ≡ macMeant everyType ps m
   unfolding macMeant either
   mac-every h = sym (rw (← t .some, h))
 
-  pub mac-asked : gathered ≡ true → n ≤ 4096 → (r : Bool) → ((q : ℕ → Bool) → Told q keys tops n → r ≡ q m) → r ≡ macMeant everyType ps m
-  unfolding macMeant either
-  mac-asked h few r told = rw (← t .some, h) (told (macsOf ps) (t .spans few) ∙ sym (macs-are m ps))
+  module _ (some : gathered ≡ true) (few : n ≤ 4096) where
+    pub mac-unmarked : bitAt (spotOf m) sieve ≡ false → false ≡ macMeant everyType ps m
+    unfolding macMeant either
+    mac-unmarked h = rw (← t .some, some) (sym (macs-are m ps ∙ not-marked (macsOf ps) sieve (t .told few .marks) m h))
+
+    pub mac-asked : (r : Bool) → ((q : ℕ → Bool) → Told q keys tops n → r ≡ q m) → r ≡ macMeant everyType ps m
+    unfolding macMeant either
+    mac-asked r told = rw (← t .some, some) (told (macsOf ps) (t .told few .spans) ∙ sym (macs-are m ps))
+
+-- ---- words
+
+-- what a word has is marked
+pub word-marked : (v : ℕ) (u : List ℕ) → ((x : ℕ) → v / 2 ^ 36 ≡ x / 512 → bitAt (spotOf x) u ≡ true) → (x : ℕ) → marks x v ≡ true → bitAt (spotOf x) u ≡ true
+unfolding marks inWord
+word-marked v u told x h =
+    let e = eqb-true (v / 2 ^ 32) (x / 32) (both-true _ _ h .0) in
+    told x (omega arith)
+
+pub words-sieved : (keys s₀ u : List ℕ) → Keeps s₀ u × Sieved (λ x. anyOf (marks x) keys) u → Keeps s₀ u × Sieved (λ x. marked x keys) u
+unfolding marked
+words-sieved keys s₀ u g = g
+
+pub words-told : (ps : List Piece) (keys : List ℕ) (m : ℕ) (s u : List ℕ) → WordsTold (mapsOf ps) keys m → Keeps s u × Sieved (λ x. marked x (take m keys)) u → WordsTold (mapsOf ps) keys m × Sieved (mapsOf ps) u
+words-told ps keys m s u w g = (w, record { long = g .1 .long; each = λ x h. g .1 .each x (sym (w .means x) ∙ h) })
+
+-- ---- the intervals, and the words behind them
+
+keeps-sieved : (q : ℕ → Bool) (s u : List ℕ) → Keeps s u → Sieved q s → Sieved q u
+keeps-sieved q s u k g = record { long = k .long ∙ g .long; each = λ x h. k .kept (spotOf x) (g .each x h) }
+
+-- what stands behind the intervals does not bear on them: a part that is lent and comes back as w
+module _ (keys : List ℕ) (n : ℕ) (h : n ≤ length keys) (w : List ℕ) (e : length w ≡ length (take (length keys - n) (drop n keys))) where
+  abbrev whole : List ℕ
+  whole = take n keys ++ (w ++ drop (length keys - n) (drop n keys))
+
+  back-is : whole ≡ take n keys ++ w
+  back-is =
+      let d : length (drop n keys) ≡ length keys - n = length-drop n keys in
+      rw (drop-of-length-le (drop n keys) {i = length keys - n} (omega arith), append-nil w)
+
+  pub front-stays : take n whole ≡ take n keys
+  front-stays = rw back-is (take-at (take n keys) w n (length-take-le n keys h))
+
+  pub behind-is : drop n whole ≡ w
+  behind-is = rw back-is (drop-at (take n keys) w n (length-take-le n keys h))
+
+  whole-long : length whole ≡ length keys
+  whole-long = rw (back-is, length-append (take n keys) w, e, rest-is n keys, length-take-le n keys h, length-drop n keys) (omega arith)
+
+  pub fines-ready : (ps : List Piece) (tops s u : List ℕ) (m : ℕ) → Told (finesOf ps) keys tops n × Sieved (finesOf ps) s → Keeps s u → WordsTold (mapsOf ps) w m × Sieved (mapsOf ps) u → FinesReady ps whole tops u n m
+  fines-ready ps tops s u m a k b = record {
+    spans = record { within = rw whole-long (a .0 .within); room = a .0 .room; sorted = rw front-stays (a .0 .sorted); ready = rw front-stays (a .0 .ready) };
+    marks = keeps-sieved (finesOf ps) s u k (a .1);
+    words = rw behind-is (b .0);
+    word-marks = b .1;
+  }
 
 -- ---- the intervals may be asked
 
 pub may-ask : (q : ℕ → Bool) (keys tops : List ℕ) (n x : ℕ) → Told q keys tops n → x < 2 ^ 48 → ((n ≤ length keys) × (n + 1 ≤ length tops)) × (Sorted (take n keys) × (x < 2 ^ 48))
 may-ask q keys tops n x t h = ((t .within, t .room), (t .sorted, h))
+
+pub may-ask-words : (q : ℕ → Bool) (keys : List ℕ) (n m x : ℕ) → WordsTold q (drop n keys) m → x < 2 ^ 24
+    → (m ≤ length (take (length keys - n) (drop n keys))) × (Sorted (take m (take (length keys - n) (drop n keys))) × (x < 2 ^ 32))
+may-ask-words q keys n m x w h = rw (rest-is n keys) (w .within, (w .sorted, omega arith))
+
+pub asked-behind : (keys : List ℕ) (n m x : ℕ) (b : Bool) → ((q : ℕ → Bool) → WordsTold q (take (length keys - n) (drop n keys)) m → b ≡ q x) → (q : ℕ → Bool) → WordsTold q (drop n keys) m → b ≡ q x
+asked-behind keys n m x b told = rw (rest-is n keys) at told

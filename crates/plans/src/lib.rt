@@ -9,10 +9,18 @@ ghost use Rattle.table.specs.Record.{labelFrom};
 ghost use Rattle.table.specs.declared.Label.the-variants.{Vlan, Fine};
 ghost use Rattle.flush.specs.Payload.{everyType, Piece, tlv, tlvs, blockBytes, piecesOf};
 ghost use Rattle.flush.specs.Meaning.{labelMeant, macMeant};
+ghost use Rattle.sieves.specs.Sieves.{sieveBytes, Keeps, Sieved};
+ghost use Rattle.map_words.specs.Words.{mapsOf, marked, WordsTold};
 ghost use Rattle.bit_sets.specs.Gains.{Gains, None};
-ghost use Rattle.spans.specs.Spans.{Told};
-ghost use Rattle.plans.specs.Plans.{isType, vlansIn, vlansOf, VlansTold, finesOf, macsOf, FinesTold, MacsTold};
+ghost use Rattle.plans.specs.Plans.{isType, vlansIn, vlansOf, VlansTold, Areas, FinesReady, FinesTold, MacsReady, MacsTold};
 use numbers::Numbering;
+
+// How many intervals tell the fine-grained labels in blocks and lists, and how many words, behind them, those in bit maps. 4097 words
+// say that one of the two found no room.
+pub struct Fines {
+    pub spans: usize,
+    pub words: usize,
+}
 
 // Whether a TLV is of a type.
 fn is_type(k: u8, v: &[u8], t: u8) -> bool
@@ -40,7 +48,7 @@ fn some_type(l: &[u8], t: u8) -> bool
     false
 }
 
-// Whether some piece behind K-VLBs is a TLV of a type: type 6 means every label, type 5 is a map of fine-grained labels.
+// Whether some piece behind K-VLBs is a TLV of a type: type 6 means every label.
 pub fn has_type(rest: &[u8], blocks: usize, t: u8) -> bool
     ensures { λ r. ⌜ r ≡ anyOf (isType t) (piecesOf blocks (now (rest .entry))) ⌝ }
 {
@@ -94,16 +102,48 @@ pub fn vlan_set(rest: &[u8], blocks: usize, every: bool, s: &mut [u8])
     bit_sets::add_blocks(&rest[..e], s);
 }
 
-// The fine-grained labels in blocks and lists, and those that maps have bits for, as intervals.
+// Marks the labels of words in the sieve: the 32 labels of a word lie in one stretch.
+fn mark_words(keys: &[u64], sieve: &mut [u8])
+    requires { ⌜ length (now sieve) ≡ sieveBytes ⌝ }
+    ensures { λ _. ⌜ Keeps (now (sieve .entry)) (now (sieve .exit)) × Sieved (λ x. marked x (now (keys .entry))) (now (sieve .exit)) ⌝ }
+{
+    let mut i = 0;
+    while i < keys.len() {
+        sieves::mark_stretch(keys[i] / 0x10_0000_0000, sieve);
+        i += 1;
+    }
+}
+
+// The fine-grained labels in bit maps, as words. What the sieve had marked stays.
+fn word_plan(
+    rest: &[u8],
+    blocks: usize,
+    keys: &mut [u64],
+    work: &mut [u64],
+    sieve: &mut [u8],
+) -> usize
+    requires { ⌜ ((length (now keys) ≤ 4096) × (length (now keys) ≤ length (now work))) × (length (now sieve) ≡ sieveBytes) ⌝ }
+    ensures { λ (r : ℕ). ⌜ Keeps (now (sieve .entry)) (now (sieve .exit)) × (r ≤ 4096 → WordsTold (mapsOf (piecesOf blocks (now (rest .entry)))) (now (keys .exit)) r × Sieved (mapsOf (piecesOf blocks (now (rest .entry)))) (now (sieve .exit))) ⌝ }
+{
+    let m = map_words::word_set(rest, blocks, keys, work);
+    if keys.len() < m {
+        return 4097;
+    }
+    mark_words(&keys[..m], sieve);
+    m
+}
+
+// The fine-grained labels: blocks and lists as intervals, and behind them bit maps as words.
 pub fn fine_plan(
     rest: &[u8],
     blocks: usize,
     keys: &mut [u64],
     past: &mut [u64],
     tops: &mut [u64],
-) -> usize
-    requires { ⌜ (length (now keys) ≤ 4096) × ((length (now past) ≡ length (now keys)) × (length (now tops) ≡ length (now keys) + 1)) ⌝ }
-    ensures { λ (r : ℕ). ⌜ (r ≤ 4096 → Told (finesOf (piecesOf blocks (now (rest .entry)))) (now (keys .exit)) (now (tops .exit)) r) ⌝ }
+    sieve: &mut [u8],
+) -> Fines
+    requires { ⌜ Areas (now keys) (now past) (now tops) (now sieve) ⌝ }
+    ensures { λ r. ⌜ (r .words ≤ 4096 → FinesReady (piecesOf blocks (now (rest .entry))) (now (keys .exit)) (now (tops .exit)) (now (sieve .exit)) (r .spans) (r .words)) ⌝ }
 {
     let w = Numbering {
         size: 3,
@@ -111,7 +151,15 @@ pub fn fine_plan(
         low: 0,
         high: 0xff_ffff,
     };
-    spans::span_set(rest, blocks, 3, 4, 5, w, keys, past, tops)
+    let n = spans::span_set(rest, blocks, 3, 4, w, keys, past, tops, sieve);
+    if keys.len() < n {
+        return Fines {
+            spans: n,
+            words: 4097,
+        };
+    }
+    let m = word_plan(rest, blocks, &mut keys[n..], past, sieve);
+    Fines { spans: n, words: m }
 }
 
 // The MACs, as intervals.
@@ -121,9 +169,10 @@ pub fn mac_plan(
     keys: &mut [u64],
     past: &mut [u64],
     tops: &mut [u64],
+    sieve: &mut [u8],
 ) -> usize
-    requires { ⌜ (length (now keys) ≤ 4096) × ((length (now past) ≡ length (now keys)) × (length (now tops) ≡ length (now keys) + 1)) ⌝ }
-    ensures { λ (r : ℕ). ⌜ (r ≤ 4096 → Told (macsOf (piecesOf blocks (now (rest .entry)))) (now (keys .exit)) (now (tops .exit)) r) ⌝ }
+    requires { ⌜ Areas (now keys) (now past) (now tops) (now sieve) ⌝ }
+    ensures { λ (r : ℕ). ⌜ (r ≤ 4096 → MacsReady (piecesOf blocks (now (rest .entry))) (now (keys .exit)) (now (tops .exit)) (now (sieve .exit)) r) ⌝ }
 {
     let w = Numbering {
         size: 6,
@@ -131,7 +180,7 @@ pub fn mac_plan(
         low: 0,
         high: 0xffff_ffff_ffff,
     };
-    spans::span_set(rest, blocks, 8, 7, 8, w, keys, past, tops)
+    spans::span_set(rest, blocks, 8, 7, w, keys, past, tops, sieve)
 }
 
 // Whether a VLAN is meant: by its bit.
@@ -148,32 +197,35 @@ fn vlan_meant(every: bool, vlans: &[u8], x: u64) -> bool
     bits::has(vlans, x)
 }
 
-// Whether a fine-grained label is meant: by the intervals; by a walk where it lies in one and there are maps, or where they found no room.
+// Whether a fine-grained label is meant: by the sieve, the intervals and the words; by a walk where they found no room.
 fn fine_meant(
     rest: &[u8],
     blocks: usize,
     every: bool,
-    maps: bool,
     keys: &[u64],
     tops: &[u64],
-    n: usize,
+    sieve: &[u8],
+    fines: Fines,
     x: u64,
 ) -> bool
-    requires { ⌜ ((blockBytes * blocks ≤ length (now rest)) × (x < 2 ^ 48)) × FinesTold (piecesOf blocks (now rest)) every maps (now keys) (now tops) n ⌝ }
+    requires { ⌜ ((blockBytes * blocks ≤ length (now rest)) × (x < 2 ^ 24)) × FinesTold (piecesOf blocks (now rest)) every (now keys) (now tops) (now sieve) fines ⌝ }
     ensures { λ r. ⌜ r ≡ labelMeant everyType (piecesOf blocks (now (rest .entry))) (Fine x) ⌝ }
 {
     if every {
         return true;
     }
-    if n <= 4096 {
-        if !spans::asks(keys, tops, n, x) {
-            return false;
-        }
-        if !maps {
-            return true;
-        }
+    let n = fines.spans;
+    let m = fines.words;
+    if 4096 < m {
+        return payloads::label_meant(rest, blocks, 1, x);
     }
-    payloads::label_meant(rest, blocks, 1, x)
+    if !sieves::may_have(sieve, x) {
+        return false;
+    }
+    if spans::asks(keys, tops, n, x) {
+        return true;
+    }
+    map_words::has_label(&keys[n..], m, x)
 }
 
 // Whether a label is meant, which is given by its kind and its number.
@@ -182,40 +234,44 @@ pub fn label_meant(
     blocks: usize,
     every: bool,
     vlans: &[u8],
-    maps: bool,
     keys: &[u64],
     tops: &[u64],
-    n: usize,
+    sieve: &[u8],
+    fines: Fines,
     kind: u64,
     x: u64,
 ) -> bool
-    requires { ⌜ ((blockBytes * blocks ≤ length (now rest)) × (x < 2 ^ 48)) × (VlansTold (piecesOf blocks (now rest)) every (now vlans) × FinesTold (piecesOf blocks (now rest)) every maps (now keys) (now tops) n) ⌝ }
+    requires { ⌜ ((blockBytes * blocks ≤ length (now rest)) × (x < 2 ^ 24)) × (VlansTold (piecesOf blocks (now rest)) every (now vlans) × FinesTold (piecesOf blocks (now rest)) every (now keys) (now tops) (now sieve) fines) ⌝ }
     ensures { λ r. ⌜ r ≡ labelMeant everyType (piecesOf blocks (now (rest .entry))) (labelFrom kind x) ⌝ }
 {
     if kind == 0 {
         return vlan_meant(every, vlans, x);
     }
-    fine_meant(rest, blocks, every, maps, keys, tops, n, x)
+    fine_meant(rest, blocks, every, keys, tops, sieve, fines, x)
 }
 
-// Whether a MAC is meant: every MAC where none was gathered; by the intervals; by a walk where they found no room.
+// Whether a MAC is meant: every MAC where none was gathered; by the sieve and the intervals; by a walk where they found no room.
 pub fn mac_meant(
     rest: &[u8],
     blocks: usize,
     gathered: bool,
     keys: &[u64],
     tops: &[u64],
+    sieve: &[u8],
     n: usize,
     m: u64,
 ) -> bool
-    requires { ⌜ (m < 2 ^ 48) × MacsTold (piecesOf blocks (now rest)) gathered (now keys) (now tops) n ⌝ }
+    requires { ⌜ (m < 2 ^ 48) × MacsTold (piecesOf blocks (now rest)) gathered (now keys) (now tops) (now sieve) n ⌝ }
     ensures { λ r. ⌜ r ≡ macMeant everyType (piecesOf blocks (now (rest .entry))) m ⌝ }
 {
     if !gathered {
         return true;
     }
-    if n <= 4096 {
-        return spans::asks(keys, tops, n, m);
+    if 4096 < n {
+        return payloads::mac_meant(rest, blocks, gathered, m);
     }
-    payloads::mac_meant(rest, blocks, gathered, m)
+    if !sieves::may_have(sieve, m) {
+        return false;
+    }
+    spans::asks(keys, tops, n, m)
 }

@@ -12,21 +12,19 @@ use Rattle.numbers.specs.declared.Numbering.{Numbering}
 use Rattle.flush.specs.Payload.{Piece, tlv, block, stump}
 use Rattle.sorting.specs.Sorting.{Sorted}
 use Rattle.ranges.specs.Ranges.{covered, Ready}
-use Rattle.gathering.specs.Gathering.{mapSpan}
 
--- the numbers that a piece names, by a type of blocks and one of single numbers, or may name, by a type of bit maps
-unfoldable pub spanIn : ℕ → ℕ → ℕ → Numbering → Piece → ℕ → Bool
-spanIn blocks singles maps w (tlv k v) x =
+-- the numbers that a piece names, by a type of blocks and one of single numbers
+unfoldable pub spanIn : ℕ → ℕ → Numbering → Piece → ℕ → Bool
+spanIn blocks singles w (tlv k v) x =
     pick (eqb k blocks) (inBlocks w x v)
     (pick (eqb k singles) (inList w x v)
-    (pick (eqb k maps) (mapSpan w v x)
-    false))
-spanIn blocks singles maps w (block b) x = false
-spanIn blocks singles maps w stump x = false
+    false)
+spanIn blocks singles w (block b) x = false
+spanIn blocks singles w stump x = false
 
 -- and so some piece
-unfoldable pub spansOf : ℕ → ℕ → ℕ → Numbering → List Piece → ℕ → Bool
-spansOf blocks singles maps w ps x = anyOf (λ p. spanIn blocks singles maps w p x) ps
+unfoldable pub spansOf : ℕ → ℕ → Numbering → List Piece → ℕ → Bool
+spansOf blocks singles w ps x = anyOf (λ p. spanIn blocks singles w p x) ps
 
 -- the first n intervals cover what passes the test
 pub record Gathered (q : ℕ → Bool) (keys past : List ℕ) (n : ℕ) : Type 0 where

@@ -116,31 +116,31 @@ module _ (meant : List ℕ → Bool) (t : List ℕ) where
 
 -- ---- from one candidate to the next
 
-module _ (names : List ℕ) (ps : List Piece) (t : List ℕ) (i c : ℕ) (u : List ℕ) (so-far : ClearedFirst (slotAsked names ps) t i c u) (k : ℕ) (next : Next (candidate names) u i (slotsOf t) k) where
-  not-candidate : (r : List ℕ) → candidate names r ≡ false → slotAsked names ps r ≡ false
+module _ (p : ℕ → Bool) (ps : List Piece) (t : List ℕ) (i c : ℕ) (u : List ℕ) (so-far : ClearedFirst (slotAsked p ps) t i c u) (k : ℕ) (next : Next (candidate p) u i (slotsOf t) k) where
+  not-candidate : (r : List ℕ) → candidate p r ≡ false → slotAsked p ps r ≡ false
   unfolding slotAsked
   not-candidate r h = both-left _ _ h
 
-  candidate-rest : (r : List ℕ) → candidate names r ≡ true → restMeant ps r ≡ slotAsked names ps r
+  candidate-rest : (r : List ℕ) → candidate p r ≡ true → restMeant ps r ≡ slotAsked p ps r
   unfolding slotAsked both
   candidate-rest r h = rw h
 
-  skipped : ClearedFirst (slotAsked names ps) t k c u
+  skipped : ClearedFirst (slotAsked p ps) t k c u
   skipped =
       let far = next .passed .behind in
       let near = next .within in
       let sum : i + (k - i) ≡ k = omega arith in
       rw sum at
-      (first-skip (slotAsked names ps) t (k - i) i c u so-far (omega arith) (λ j a b. not-candidate (slotAt j u) (next .passed .none j a (omega arith))))
+      (first-skip (slotAsked p ps) t (k - i) i c u so-far (omega arith) (λ j a b. not-candidate (slotAt j u) (next .passed .none j a (omega arith))))
 
-  pub slots-done : slotsOf t ≤ k → onTable c u ≡ clearedBy (slotAsked names ps) t
+  pub slots-done : slotsOf t ≤ k → onTable c u ≡ clearedBy (slotAsked p ps) t
   slots-done h =
       let near = next .within in
-      first-all (slotAsked names ps) t k c u skipped (omega arith)
+      first-all (slotAsked p ps) t k c u skipped (omega arith)
 
   pub slots-next : k < slotsOf t → (n : ℕ) (r : List ℕ) → ClearedOne (restMeant ps) (take (slotBytes * k + slotBytes - slotBytes * k) (drop (slotBytes * k) u)) n r
-      → ClearedFirst (slotAsked names ps) t (k + 1) (c + n) (take (slotBytes * k) u ++ (r ++ drop (slotBytes * k + slotBytes - slotBytes * k) (drop (slotBytes * k) u)))
+      → ClearedFirst (slotAsked p ps) t (k + 1) (c + n) (take (slotBytes * k) u ++ (r ++ drop (slotBytes * k + slotBytes - slotBytes * k) (drop (slotBytes * k) u)))
   slots-next h n r one =
       let part : slotBytes * k + slotBytes - slotBytes * k ≡ slotBytes = add-sub-cancel-left (slotBytes * k) slotBytes in
-      first-next (slotAsked names ps) t k c u skipped (omega arith) n r
-      (one-same (restMeant ps) (slotAsked names ps) _ n r (rw part (candidate-rest (slotAt k u) (next .hit h))) one)
+      first-next (slotAsked p ps) t k c u skipped (omega arith) n r
+      (one-same (restMeant ps) (slotAsked p ps) _ n r (rw part (candidate-rest (slotAt k u) (next .hit h))) one)

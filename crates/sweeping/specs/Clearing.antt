@@ -1,10 +1,10 @@
 -- A good payload in the parts that the code holds, and what clearing leaves.
 -- Assumes nothing.
-use Prim.Native.Nat.{ℕ, _+_, _*_, _<_, _≤_}
+use Prim.Native.Nat.{ℕ, _*_, _<_, _≤_}
 use mathlib.Core.Bool.{Bool, true, false}
 use mathlib.Core.List.{List}
 use mathlib.Core.Path.{_≡_}
-use lib.Dec.{eqb}
+use lib.Dec.{leb, eqb}
 use lib.ListN.{length}
 use Rattle.numbers.specs.Tests.{pick, both, anyOf}
 use Rattle.numbers.specs.Numberings.{bitAt}
@@ -15,6 +15,7 @@ use Rattle.flush.specs.Meaning.{labelMeant, gathersMac, macMeant}
 use Rattle.flush.specs.Flush.{clearedSlot}
 use Rattle.bit_sets.specs.Gains.{None}
 use Rattle.plans.specs.Plans.{isType, VlansTold, FinesTold, MacsTold}
+use Rattle.plans.specs.declared.Fines.{Fines}
 
 -- the bytes of the nicknames, K-VLBs and the bytes behind it
 abbrev pub payloadFrom : List ℕ → ℕ → List ℕ → Payload
@@ -25,12 +26,6 @@ pub record Empty (n : ℕ) (s : List ℕ) : Type 0 where
   pub long : length s ≡ n
   pub none : None s
 
--- areas for intervals
-pub record Areas (keys past tops : List ℕ) : Type 0 where
-  pub few : length keys ≤ 4096
-  pub same : length past ≡ length keys
-  pub more : length tops ≡ length keys + 1
-
 -- the blocks are there, it is known whether every label is meant and whether a MAC was gathered, and the VLANs are prepared
 pub record ReadyVlans (rest : List ℕ) (blocks : ℕ) (every : Bool) (vlans : List ℕ) (gathered : Bool) : Type 0 where
   pub room : blockBytes * blocks ≤ length rest
@@ -39,23 +34,30 @@ pub record ReadyVlans (rest : List ℕ) (blocks : ℕ) (every : Bool) (vlans : L
   pub some : gathered ≡ anyOf (gathersMac everyType) (piecesOf blocks rest)
 
 -- and the fine-grained labels
-pub record ReadyLabels (rest : List ℕ) (blocks : ℕ) (every : Bool) (vlans : List ℕ) (maps : Bool) (fine-keys fine-tops : List ℕ) (fines : ℕ) (gathered : Bool) : Type 0 where
+pub record ReadyLabels (rest : List ℕ) (blocks : ℕ) (every : Bool) (vlans fine-keys fine-tops fine-sieve : List ℕ) (fines : Fines) (gathered : Bool) : Type 0 where
   pub room : blockBytes * blocks ≤ length rest
   pub by-vlan : VlansTold (piecesOf blocks rest) every vlans
-  pub by-fine : FinesTold (piecesOf blocks rest) every maps fine-keys fine-tops fines
+  pub by-fine : FinesTold (piecesOf blocks rest) every fine-keys fine-tops fine-sieve fines
   pub some : gathered ≡ anyOf (gathersMac everyType) (piecesOf blocks rest)
 
 -- and the MACs
-pub record Ready (rest : List ℕ) (blocks : ℕ) (every : Bool) (vlans : List ℕ) (maps : Bool) (fine-keys fine-tops : List ℕ) (fines : ℕ) (gathered : Bool) (mac-keys mac-tops : List ℕ) (macs : ℕ) : Type 0 where
+pub record Ready (rest : List ℕ) (blocks : ℕ) (every : Bool) (vlans fine-keys fine-tops fine-sieve : List ℕ) (fines : Fines) (gathered : Bool) (mac-keys mac-tops mac-sieve : List ℕ) (macs : ℕ) : Type 0 where
   pub room : blockBytes * blocks ≤ length rest
   pub by-vlan : VlansTold (piecesOf blocks rest) every vlans
-  pub by-fine : FinesTold (piecesOf blocks rest) every maps fine-keys fine-tops fines
-  pub by-mac : MacsTold (piecesOf blocks rest) gathered mac-keys mac-tops macs
+  pub by-fine : FinesTold (piecesOf blocks rest) every fine-keys fine-tops fine-sieve fines
+  pub by-mac : MacsTold (piecesOf blocks rest) gathered mac-keys mac-tops mac-sieve macs
 
--- a slot may be meant: learned by its state bits, and its nickname in the set
-unfoldable pub candidate : List ℕ → List ℕ → Bool
-candidate names r =
-    both (eqb (stateOf (recordOf r)) learnedState) (bitAt (nicknameOf (recordOf r)) names)
+-- a nickname is the one that is given, or, where 0x10000 is given, in the set
+unfoldable pub named : ℕ → List ℕ → ℕ → Bool
+named one names x = pick (leb 0x10000 one) (bitAt x names) (eqb x one)
+
+-- where no single nickname is given there is a set
+pub record Named (one : ℕ) (names : List ℕ) : Type 0 where
+  pub long : 0x10000 ≤ one → length names ≡ 8192
+
+-- a slot may be meant: learned by its state bits, and its nickname passes the test
+unfoldable pub candidate : (ℕ → Bool) → List ℕ → Bool
+candidate p r = both (eqb (stateOf (recordOf r)) learnedState) (p (nicknameOf (recordOf r)))
 
 -- the rest of a slot is meant: its entry is good, and label and MAC are meant
 unfoldable pub restMeant : List Piece → List ℕ → Bool
@@ -65,8 +67,8 @@ restMeant ps r =
     (macMeant everyType ps (entryOf (recordOf r) .mac)))
 
 -- a slot is meant, as the code asks
-unfoldable pub slotAsked : List ℕ → List Piece → List ℕ → Bool
-slotAsked names ps r = both (candidate names r) (restMeant ps r)
+unfoldable pub slotAsked : (ℕ → Bool) → List Piece → List ℕ → Bool
+slotAsked p ps r = both (candidate p r) (restMeant ps r)
 
 -- no slot of the table t from slot `from` on and before slot i passes the test p
 pub record Passed (p : List ℕ → Bool) (t : List ℕ) (from i : ℕ) : Type 0 where

@@ -1,43 +1,91 @@
 // Clearing slot by slot, by sets that were prepared once for a message.
 ghost use Prim.Native.Nat.{_+_, _*_, _≤_};
 ghost use mathlib.Core.Path.{_≡_};
+ghost use lib.Dec.{eqb};
 ghost use lib.ListN.{length, drop};
 ghost use Rattle.numbers.specs.After.{onTable};
-ghost use Rattle.table.specs.Record.{recordBytes};
+ghost use Rattle.numbers.specs.Numberings.{bitAt};
+ghost use Rattle.table.specs.Record.{recordBytes, recordOf, stateOf, learnedState};
 ghost use Rattle.table.specs.Slots.{slotBytes};
 ghost use Rattle.flush.specs.Payload.{piecesOf};
 ghost use Rattle.flush.specs.Flush.{clearedBy};
-ghost use Rattle.sweeping.specs.Clearing.{Ready, candidate, Next, restMeant, slotAsked, ClearedOne};
+ghost use Rattle.sweeping.specs.Clearing.{Ready, named, Named, candidate, Next, restMeant, slotAsked, ClearedOne};
+use plans::Fines;
 
-// Whether the slot at a place may be meant: learned by its state bits, and its nickname meant. One byte of the set tells most slots,
-// so it is looked at first.
-fn candidate_at(t: &[u8], at: usize, names: &[u8]) -> bool
-    requires { ⌜ (at + recordBytes ≤ length (now t)) × (length (now names) ≡ 8192) ⌝ }
-    ensures { λ b. ⌜ b ≡ candidate (now (names .entry)) (drop at (now (t .entry))) ⌝ }
+// Whether the slot at a place is learned by its state bits; it may be spoilt.
+fn learned_bits(t: &[u8], at: usize) -> bool
+    requires { ⌜ at + recordBytes ≤ length (now t) ⌝ }
+    ensures { λ b. ⌜ b ≡ eqb (stateOf (recordOf (drop at (now (t .entry))))) learnedState ⌝ }
 {
-    let x = record_fields::nickname_at(t, at);
-    if bits::none_near(names, x) {
-        return false;
-    }
-    if records::state_at(t, at) != 1 {
-        return false;
-    }
-    bits::has(names, x)
+    records::state_at(t, at) == 1
 }
 
-// The next slot that may be meant, from a slot on; n where there is none before slot n.
-fn next_candidate(t: &[u8], from: usize, n: usize, names: &[u8]) -> usize
+// Whether the slot at a place may be meant, by a set of nicknames. One byte of the set tells most slots, so it is looked at first.
+fn listed_at(t: &[u8], at: usize, names: &[u8]) -> bool
+    requires { ⌜ (at + recordBytes ≤ length (now t)) × (length (now names) ≡ 8192) ⌝ }
+    ensures { λ b. ⌜ b ≡ candidate (λ x. bitAt x (now (names .entry))) (drop at (now (t .entry))) ⌝ }
+{
+    if bits::none_at(names, record_fields::nickname_high_at(t, at)) {
+        return false;
+    }
+    if !learned_bits(t, at) {
+        return false;
+    }
+    bits::has(names, record_fields::nickname_at(t, at))
+}
+
+// The next slot that may be meant by a set of nicknames, from a slot on; n where there is none before slot n.
+fn next_listed(t: &[u8], from: usize, n: usize, names: &[u8]) -> usize
     requires { ⌜ ((from ≤ n) × (slotBytes * n ≤ length (now t))) × (length (now names) ≡ 8192) ⌝ }
-    ensures { λ k. ⌜ Next (candidate (now (names .entry))) (now (t .entry)) from n k ⌝ }
+    ensures { λ k. ⌜ Next (candidate (λ x. bitAt x (now (names .entry)))) (now (t .entry)) from n k ⌝ }
 {
     let mut k = from;
     while k < n {
-        if candidate_at(t, 14 * k, names) {
+        if listed_at(t, 14 * k, names) {
             return k;
         }
         k += 1;
     }
     n
+}
+
+// The same, by one nickname. One byte of it tells most slots.
+fn single_at(t: &[u8], at: usize, one: u64) -> bool
+    requires { ⌜ at + recordBytes ≤ length (now t) ⌝ }
+    ensures { λ b. ⌜ b ≡ candidate (λ x. eqb x one) (drop at (now (t .entry))) ⌝ }
+{
+    if record_fields::nickname_middle_at(t, at) != one / 8 % 0x100 {
+        return false;
+    }
+    if !learned_bits(t, at) {
+        return false;
+    }
+    record_fields::nickname_at(t, at) == one
+}
+
+fn next_single(t: &[u8], from: usize, n: usize, one: u64) -> usize
+    requires { ⌜ (from ≤ n) × (slotBytes * n ≤ length (now t)) ⌝ }
+    ensures { λ k. ⌜ Next (candidate (λ x. eqb x one)) (now (t .entry)) from n k ⌝ }
+{
+    let mut k = from;
+    while k < n {
+        if single_at(t, 14 * k, one) {
+            return k;
+        }
+        k += 1;
+    }
+    n
+}
+
+// The next slot that may be meant, from a slot on: by one nickname, or, where that is 0x10000, by a set.
+fn next_candidate(t: &[u8], from: usize, n: usize, one: u64, names: &[u8]) -> usize
+    requires { ⌜ ((from ≤ n) × (slotBytes * n ≤ length (now t))) × Named one (now names) ⌝ }
+    ensures { λ k. ⌜ Next (candidate (named one (now (names .entry)))) (now (t .entry)) from n k ⌝ }
+{
+    if 0x1_0000 <= one {
+        return next_listed(t, from, n, names);
+    }
+    next_single(t, from, n, one)
 }
 
 // Whether the rest of a slot is meant: label and MAC are meant, and its entry is good. The label tells most slots.
@@ -47,16 +95,17 @@ fn rest_meant(
     blocks: usize,
     every: bool,
     vlans: &[u8],
-    maps: bool,
     fkeys: &[u64],
     ftops: &[u64],
-    fines: usize,
+    fsieve: &[u8],
+    fines: Fines,
     gathered: bool,
     mkeys: &[u64],
     mtops: &[u64],
+    msieve: &[u8],
     macs: usize,
 ) -> bool
-    requires { ⌜ (length (now slot) ≡ slotBytes) × Ready (now rest) blocks every (now vlans) maps (now fkeys) (now ftops) fines gathered (now mkeys) (now mtops) macs ⌝ }
+    requires { ⌜ (length (now slot) ≡ slotBytes) × Ready (now rest) blocks every (now vlans) (now fkeys) (now ftops) (now fsieve) fines gathered (now mkeys) (now mtops) (now msieve) macs ⌝ }
     ensures { λ b. ⌜ b ≡ restMeant (piecesOf blocks (now (rest .entry))) (now (slot .entry)) ⌝ }
 {
     let kind = record_fields::kind_at(slot, 0);
@@ -66,9 +115,9 @@ fn rest_meant(
         blocks,
         every,
         vlans,
-        maps,
         fkeys,
         ftops,
+        fsieve,
         fines,
         kind,
         label,
@@ -79,7 +128,7 @@ fn rest_meant(
         return false;
     }
     let mac = record_fields::mac_at(slot, 0);
-    plans::mac_meant(rest, blocks, gathered, mkeys, mtops, macs, mac)
+    plans::mac_meant(rest, blocks, gathered, mkeys, mtops, msieve, macs, mac)
 }
 
 // Frees a slot whose rest is meant, and says how many were freed.
@@ -89,16 +138,17 @@ fn clear_slot(
     blocks: usize,
     every: bool,
     vlans: &[u8],
-    maps: bool,
     fkeys: &[u64],
     ftops: &[u64],
-    fines: usize,
+    fsieve: &[u8],
+    fines: Fines,
     gathered: bool,
     mkeys: &[u64],
     mtops: &[u64],
+    msieve: &[u8],
     macs: usize,
 ) -> usize
-    requires { ⌜ (length (now slot) ≡ slotBytes) × Ready (now rest) blocks every (now vlans) maps (now fkeys) (now ftops) fines gathered (now mkeys) (now mtops) macs ⌝ }
+    requires { ⌜ (length (now slot) ≡ slotBytes) × Ready (now rest) blocks every (now vlans) (now fkeys) (now ftops) (now fsieve) fines gathered (now mkeys) (now mtops) (now msieve) macs ⌝ }
     ensures { λ n. ⌜ ClearedOne (restMeant (piecesOf blocks (now (rest .entry)))) (now (slot .entry)) n (now (slot .exit)) ⌝ }
 {
     if !rest_meant(
@@ -107,13 +157,14 @@ fn clear_slot(
         blocks,
         every,
         vlans,
-        maps,
         fkeys,
         ftops,
+        fsieve,
         fines,
         gathered,
         mkeys,
         mtops,
+        msieve,
         macs,
     ) {
         return 0;
@@ -125,28 +176,30 @@ fn clear_slot(
 // Clears every slot that is meant, and counts them. Nickname and state bits tell most slots, so they are looked at first.
 pub fn clear_slots(
     table: &mut [u8],
+    one: u64,
     names: &[u8],
     rest: &[u8],
     blocks: usize,
     every: bool,
     vlans: &[u8],
-    maps: bool,
     fkeys: &[u64],
     ftops: &[u64],
-    fines: usize,
+    fsieve: &[u8],
+    fines: Fines,
     gathered: bool,
     mkeys: &[u64],
     mtops: &[u64],
+    msieve: &[u8],
     macs: usize,
 ) -> usize
-    requires { ⌜ (length (now names) ≡ 8192) × Ready (now rest) blocks every (now vlans) maps (now fkeys) (now ftops) fines gathered (now mkeys) (now mtops) macs ⌝ }
-    ensures { λ n. ⌜ onTable n (now (table .exit)) ≡ clearedBy (slotAsked (now (names .entry)) (piecesOf blocks (now (rest .entry)))) (now (table .entry)) ⌝ }
+    requires { ⌜ Named one (now names) × Ready (now rest) blocks every (now vlans) (now fkeys) (now ftops) (now fsieve) fines gathered (now mkeys) (now mtops) (now msieve) macs ⌝ }
+    ensures { λ n. ⌜ onTable n (now (table .exit)) ≡ clearedBy (slotAsked (named one (now (names .entry))) (piecesOf blocks (now (rest .entry)))) (now (table .entry)) ⌝ }
 {
     let n = table.len() / 14;
     let mut count = 0;
     let mut i = 0;
     while i < n {
-        let k = next_candidate(table, i, n, names);
+        let k = next_candidate(table, i, n, one, names);
         if n <= k {
             return count;
         }
@@ -158,13 +211,14 @@ pub fn clear_slots(
             blocks,
             every,
             vlans,
-            maps,
             fkeys,
             ftops,
+            fsieve,
             fines,
             gathered,
             mkeys,
             mtops,
+            msieve,
             macs,
         );
         i = k + 1;

@@ -1,4 +1,4 @@
--- `preparing::clear_middle` meets its contract: the sets are empty at first.
+-- `preparing::clear_middle` meets its contract: the set is empty at first.
 -- Assumes nothing.
 use native.Mathlib.Omega.{arith}
 use Rattle.sweeping.proofs.Parts.{zeros-empty, zeros-areas}
@@ -30,8 +30,11 @@ slice-aggregate-clear-prepared-7 c = search needs
 slice-aggregate-clear-prepared-8 : tie.Need-slice-aggregate-clear-prepared-8
 slice-aggregate-clear-prepared-8 c = search needs
 
+slice-aggregate-clear-prepared-9 : tie.Need-slice-aggregate-clear-prepared-9
+slice-aggregate-clear-prepared-9 c = search needs
+
 clear-prepared-requires : tie.Need-clear-prepared-requires
-clear-prepared-requires c κs = ((search needs, (zeros-empty 8192, zeros-empty 512)), (zeros-areas 256 (omega arith), zeros-areas 128 (omega arith)))
+clear-prepared-requires c κs = ((search needs, (search needs, zeros-empty 512)), (zeros-areas 256 (omega arith), zeros-areas 128 (omega arith)))
 
 same-length : tie.Need-same-length
 same-length c = search needs
@@ -51,6 +54,7 @@ clear-middle-spec =
     slice-aggregate-clear-prepared-6
     slice-aggregate-clear-prepared-7
     slice-aggregate-clear-prepared-8
+    slice-aggregate-clear-prepared-9
     clear-prepared-requires
     same-length
     returns)

@@ -9,10 +9,10 @@ use Rattle.spans.proofs.add_tlvs.Statement.{statement}
 use Rattle.spans.proofs.add_tlvs.Tie as tie
 
 abbrev Inv-loop : tie.InvT-loop
-Inv-loop l blocks singles maps w keys₀ past₀ n₀ at₀ keys past n at = Walking blocks singles maps w l keys₀ keys past n at
+Inv-loop l blocks singles w keys₀ past₀ n₀ at₀ keys past n at = Walking blocks singles w l keys₀ keys past n at
 
 abbrev μ-loop : tie.MeasureT-loop
-μ-loop l blocks singles maps w keys₀ past₀ n₀ at₀ keys past n at = length l - at
+μ-loop l blocks singles w keys₀ past₀ n₀ at₀ keys past n at = length l - at
 
 loop-holds : tie.Need-loop-holds Inv-loop μ-loop
 loop-holds c = search walk-start

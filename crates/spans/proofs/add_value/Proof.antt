@@ -1,6 +1,6 @@
 -- `spans::add_value` meets its contract: each way out is a case of the definition.
 -- Assumes nothing.
-use Rattle.spans.proofs.Laws.{value-blocks, value-singles, value-map, value-other}
+use Rattle.spans.proofs.Laws.{value-blocks, value-singles, value-other}
 use borrow.Author.Needs.{needs}
 use Rattle.spans.proofs.add_value.Statement.{statement}
 use Rattle.spans.proofs.add_value.Tie as tie
@@ -29,20 +29,8 @@ same-length-4 c = search needs
 returns-2 : tie.Need-returns-2
 returns-2 c = search value-singles
 
-add-map-span-requires : tie.Need-add-map-span-requires
-add-map-span-requires c κs = search needs
-
-same-length-5 : tie.Need-same-length-5
-same-length-5 c = search needs
-
-same-length-6 : tie.Need-same-length-6
-same-length-6 c = search needs
-
 returns-3 : tie.Need-returns-3
-returns-3 c = search value-map
-
-returns-4 : tie.Need-returns-4
-returns-4 c = λ few. search value-other
+returns-3 c = λ few. search value-other
 
 pub add-value-spec : {M : Type 1} → statement M
 add-value-spec =
@@ -56,8 +44,4 @@ add-value-spec =
     same-length-3
     same-length-4
     returns-2
-    add-map-span-requires
-    same-length-5
-    same-length-6
-    returns-3
-    returns-4)
+    returns-3)

@@ -33,8 +33,11 @@ same-length-4 c = search needs
 same-length-5 : tie.Need-same-length-5
 same-length-5 c = search needs
 
+same-length-6 : tie.Need-same-length-6
+same-length-6 c = search needs
+
 returns-3 : tie.Need-returns-3
-returns-3 c = λ few. span-told _ _ _ _ _ _ _ _ _ (c .before .before .before .before .before .before .before .before .before .before .before .before .before .before .before .before .if1 .left) (c .before .before .before .before .before .before .before .before .before .before .before .before .before .add-tlvs .ensures) few _ _ (c .before .before .before .before .make-ready .ensures)
+returns-3 c = λ few. span-told _ _ _ _ _ _ _ _ (c .before .before .before .before .before .before .before .before .before .before .before .before .before .before .before .before .before .before .before .if1 .left) (c .before .before .before .before .before .before .before .before .before .before .before .before .before .before .before .before .add-tlvs .ensures) few _ _ _ (c .before .before .before .before .before .before .make-ready .ensures)
 
 pub span-set-spec : {M : Type 1} → statement M
 span-set-spec =
@@ -49,4 +52,5 @@ span-set-spec =
     same-length-3
     same-length-4
     same-length-5
+    same-length-6
     returns-3)

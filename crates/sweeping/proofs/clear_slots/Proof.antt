@@ -6,17 +6,17 @@ use native.Mathlib.Omega.{arith}
 use lib.ListN.{length}
 use Rattle.table.proofs.Slots.{length-lent}
 use Rattle.flush.specs.Payload.{piecesOf}
-use Rattle.sweeping.specs.Clearing.{slotAsked, ClearedFirst}
+use Rattle.sweeping.specs.Clearing.{named, slotAsked, ClearedFirst}
 use Rattle.sweeping.proofs.Slots.{first-none, first-all, slots-done, slots-next}
 use borrow.Author.Needs.{needs}
 use Rattle.sweeping.proofs.clear_slots.Statement.{statement}
 use Rattle.sweeping.proofs.clear_slots.Tie as tie
 
 abbrev Inv-loop : tie.InvT-loop
-Inv-loop table₀ names rest blocks every vlans maps fkeys ftops fines gathered mkeys mtops macs n count₀ i₀ table count i = (i ≤ n) × ClearedFirst (slotAsked names (piecesOf blocks rest)) table₀ i count table
+Inv-loop table₀ one names rest blocks every vlans fkeys ftops fsieve fines gathered mkeys mtops msieve macs n count₀ i₀ table count i = (i ≤ n) × ClearedFirst (slotAsked (named one names) (piecesOf blocks rest)) table₀ i count table
 
 abbrev μ-loop : tie.MeasureT-loop
-μ-loop table₀ names rest blocks every vlans maps fkeys ftops fines gathered mkeys mtops macs n count₀ i₀ table count i = n - i
+μ-loop table₀ one names rest blocks every vlans fkeys ftops fsieve fines gathered mkeys mtops msieve macs n count₀ i₀ table count i = n - i
 
 loop-holds : tie.Need-loop-holds Inv-loop μ-loop
 loop-holds c = (search needs, search first-none)
@@ -46,7 +46,7 @@ part-clear-slot-end : tie.Need-part-clear-slot-end Inv-loop μ-loop
 part-clear-slot-end c = search needs
 
 clear-slot-requires : tie.Need-clear-slot-requires Inv-loop μ-loop
-clear-slot-requires c κs = (length-lent (c .before .before .next-candidate .result) (c .before .before .before .before .before .loop .table) (omega arith), c .before .before .before .before .before .before .before .before .before .before .before .before .before .before .pre .1)
+clear-slot-requires c κs = (length-lent (c .before .before .next-candidate .result) (c .before .before .before .before .before .loop .table) (omega arith), c .before .before .before .before .before .before .before .before .before .before .before .before .before .before .before .before .pre .1)
 
 add-count : tie.Need-add-count Inv-loop μ-loop
 add-count c = search needs
@@ -65,7 +65,7 @@ same-length-2 c = c .before .loop .inv .1 .long
 
 returns-2 : tie.Need-returns-2 Inv-loop μ-loop
 returns-2 c =
-    let done : c .before .loop .i ≡ length (c .before .before .before .before .before .before .before .before .before .before .args .table .now) / 14 = omega arith in
+    let done : c .before .loop .i ≡ length (c .before .before .before .before .before .before .before .before .before .before .before .before .args .table .now) / 14 = omega arith in
     search first-all
 
 pub clear-slots-spec : {M : Type 1} → statement M

@@ -1,54 +1,22 @@
--- `sweeping::next_candidate` meets its contract. The invariant: no slot from `from` on and before `k` is a candidate.
+-- `sweeping::next_candidate` meets its contract: the test is one of two.
 -- Assumes nothing.
-use Prim.Native.Nat.{_-_, _≤_}
-use Rattle.sweeping.specs.Clearing.{candidate, Passed}
-use Rattle.sweeping.proofs.Parts.{candidate-near}
-use Rattle.sweeping.proofs.Slots.{passed-none, passed-next, next-none, next-hit}
+use Rattle.sweeping.proofs.Parts.{by-list, by-single}
 use borrow.Author.Needs.{needs}
 use Rattle.sweeping.proofs.next_candidate.Statement.{statement}
 use Rattle.sweeping.proofs.next_candidate.Tie as tie
 
-abbrev Inv-loop : tie.InvT-loop
-Inv-loop t from n names k₀ k = (k ≤ n) × Passed (candidate names) t from k
+next-listed-requires : tie.Need-next-listed-requires
+next-listed-requires c κs = (search needs, c .before .before .before .pre .1 .long (c .if1 .taken))
 
-abbrev μ-loop : tie.MeasureT-loop
-μ-loop t from n names k₀ k = n - k
+returns : tie.Need-returns
+returns c = search by-list
 
-loop-holds : tie.Need-loop-holds Inv-loop μ-loop
-loop-holds c = (search needs, search (passed-none, candidate-near))
+next-single-requires : tie.Need-next-single-requires
+next-single-requires c κs = search needs
 
-mul-candidate-at : tie.Need-mul-candidate-at Inv-loop μ-loop
-mul-candidate-at c = search needs
-
-candidate-at-requires : tie.Need-candidate-at-requires Inv-loop μ-loop
-candidate-at-requires c κs = search needs
-
-returns : tie.Need-returns Inv-loop μ-loop
-returns c = search (next-hit, candidate-near)
-
-add-k : tie.Need-add-k Inv-loop μ-loop
-add-k c = search needs
-
-loop-less : tie.Need-loop-less Inv-loop μ-loop
-loop-less c = search needs
-
-loop-again : tie.Need-loop-again Inv-loop μ-loop
-loop-again c = (search needs, search (passed-next, candidate-near))
-
-returns-2 : tie.Need-returns-2 Inv-loop μ-loop
-returns-2 c = search (next-none, candidate-near)
+returns-2 : tie.Need-returns-2
+returns-2 c = search by-single
 
 pub next-candidate-spec : {M : Type 1} → statement M
 next-candidate-spec =
-    tie.close
-    (tie.spec
-    Inv-loop
-    μ-loop
-    loop-holds
-    mul-candidate-at
-    candidate-at-requires
-    returns
-    add-k
-    loop-less
-    loop-again
-    returns-2)
+    tie.close (tie.spec next-listed-requires returns next-single-requires returns-2)

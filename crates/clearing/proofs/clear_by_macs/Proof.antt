@@ -1,14 +1,14 @@
--- `preparing::clear_by_macs` meets its contract: the MACs are ready.
+-- `clearing::clear_by_macs` meets its contract: the MACs are ready.
 -- Assumes nothing.
 use borrow.Author.Needs.{needs}
-use Rattle.preparing.proofs.clear_by_macs.Statement.{statement}
-use Rattle.preparing.proofs.clear_by_macs.Tie as tie
+use Rattle.clearing.proofs.clear_by_macs.Statement.{statement}
+use Rattle.clearing.proofs.clear_by_macs.Tie as tie
 
 mac-plan-requires : tie.Need-mac-plan-requires
 mac-plan-requires c κs = search needs
 
 clear-slots-requires : tie.Need-clear-slots-requires
-clear-slots-requires c κs = (search needs, record { room = search needs; by-vlan = search needs; by-fine = search needs; by-mac = record { some = search needs; spans = search needs } })
+clear-slots-requires c κs = (search needs, record { room = search needs; by-vlan = search needs; by-fine = search needs; by-mac = record { some = search needs; told = search needs } })
 
 same-length : tie.Need-same-length
 same-length c = search needs
@@ -21,6 +21,9 @@ same-length-3 c = search needs
 
 same-length-4 : tie.Need-same-length-4
 same-length-4 c = search needs
+
+same-length-5 : tie.Need-same-length-5
+same-length-5 c = search needs
 
 returns : tie.Need-returns
 returns c = search needs
@@ -35,4 +38,5 @@ clear-by-macs-spec =
     same-length-2
     same-length-3
     same-length-4
+    same-length-5
     returns)

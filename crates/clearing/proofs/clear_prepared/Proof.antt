@@ -1,9 +1,8 @@
--- `preparing::clear_prepared` meets its contract: the sets say what is meant.
+-- `clearing::clear_prepared` meets its contract: the VLANs are ready.
 -- Assumes nothing.
-use Rattle.sweeping.proofs.Parts.{cleared-as-meant}
 use borrow.Author.Needs.{needs}
-use Rattle.preparing.proofs.clear_prepared.Statement.{statement}
-use Rattle.preparing.proofs.clear_prepared.Tie as tie
+use Rattle.clearing.proofs.clear_prepared.Statement.{statement}
+use Rattle.clearing.proofs.clear_prepared.Tie as tie
 
 some-mac-requires : tie.Need-some-mac-requires
 some-mac-requires c κs = search needs
@@ -11,14 +10,13 @@ some-mac-requires c κs = search needs
 has-type-requires : tie.Need-has-type-requires
 has-type-requires c κs = search needs
 
-nickname-set-requires : tie.Need-nickname-set-requires
-nickname-set-requires c κs = search needs
-
 vlan-set-requires : tie.Need-vlan-set-requires
 vlan-set-requires c κs = search needs
 
 clear-by-fines-requires : tie.Need-clear-by-fines-requires
-clear-by-fines-requires c κs = ((search needs, record { room = search needs; all = search needs; by-vlan = search needs; some = search needs }), (search needs, search needs))
+clear-by-fines-requires c κs =
+    let pre = c .before .before .before .before .before .before .before .before .before .before .before .before .before .before .before .before .before .before .before .before .before .before .before .before .before .before .before .before .pre in
+    ((pre .0 .1 .0, record { room = pre .0 .0; all = search needs; by-vlan = search needs; some = search needs }), (pre .1 .0, pre .1 .1))
 
 same-length : tie.Need-same-length
 same-length c = search needs
@@ -47,8 +45,11 @@ same-length-8 c = search needs
 same-length-9 : tie.Need-same-length-9
 same-length-9 c = search needs
 
+same-length-10 : tie.Need-same-length-10
+same-length-10 c = search needs
+
 returns : tie.Need-returns
-returns c = search cleared-as-meant
+returns c = search needs
 
 pub clear-prepared-spec : {M : Type 1} → statement M
 clear-prepared-spec =
@@ -56,7 +57,6 @@ clear-prepared-spec =
     (tie.spec
     some-mac-requires
     has-type-requires
-    nickname-set-requires
     vlan-set-requires
     clear-by-fines-requires
     same-length
@@ -68,4 +68,5 @@ clear-prepared-spec =
     same-length-7
     same-length-8
     same-length-9
+    same-length-10
     returns)
