@@ -135,3 +135,8 @@ pub put-two : (l ys zs : List ℕ) (a b : ℕ) → length l ≡ a + b → length
 put-two l ys zs a b e p q =
     let rest : length (drop a l) ≤ b = simp length-drop (omega arith) in
     rw (take-at ys (drop a l) a p, drop-at ys (drop a l) a p, drop-of-length-le (drop a l) rest, append-nil zs)
+
+-- and so the bytes of a number
+pub fill-two : (l ys zs : List ℕ) (a b v : ℕ) → length l ≡ a + b → ys ≡ bytesOf a (v / 256 ^ b) → zs ≡ bytesOf b v → take a (ys ++ drop a l) ++ (zs ++ drop b (drop a (ys ++ drop a l))) ≡ bytesOf (a + b) v
+fill-two l ys zs a b v e p q =
+    put-two l ys zs a b e (ap length p ∙ length-bytesOf a (v / 256 ^ b)) (ap length q ∙ length-bytesOf b v) ∙ rw (p, q) (sym (bytesOf-append a b v))
