@@ -4,7 +4,7 @@ ghost use Prim.Native.Nat.{_+_, _^_, _<_, _≤_};
 ghost use mathlib.Core.Path.{_≡_};
 ghost use lib.ListN.{length, take, drop};
 ghost use Rattle.numbers.specs.Bytes.{num, bytesOf};
-ghost use Rattle.numbers.specs.Swapped.{swapped4, swapped8, lowBytes4};
+ghost use Rattle.numbers.specs.Swapped.{swapped4, swapped8, lowBytes4, lowBytes8};
 ghost use Rattle.numbers.specs.Claims.{Blocks, Maps};
 
 pub mod refusals;
@@ -106,8 +106,8 @@ pub fn fill(s: &mut [u8], v: u64)
     }
 }
 
-// The same of four bytes, of six and of eight: the compiler makes one store of four and of eight.
-pub fn fill4(s: &mut [u8], v: u64)
+// The same of four bytes, of six and of eight: the compiler makes one store of four and one of eight.
+fn fill4(s: &mut [u8], v: u64)
     requires { ⌜ length (now s) ≡ 4 ⌝ }
     ensures { λ _. ⌜ now (s .exit) ≡ bytesOf 4 v ⌝ }
 {
@@ -126,8 +126,7 @@ pub fn fill8(s: &mut [u8], v: u64)
     requires { ⌜ length (now s) ≡ 8 ⌝ }
     ensures { λ _. ⌜ now (s .exit) ≡ bytesOf 8 v ⌝ }
 {
-    fill4(&mut s[0..4], v / 0x1_0000_0000);
-    fill4(&mut s[4..8], v);
+    put_le8(s, swap8(v));
 }
 
 // The bytes of a number with the lowest one first.
@@ -139,6 +138,14 @@ fn put_le4(s: &mut [u8], w: u64)
     s[1] = (w / 0x100 % 0x100) as u8;
     s[2] = (w / 0x1_0000 % 0x100) as u8;
     s[3] = (w / 0x100_0000 % 0x100) as u8;
+}
+
+fn put_le8(s: &mut [u8], w: u64)
+    requires { ⌜ length (now s) ≡ 8 ⌝ }
+    ensures { λ _. ⌜ now (s .exit) ≡ lowBytes8 w ⌝ }
+{
+    put_le4(&mut s[0..4], w % 0x1_0000_0000);
+    put_le4(&mut s[4..8], w / 0x1_0000_0000);
 }
 
 // What holds of every block and every bit map.
