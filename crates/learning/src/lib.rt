@@ -2,16 +2,17 @@
 // one the lowest free slot is filled.
 ghost use Prim.Native.Nat.{_+_, _*_, _≤_};
 ghost use mathlib.Core.Path.{_≡_};
+ghost use mathlib.Core.Bool.{true};
 ghost use lib.ListN.{length};
 ghost use Rattle.numbers.specs.After.{onTable};
 ghost use Rattle.table.specs.Learning.{putEntry, overMatch, intoFree, learnt, freeSlot};
 ghost use Rattle.table.specs.Record.{unpacked};
 ghost use Rattle.table.specs.Slots.{slotBytes, slotAt, lowest};
+ghost use Rattle.table.specs.Table.{holds};
 ghost use Rattle.records.specs.Halves.{Fits};
 use table::Entry;
 use table::Learning;
 use table::Place;
-use table::Slot;
 
 // Puts a learned entry into a slot.
 fn put(e: Entry, k: usize, table: &mut [u8])
@@ -23,23 +24,21 @@ fn put(e: Entry, k: usize, table: &mut [u8])
     records::pack(e, &mut table[a..b]);
 }
 
-// Learning over the slot with the same label and address.
+// Learning over the slot with the same label and address. That it holds them says that its record is good, so the state and the
+// confidence are all that is read of it.
 fn over_match(e: Entry, k: usize, table: &mut [u8]) -> Learning
-    requires { ⌜ (slotBytes * k + slotBytes ≤ length (now table)) × Fits e ⌝ }
+    requires { ⌜ (slotBytes * k + slotBytes ≤ length (now table)) × (Fits e × (holds (e .label) (e .mac) (slotAt k (now table)) ≡ true)) ⌝ }
     ensures { λ r. ⌜ onTable r (now (table .exit)) ≡ overMatch (unpacked (slotAt k (now (table .entry)))) k e (now (table .entry)) ⌝ }
 {
-    match records::unpack(table, 14 * k) {
-        Slot::Free => Learning::Kept,
-        Slot::Spoilt => Learning::Kept,
-        Slot::Learned(old) => {
-            if e.confidence < old.confidence {
-                return Learning::Kept;
-            }
-            put(e, k, table);
-            Learning::Refreshed
-        }
-        Slot::Configured(_) => Learning::Kept,
+    let a = 14 * k;
+    if records::state_at(table, a) != 1 {
+        return Learning::Kept;
     }
+    if (e.confidence as u64) < record_fields::confidence_at(table, a) {
+        return Learning::Kept;
+    }
+    put(e, k, table);
+    Learning::Refreshed
 }
 
 // Learning an address that the table does not hold.

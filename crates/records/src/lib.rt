@@ -201,8 +201,8 @@ fn write(h: Halves, slot: &mut [u8])
 {
     let hi = h.hi;
     let lo = h.lo;
-    numbers::fill(&mut slot[0..8], hi);
-    numbers::fill(&mut slot[8..14], lo);
+    numbers::fill8(&mut slot[0..8], hi);
+    numbers::fill6(&mut slot[8..14], lo);
 }
 
 // Writes the record of a learned entry to a slot.
