@@ -8,9 +8,9 @@ pub enum ReadAnswer {
     Refused(u8),
     Onward,
     Delivered {
+        learning: Learning,
         length: u16,
         label: Label,
-        learning: Learning,
     },
     OtherChannel,
     Flushed(u16),
