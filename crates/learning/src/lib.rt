@@ -2,17 +2,16 @@
 // one the lowest free slot is filled.
 ghost use Prim.Native.Nat.{_+_, _*_, _≤_};
 ghost use mathlib.Core.Path.{_≡_};
-ghost use mathlib.Core.Bool.{true};
-ghost use lib.ListN.{length};
+ghost use lib.ListN.{length, drop};
 ghost use Rattle.numbers.specs.After.{onTable};
 ghost use Rattle.table.specs.Learning.{putEntry, overMatch, intoFree, learnt, freeSlot};
-ghost use Rattle.table.specs.Record.{unpacked};
+ghost use Rattle.table.specs.Record.{recordOf, unpacked};
 ghost use Rattle.table.specs.Slots.{slotBytes, slotAt, lowest};
-ghost use Rattle.table.specs.Table.{holds};
-ghost use Rattle.records.specs.Halves.{Fits};
+ghost use Rattle.records.specs.Halves.{IsHeld, Fits};
 use table::Entry;
 use table::Learning;
 use table::Place;
+use table::Slot;
 
 // Puts a learned entry into a slot.
 fn put(e: Entry, k: usize, table: &mut [u8])
@@ -24,21 +23,23 @@ fn put(e: Entry, k: usize, table: &mut [u8])
     records::pack(e, &mut table[a..b]);
 }
 
-// Learning over the slot with the same label and address. That it holds them says that its record is good, so the state and the
-// confidence are all that is read of it.
+// Learning over the slot with the same label and address, whose record is therefore good.
 fn over_match(e: Entry, k: usize, table: &mut [u8]) -> Learning
-    requires { ⌜ (slotBytes * k + slotBytes ≤ length (now table)) × (Fits e × (holds (e .label) (e .mac) (slotAt k (now table)) ≡ true)) ⌝ }
+    requires { ⌜ (slotBytes * k + slotBytes ≤ length (now table)) × (Fits e × IsHeld (recordOf (drop (slotBytes * k) (now table)))) ⌝ }
     ensures { λ r. ⌜ onTable r (now (table .exit)) ≡ overMatch (unpacked (slotAt k (now (table .entry)))) k e (now (table .entry)) ⌝ }
 {
-    let a = 14 * k;
-    if records::state_at(table, a) != 1 {
-        return Learning::Kept;
+    match records::unpack_held(table, 14 * k) {
+        Slot::Free => Learning::Kept,
+        Slot::Spoilt => Learning::Kept,
+        Slot::Learned(old) => {
+            if e.confidence < old.confidence {
+                return Learning::Kept;
+            }
+            put(e, k, table);
+            Learning::Refreshed
+        }
+        Slot::Configured(_) => Learning::Kept,
     }
-    if (e.confidence as u64) < record_fields::confidence_at(table, a) {
-        return Learning::Kept;
-    }
-    put(e, k, table);
-    Learning::Refreshed
 }
 
 // Learning an address that the table does not hold.

@@ -5,7 +5,7 @@ use mathlib.Core.Bool.{Bool, true}
 use mathlib.Core.Path.{_≡_}
 use Rattle.numbers.specs.Tests.{pick, both, between}
 use Rattle.numbers.specs.Ranges.{individual}
-use Rattle.table.specs.Record.{stateOf, learnedState, configuredState, entryOf, entryGood, held, labelFrom, labelGood, labelNumber}
+use Rattle.table.specs.Record.{stateOf, learnedState, configuredState, entryOf, entryGood, held, slotOf, labelFrom, labelGood, labelNumber}
 use Rattle.table.specs.declared.Label.{Label}
 use Rattle.table.specs.declared.Entry.{Entry}
 use Rattle.table.specs.declared.Slot.{Slot}
@@ -31,6 +31,11 @@ heldOrSpoilt n =
     pick (both (between learnedState configuredState (stateOf n)) (entryGood (entryOf n)))
     (held (stateOf n) (entryOf n))
     Spoilt
+
+-- n is the number of a learned or a configured record
+pub record IsHeld (n : ℕ) : Type 0 where
+  pub good : entryGood (entryOf n) ≡ true
+  pub slot : slotOf n ≡ held (stateOf n) (entryOf n)
 
 -- the parts of an entry fit their bits
 pub record Fits (e : Entry) : Type 0 where
