@@ -33,7 +33,8 @@ fn front_refusal(d: Front) -> u8
     }
 }
 
-// `parsing::read_general` once more: with a caller of its own, each of the two is a part of its caller's code.
+// As `parsing::read_general`. With two callers `general_behind` stays a call, and both of these are short enough to be a part of their
+// callers' code, where a frame that is not TRILL is refused at once.
 fn general_parts(d: Front, f: &[u8]) -> Parsed
     ensures { λ r. ⌜ (parsedAs (now (f .entry)) r ≡ general (frontAs d) (now (f .entry))) × parsedWithin (length (now (f .entry))) r ⌝ }
 {

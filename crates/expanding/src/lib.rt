@@ -59,7 +59,7 @@ fn sizes_good(n: usize, more: usize) -> bool
     (14 <= n) & (n <= 9216 - more)
 }
 
-// `parsing::read_compact` once more: with a caller of its own, each of the two is a part of its caller's code.
+// As `parsing::read_compact`. With one caller each, both are a part of their callers' code.
 fn compact_parts(f: &[u8]) -> Parsed
     requires { ⌜ 12 ≤ length (now f) ⌝ }
     ensures { λ r. ⌜ (parsedAs (now (f .entry)) r ≡ compact (now (f .entry))) × parsedWithin (length (now (f .entry))) r ⌝ }
