@@ -4,12 +4,14 @@ ghost use mathlib.Core.Path.{_≡_};
 ghost use lib.ListN.{length};
 ghost use Rattle.numbers.specs.After.{onArea};
 ghost use Rattle.numbers.specs.Bytes.{laid};
+ghost use Rattle.frame.specs.Formats.{general};
 ghost use Rattle.fields.specs.Meaning.{frontAs};
 ghost use Rattle.parsing.specs.Meaning.{fieldsIn, parsedAs, parsedWithin};
 ghost use Rattle.convert.specs.Compaction.{compactBytes, staysGeneral, compacted};
 ghost use Rattle.compacting.specs.Meaning.{frontRefusal, fieldsAt, Copyable, compactLength, putOn};
 use convert::ConvertAnswer;
 use fields::Front;
+use fields::Size;
 use frame::Settings;
 use numbers::refusals::AREA_SHORT;
 use numbers::refusals::FRAME_LENGTH_BAD;
@@ -31,6 +33,17 @@ fn front_refusal(d: Front) -> u8
     }
 }
 
+// As `parsing::read_general`. With two callers `general_behind` stays a call, and both of these are short enough to be a part of their
+// callers' code, where a frame that is not TRILL is refused at once.
+fn general_parts(d: Front, f: &[u8]) -> Parsed
+    ensures { λ r. ⌜ (parsedAs (now (f .entry)) r ≡ general (frontAs d) (now (f .entry))) × parsedWithin (length (now (f .entry))) r ⌝ }
+{
+    match fields::outer_length(f) {
+        Size::Refused(e) => Parsed::Refused(e),
+        Size::Bytes(o) => parsing::general_behind(d, f, o),
+    }
+}
+
 // The parts of a General frame, behind the test of the settings; a Compact frame in front is 17.
 pub fn general_fields(port: u64, f: &[u8]) -> Parsed
     ensures { λ r. ⌜ (parsedAs (now (f .entry)) r ≡ fieldsAt port (now (f .entry))) × parsedWithin (length (now (f .entry))) r ⌝ }
@@ -47,7 +60,7 @@ pub fn general_fields(port: u64, f: &[u8]) -> Parsed
     if e != 0 {
         return Parsed::Refused(e);
     }
-    parsing::read_general(d, f)
+    general_parts(d, f)
 }
 
 // Whether an inner destination would not mean Compact in front: :40 to :4F, or the far port's address.

@@ -7,7 +7,7 @@ use mathlib.Core.Path.{_≡_, sym, _∙_}
 use native.Mathlib.Omega.{arith}
 use lib.Dec.{eqb}
 use lib.ListN.{length, take, drop, length-drop, length-append}
-use lib.Seq.{drop-drop, length-take-le}
+use lib.Seq.{drop-drop, take-add, length-take-le}
 use borrow.Author.Tests.{le-leb, lt-leb, eq-eqb, ne-eqb}
 use Rattle.numbers.specs.Tests.{pick}
 use Rattle.numbers.specs.Result.{check, settled}
@@ -84,17 +84,20 @@ module _ (f : List ℕ) (p : Parts) (i : Inside f p) where
       let h = i .addresses in
       length-take-le 6 (drop (p .dst + 6) f) (omega arith)
 
-  pub native-written : (o x u v e : List ℕ) → x ≡ drop (p .content) f
-      → u ≡ pasted o 0 (take 6 (drop (p .dst) f))
-      → v ≡ pasted u 6 (take 6 (drop (p .dst + 6) f))
-      → e ≡ pasted v 12 x
+  -- both addresses are one piece
+  both-bytes : take 12 (drop (p .dst) f) ≡ take 6 (drop (p .dst) f) ++ take 6 (drop (p .dst + 6) f)
+  both-bytes = take-add 6 6 (drop (p .dst) f) ∙ rw (drop-drop 6 (p .dst) f)
+
+  pub native-written : (o a x u e : List ℕ) → a ≡ take 12 (drop (p .dst) f) → x ≡ drop (p .content) f
+      → u ≡ pasted o 0 a
+      → e ≡ pasted u 12 x
       → e ≡ laid (nativeBytes (fieldsIn f p)) o
   unfolding nativeBytes
-  native-written o x u v e a b c d =
+  native-written o a x u e both rest first second =
       let dst : List ℕ = take 6 (drop (p .dst) f) in
       let src : List ℕ = take 6 (drop (p .dst + 6) f) in
-      d
-      ∙ rw (c, b, paste-behind o dst src 6 dst-bytes, a, paste-behind o (dst ++ src) (drop (p .content) f) 12 (simp (length-append, dst-bytes, src-bytes)), paste-laid o ((dst ++ src) ++ drop (p .content) f), append-assoc dst src (drop (p .content) f))
+      second
+      ∙ rw (first, both, both-bytes, rest, paste-behind o (dst ++ src) (drop (p .content) f) 12 (simp (length-append, dst-bytes, src-bytes)), paste-laid o ((dst ++ src) ++ drop (p .content) f), append-assoc dst src (drop (p .content) f))
 
   native-length : length (nativeBytes (fieldsIn f p)) ≡ 12 + (length f - p .content)
   unfolding nativeBytes
@@ -121,7 +124,7 @@ module _ (f : List ℕ) (p : Parts) (i : Inside f p) where
           → (e : Entry) → e ≡ lessonOf s label (v .src) (v .ingress)
           → (how : Learning) (u : List ℕ) → onTable how u ≡ learnt e t
           → (z : List ℕ) → z ≡ laid (nativeBytes (fieldsIn f p)) o
-          → onBoth (Delivered (12 + (length f - p .content)) label how) u z ≡ delivered
+          → onBoth (Delivered how (12 + (length f - p .content)) label) u z ≡ delivered
       unfolding delivery settled check lesson
       done h k label le e ee how u lu z lz =
           rw (← w .dst, ← group, h, native-length, le-leb (12 + (length f - p .content)) (length o) k, i .label, ← le, ← w .src, ← w .ingress, ← ee, ← lu, lz)

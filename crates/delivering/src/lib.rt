@@ -68,8 +68,7 @@ fn write_native(f: &[u8], p: Parts, out: &mut [u8])
     requires { ⌜ Inside (now f) p × ((length (now f) ≤ 9216) × (12 + (length (now f) - p .content) ≤ length (now out))) ⌝ }
     ensures { λ _. ⌜ now (out .exit) ≡ laid (nativeBytes (fieldsIn (now (f .entry)) p)) (now (out .entry)) ⌝ }
 {
-    copying::copy_from_6(f, p.dst, 6, out, 0);
-    copying::copy_from_6(f, p.dst + 6, 6, out, 6);
+    copying::copy_12(copying::part(f, p.dst, 12), out, 0);
     copying::copy_block(fields::rest(f, p.content), out, 12);
 }
 
@@ -96,8 +95,8 @@ pub fn deliver(
     write_native(f, p, out);
     let how = learning::learn(lesson(s, label, v.src, v.ingress), table);
     ReadAnswer::Delivered {
+        learning: how,
         length: n as u16,
         label: label,
-        learning: how,
     }
 }

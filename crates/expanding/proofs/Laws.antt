@@ -78,6 +78,9 @@ module _ (s : Settings) (u : spec.Outer) (f : List ℕ) (g : Bool) (eg : g ≡ o
       pub address-there : 6 ≤ length f
       address-there = let a = sizes-are (length f) more (sym ez ∙ not-false z fit) .0 in omega arith
 
+      pub addresses-there : 12 ≤ length f
+      addresses-there = let a = sizes-are (length f) more (sym ez ∙ not-false z fit) .0 in omega arith
+
       module _ (a : ℕ) (ea : a ≡ num (take 6 f)) (r : Front) (er : frontAs r ≡ frontAt (s .port) a) where
         pub to-port : r ≡ front.Unicast → refused 18 ≡ compactFields s u f
         unfolding compactFields spec.compactOnly check

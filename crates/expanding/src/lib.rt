@@ -3,7 +3,7 @@ ghost use Prim.Native.Nat.{_+_, _≤_};
 ghost use mathlib.Core.Path.{_≡_};
 ghost use lib.ListN.{length};
 ghost use Rattle.numbers.specs.After.{onArea};
-ghost use Rattle.frame.specs.Formats.{longestFrame};
+ghost use Rattle.frame.specs.Formats.{longestFrame, compact};
 ghost use Rattle.parsing.specs.Meaning.{fieldsIn, parsedAs, parsedWithin};
 ghost use Rattle.copying.specs.Areas.{pasted};
 ghost use Rattle.convert.specs.Expansion.{tagGood, outerBytes, outerTag, generalTail, expanded};
@@ -11,6 +11,7 @@ ghost use Rattle.compacting.specs.Meaning.{Copyable, compactLength, putOn};
 ghost use Rattle.expanding.specs.Meaning.{outerAs, outerGood, sizesGood, compactFields, destinationOf, outerFront, generalTo};
 use convert::ConvertAnswer;
 use fields::Front;
+use fields::Size;
 use frame::Settings;
 use numbers::refusals::AREA_SHORT;
 use numbers::refusals::FRAME_LENGTH_BAD;
@@ -58,6 +59,17 @@ fn sizes_good(n: usize, more: usize) -> bool
     (14 <= n) & (n <= 9216 - more)
 }
 
+// As `parsing::read_compact`. With one caller each, both are a part of their callers' code.
+fn compact_parts(f: &[u8]) -> Parsed
+    requires { ⌜ 12 ≤ length (now f) ⌝ }
+    ensures { λ r. ⌜ (parsedAs (now (f .entry)) r ≡ compact (now (f .entry))) × parsedWithin (length (now (f .entry))) r ⌝ }
+{
+    match fields::label_length(fields::rest(f, 12)) {
+        Size::Refused(e) => Parsed::Refused(e),
+        Size::Bytes(k) => parsing::compact_behind(f, k),
+    }
+}
+
 // The parts of a Compact frame; one that means General in front is 18. Compact on or off doesn't bear on it.
 fn compact_fields(s: Settings, u: Outer, f: &[u8]) -> Parsed
     ensures { λ r. ⌜ (parsedAs (now (f .entry)) r ≡ compactFields s (outerAs u) (now (f .entry))) × parsedWithin (length (now (f .entry))) r ⌝ }
@@ -73,7 +85,7 @@ fn compact_fields(s: Settings, u: Outer, f: &[u8]) -> Parsed
         Front::Unicast => Parsed::Refused(NOT_COMPACT),
         Front::Multicast => Parsed::Refused(NOT_COMPACT),
         Front::Refused => Parsed::Refused(NOT_FOR_PORT),
-        Front::Inner => parsing::read_compact(f),
+        Front::Inner => compact_parts(f),
     }
 }
 
@@ -105,8 +117,8 @@ fn write_outer(dst: u64, u: Outer, out: &mut [u8])
     requires { ⌜ outerBytes (outerAs u) ≤ length (now out) ⌝ }
     ensures { λ _. ⌜ now (out .exit) ≡ pasted (now (out .entry)) 0 (outerFront dst (outerAs u)) ⌝ }
 {
-    copying::put_number(dst, 6, out, 0);
-    copying::put_number(u.source, 6, out, 6);
+    copying::put_6(dst, out, 0);
+    copying::put_6(u.source, out, 6);
     write_tag(u, out);
 }
 

@@ -2,12 +2,12 @@
 // one the lowest free slot is filled.
 ghost use Prim.Native.Nat.{_+_, _*_, _≤_};
 ghost use mathlib.Core.Path.{_≡_};
-ghost use lib.ListN.{length};
+ghost use lib.ListN.{length, drop};
 ghost use Rattle.numbers.specs.After.{onTable};
 ghost use Rattle.table.specs.Learning.{putEntry, overMatch, intoFree, learnt, freeSlot};
-ghost use Rattle.table.specs.Record.{unpacked};
+ghost use Rattle.table.specs.Record.{recordOf, unpacked};
 ghost use Rattle.table.specs.Slots.{slotBytes, slotAt, lowest};
-ghost use Rattle.records.specs.Halves.{Fits};
+ghost use Rattle.records.specs.Halves.{IsHeld, Fits};
 use table::Entry;
 use table::Learning;
 use table::Place;
@@ -23,12 +23,12 @@ fn put(e: Entry, k: usize, table: &mut [u8])
     records::pack(e, &mut table[a..b]);
 }
 
-// Learning over the slot with the same label and address.
+// Learning over the slot with the same label and address, whose record is therefore good.
 fn over_match(e: Entry, k: usize, table: &mut [u8]) -> Learning
-    requires { ⌜ (slotBytes * k + slotBytes ≤ length (now table)) × Fits e ⌝ }
+    requires { ⌜ (slotBytes * k + slotBytes ≤ length (now table)) × (Fits e × IsHeld (recordOf (drop (slotBytes * k) (now table)))) ⌝ }
     ensures { λ r. ⌜ onTable r (now (table .exit)) ≡ overMatch (unpacked (slotAt k (now (table .entry)))) k e (now (table .entry)) ⌝ }
 {
-    match records::unpack(table, 14 * k) {
+    match records::unpack_held(table, 14 * k) {
         Slot::Free => Learning::Kept,
         Slot::Spoilt => Learning::Kept,
         Slot::Learned(old) => {

@@ -6,7 +6,7 @@ use mathlib.Core.Path.{_≡_, refl, sym, ap, _∙_}
 use mathlib.Core.List.{List, []}
 use native.Mathlib.Omega.{arith}
 use lib.Dec.{leb}
-use lib.ListN.{length, take, drop}
+use lib.ListN.{length, take, drop, length-drop}
 use lib.Seq.{drop-drop}
 use borrow.Author.Tests.{le-leb, lt-leb}
 use Rattle.numbers.specs.Result.{Result, refused, got, check, andThen}
@@ -18,7 +18,8 @@ use Rattle.frame.specs.Formats.{compactRest, compact}
 use Rattle.fields.specs.Meaning.{sizeAs}
 use Rattle.fields.specs.declared.Size.{Size}
 use Rattle.fields.specs.declared.Size.the-variants.{Refused, Bytes}
-use Rattle.parsing.specs.Meaning.{tailRest, tailAs, tailWithin, fieldsIn}
+use Rattle.parsing.specs.Meaning.{tailRest, tailAs, tailWithin, compactBehind, fieldsIn, parsedAs}
+use Rattle.parsing.specs.declared.Parsed.{Parsed}
 use Rattle.parsing.proofs.General.{size-refused, size-bytes}
 
 module _ (l : List ℕ) where
@@ -69,37 +70,39 @@ tail-front d s t l = front-cases d s t (λ h. take h (drop 2 l)) (λ h. drop h (
 
 -- the places in the whole frame
 compact-places : (f : List ℕ) (n h : ℕ)
-    → record { header = take h (drop 2 (drop n (drop 6 (drop 6 f)))); dst = take 6 f; src = take 6 (drop 6 f); label = take n (drop 6 (drop 6 f)); content = drop h (drop 2 (drop n (drop 6 (drop 6 f)))) }
+    → record { header = take h (drop 2 (drop (12 + n) f)); dst = take 6 f; src = take 6 (drop 6 f); label = take n (drop 12 f); content = drop h (drop 2 (drop (12 + n) f)) }
     ≡ fieldsIn f (record { dst = 0; label = n; header = 14 + n; size = h; content = 14 + n + h })
 compact-places f n h =
     let place : 12 + n + 2 ≡ 14 + n = omega arith in
-    rw (drop-drop 6 6 f, drop-drop n 12 f, drop-drop 2 (12 + n) f, place, drop-drop h (14 + n) f)
+    rw (drop-drop 2 (12 + n) f, place, drop-drop h (14 + n) f)
 
-module _ (f : List ℕ) where
-  pub c-dst-cut : length f < 6 → refused 6 ≡ compact f
-  unfolding compact check
-  c-dst-cut p = rw (lt-leb 6 (length f) p)
+module _ (f : List ℕ) (n : ℕ) (q : List ℕ) (eq : q ≡ drop (12 + n) f) (rh : Size) (eh : tailAs q rh ≡ tailRest q) where
+  pub c-tail : (e : ℕ) → rh ≡ Refused e → refused e ≡ compactBehind f n
+  unfolding compactBehind andThen
+  c-tail e p = rw (← eq, tail-front (take 6 f) (take 6 (drop 6 f)) (take n (drop 12 f)) q, ← eh, p)
 
-  module _ (six : 6 ≤ length f) (b : List ℕ) (eb : b ≡ drop 6 f) where
-    pub c-src-cut : length b < 6 → refused 6 ≡ compact f
-    unfolding compact check
-    c-src-cut p = rw (le-leb 6 (length f) six, ← eb, lt-leb 6 (length b) p)
+  pub c-whole : (h : ℕ) → rh ≡ Bytes h → got (fieldsIn f (record { dst = 0; label = n; header = 14 + n; size = h; content = 14 + n + h })) ≡ compactBehind f n
+  unfolding compactBehind andThen
+  c-whole h i =
+      ap got (sym (compact-places f n h))
+      ∙ rw (← eq, tail-front (take 6 f) (take 6 (drop 6 f)) (take n (drop 12 f)) q, ← eh, i)
 
-    module _ (lb : 6 ≤ length b) (t : List ℕ) (et : t ≡ drop 6 b) (rn : Size) (en : sizeAs rn ≡ labelLength t) where
-      pub c-label : (e : ℕ) → rn ≡ Refused e → refused e ≡ compact f
-      unfolding compact check andThen
-      c-label e p = rw (le-leb 6 (length f) six, ← eb, le-leb 6 (length b) lb, ← et, size-refused rn _ e p en)
+-- up to the label
+module _ (f : List ℕ) (long : 12 ≤ length f) (t : List ℕ) (et : t ≡ drop 12 f) (rn : Size) (en : sizeAs rn ≡ labelLength t) where
+  addresses-in : compact f ≡ andThen (labelLength (drop 12 f)) λ n. compactBehind f n
+  unfolding compact compactBehind check
+  addresses-in =
+      let six : 6 ≤ length (drop 6 f) = simp length-drop (omega arith) in
+      rw (le-leb 6 (length f) (omega arith), le-leb 6 (length (drop 6 f)) six, drop-drop 6 6 f)
+      (λ i. andThen (labelLength (drop 12 f)) λ n. compactRest (take 6 f) (take 6 (drop 6 f)) (take n (drop 12 f)) (drop-drop n 12 f i))
 
-      module _ (n : ℕ) (q : List ℕ) (im : rn ≡ Bytes n) (eq : q ≡ drop n t) (rh : Size) (eh : tailAs q rh ≡ tailRest q) where
-        pub c-tail : (e : ℕ) → rh ≡ Refused e → refused e ≡ compact f
-        unfolding compact check andThen
-        c-tail e p = rw (le-leb 6 (length f) six, ← eb, le-leb 6 (length b) lb, ← et, size-bytes rn _ n im en, ← eq, tail-front (take 6 f) (take 6 b) (take n t) q, ← eh, p)
+  pub c-label : (e : ℕ) → rn ≡ Refused e → refused e ≡ compact f
+  unfolding andThen
+  c-label e p = rw (addresses-in, ← et, size-refused rn _ e p en)
 
-        pub c-whole : (h : ℕ) → rh ≡ Bytes h → got (fieldsIn f (record { dst = 0; label = n; header = 14 + n; size = h; content = 14 + n + h })) ≡ compact f
-        unfolding compact check andThen
-        c-whole h i =
-            ap got (sym (compact-places f n h))
-            ∙ rw (le-leb 6 (length f) six, ← eb, le-leb 6 (length b) lb, ← et, size-bytes rn _ n im en, ← eq, tail-front (take 6 f) (take 6 b) (take n t) q, ← eh, i)
+  pub c-behind : (n : ℕ) → rn ≡ Bytes n → (x : Parsed) → parsedAs f x ≡ compactBehind f n → parsedAs f x ≡ compact f
+  unfolding andThen
+  c-behind n p x q = rw (addresses-in, ← et, size-bytes rn _ n p en) q
 
 -- the lengths that were read stay within the frame
 pub tail-bound : (n : ℕ) (r : Size) → tailWithin n r → (h : ℕ) → r ≡ Bytes h → h + 2 ≤ n

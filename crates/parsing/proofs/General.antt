@@ -17,9 +17,10 @@ use Rattle.frame.proofs.Parts.{outer-is}
 use Rattle.fields.specs.Meaning.{sizeAs}
 use Rattle.fields.specs.declared.Size.{Size}
 use Rattle.fields.specs.declared.Size.the-variants.{Refused, Bytes}
+use Rattle.parsing.specs.declared.Parsed.{Parsed}
 use Rattle.parsing.specs.declared.Lens.{Lens}
 use Rattle.parsing.specs.declared.Lens.the-variants as lens
-use Rattle.parsing.specs.Meaning.{lensAs, lensWithin, generalCut, fieldsIn}
+use Rattle.parsing.specs.Meaning.{lensAs, lensWithin, generalCut, fieldsIn, parsedAs}
 
 -- ---- what a size says
 
@@ -75,19 +76,21 @@ general-places f o h n =
     let twelve : o + h + 6 + 6 ≡ o + h + 12 = omega arith in
     rw (drop-drop h o f, drop-drop 6 (o + h) f, drop-drop 6 (o + h + 6) f, twelve, drop-drop n (o + h + 12) f)
 
+module _ (d : Front) (f : List ℕ) (o : ℕ) (l : List ℕ) (el : l ≡ drop o f) (r : Lens) (er : lensAs l r ≡ generalRest d l) where
+  pub g-rest : (e : ℕ) → r ≡ lens.Refused e → refused e ≡ generalRest d (drop o f)
+  g-rest e p = rw (← el, ← er, p)
+
+  pub g-whole : (h n : ℕ) → r ≡ lens.Both h n → got (fieldsIn f (record { dst = o + h; label = n; header = o; size = h; content = o + h + 12 + n })) ≡ generalRest d (drop o f)
+  g-whole h n p = ap got (sym (general-places f o h n)) ∙ rw (← el, ← er, p)
+
 module _ (d : Front) (f : List ℕ) (ro : Size) (eo : sizeAs ro ≡ outerLength f) where
   pub g-outer : (e : ℕ) → ro ≡ Refused e → refused e ≡ general d f
   unfolding general andThen
   g-outer e p = simp (size-refused ro _ e p eo)
 
-  module _ (o : ℕ) (l : List ℕ) (io : ro ≡ Bytes o) (el : l ≡ drop o f) (r : Lens) (er : lensAs l r ≡ generalRest d l) where
-    pub g-rest : (e : ℕ) → r ≡ lens.Refused e → refused e ≡ general d f
-    unfolding general andThen
-    g-rest e p = simp (size-bytes ro _ o io eo, ← el, ← er, p)
-
-    pub g-whole : (h n : ℕ) → r ≡ lens.Both h n → got (fieldsIn f (record { dst = o + h; label = n; header = o; size = h; content = o + h + 12 + n })) ≡ general d f
-    unfolding general andThen
-    g-whole h n p = ap got (sym (general-places f o h n)) ∙ simp (size-bytes ro _ o io eo, ← el, ← er, p)
+  pub g-behind : (o : ℕ) → ro ≡ Bytes o → (x : Parsed) → parsedAs f x ≡ generalRest d (drop o f) → parsedAs f x ≡ general d f
+  unfolding general andThen
+  g-behind o p x q = rw (size-bytes ro _ o p eo) q
 
 -- the lengths that were read stay within the frame
 pub lens-bound : (n : ℕ) (r : Lens) → lensWithin n r → (h k : ℕ) → r ≡ lens.Both h k → h + 12 + k ≤ n

@@ -43,6 +43,10 @@ abbrev pub tailAs : List ℕ → Size → Result Fields
 tailAs l (size.Refused n) = refused n
 tailAs l (size.Bytes h) = got (record { header = take h (drop 2 l); dst = []; src = []; label = []; content = drop h (drop 2 l) })
 
+-- a Compact frame behind its label of n bytes, the parts before it put in
+unfoldable pub compactBehind : List ℕ → ℕ → Result Fields
+compactBehind f n = compactRest (take 6 f) (take 6 (drop 6 f)) (take n (drop 12 f)) (drop (12 + n) f)
+
 -- the fields of a frame at the places of its parts
 abbrev pub fieldsIn : List ℕ → Parts → Fields
 fieldsIn f p = record {

@@ -1,10 +1,11 @@
 // Reading a frame of either format into one set of fields, from left to right with the refusals in their places. From `Parts` on
 // nothing tells which format arrived.
+ghost use Prim.Native.Nat.{_+_, _≤_};
 ghost use mathlib.Core.Path.{_≡_};
-ghost use lib.ListN.{length};
+ghost use lib.ListN.{length, drop};
 ghost use Rattle.frame.specs.Formats.{generalRest, general, compact, parsed};
 ghost use Rattle.fields.specs.Meaning.{frontAs};
-ghost use Rattle.parsing.specs.Meaning.{lensAs, lensWithin, tailAs, tailWithin, tailRest, parsedAs, parsedWithin};
+ghost use Rattle.parsing.specs.Meaning.{lensAs, lensWithin, tailAs, tailWithin, tailRest, compactBehind, parsedAs, parsedWithin};
 use fields::Front;
 use fields::Size;
 use frame::Settings;
@@ -64,22 +65,30 @@ fn general_rest(d: Front, l: &[u8]) -> Lens
     }
 }
 
+// A General frame, behind its outer part of o bytes.
+pub fn general_behind(d: Front, f: &[u8], o: usize) -> Parsed
+    requires { ⌜ o ≤ length (now f) ⌝ }
+    ensures { λ r. ⌜ (parsedAs (now (f .entry)) r ≡ generalRest (frontAs d) (drop o (now (f .entry)))) × parsedWithin (length (now (f .entry))) r ⌝ }
+{
+    match general_rest(d, fields::rest(f, o)) {
+        Lens::Refused(e) => Parsed::Refused(e),
+        Lens::Both(h, n) => Parsed::Fields(Parts {
+            dst: o + h,
+            label: n,
+            header: o,
+            size: h,
+            content: o + h + 12 + n,
+        }),
+    }
+}
+
 // A General frame.
 pub fn read_general(d: Front, f: &[u8]) -> Parsed
     ensures { λ r. ⌜ (parsedAs (now (f .entry)) r ≡ general (frontAs d) (now (f .entry))) × parsedWithin (length (now (f .entry))) r ⌝ }
 {
     match fields::outer_length(f) {
         Size::Refused(e) => Parsed::Refused(e),
-        Size::Bytes(o) => match general_rest(d, fields::rest(f, o)) {
-            Lens::Refused(e) => Parsed::Refused(e),
-            Lens::Both(h, n) => Parsed::Fields(Parts {
-                dst: o + h,
-                label: n,
-                header: o,
-                size: h,
-                content: o + h + 12 + n,
-            }),
-        },
+        Size::Bytes(o) => general_behind(d, f, o),
     }
 }
 
@@ -106,30 +115,31 @@ fn tail_length(l: &[u8]) -> Size
     }
 }
 
+// A Compact frame, behind its label of k bytes.
+pub fn compact_behind(f: &[u8], k: usize) -> Parsed
+    requires { ⌜ 12 + k ≤ length (now f) ⌝ }
+    ensures { λ r. ⌜ (parsedAs (now (f .entry)) r ≡ compactBehind (now (f .entry)) k) × parsedWithin (length (now (f .entry))) r ⌝ }
+{
+    match tail_length(fields::rest(f, 12 + k)) {
+        Size::Refused(e) => Parsed::Refused(e),
+        Size::Bytes(h) => Parsed::Fields(Parts {
+            dst: 0,
+            label: k,
+            header: 14 + k,
+            size: h,
+            content: 14 + k + h,
+        }),
+    }
+}
+
 // A Compact frame.
 pub fn read_compact(f: &[u8]) -> Parsed
+    requires { ⌜ 12 ≤ length (now f) ⌝ }
     ensures { λ r. ⌜ (parsedAs (now (f .entry)) r ≡ compact (now (f .entry))) × parsedWithin (length (now (f .entry))) r ⌝ }
 {
-    if f.len() < 6 {
-        return Parsed::Refused(CUT_SHORT);
-    }
-    let b = fields::rest(f, 6);
-    if b.len() < 6 {
-        return Parsed::Refused(CUT_SHORT);
-    }
-    let t = fields::rest(b, 6);
-    match fields::label_length(t) {
+    match fields::label_length(fields::rest(f, 12)) {
         Size::Refused(e) => Parsed::Refused(e),
-        Size::Bytes(k) => match tail_length(fields::rest(t, k)) {
-            Size::Refused(e) => Parsed::Refused(e),
-            Size::Bytes(h) => Parsed::Fields(Parts {
-                dst: 0,
-                label: k,
-                header: 14 + k,
-                size: h,
-                content: 14 + k + h,
-            }),
-        },
+        Size::Bytes(k) => compact_behind(f, k),
     }
 }
 

@@ -40,7 +40,7 @@ compactCalls = read p10Compact outBefore ∷ later
 
 abbrev pub seen : List Seen
 seen =
-    record { answer = toRead (reads.Delivered 16 (Vlan 10) learning.Learned); table = p1; out = outAfter }
+    record { answer = toRead (reads.Delivered learning.Learned 16 (Vlan 10)); table = p1; out = outAfter }
     ∷ record { answer = toLookup (lookups.Found 0x1234); table = p1; out = [] }
     ∷ record { answer = toAge ages.Done; table = p1Aged; out = [] }
     ∷ record { answer = toSpoilt spoilts.Clean; table = p1Aged; out = [] }

@@ -41,7 +41,7 @@ lesson life s p = record {
 
 -- "the answer gives its length, its label, and learned, refreshed, kept or full"
 abbrev pub deliveredWith : Fields → List ℕ → OnTable Learning → OnBoth ReadAnswer
-deliveredWith p o c = onBoth (Delivered (length (nativeBytes p)) (labelRead (p .label)) (c .answer)) (c .table) (laid (nativeBytes p) o)
+deliveredWith p o c = onBoth (Delivered (c .answer) (length (nativeBytes p)) (labelRead (p .label))) (c .table) (laid (nativeBytes p) o)
 
 -- the native frame is delivered and its source learned: 13, 16
 unfoldable pub delivery : ℕ → Settings → Fields → List ℕ → List ℕ → Result (OnBoth ReadAnswer)

@@ -8,7 +8,7 @@ ghost use Rattle.numbers.specs.Ranges.{nicknameGood};
 ghost use Rattle.table.specs.Record.{recordBytes, recordOf, stateOf, nicknameOf, learnedState, entryOf, entryGood, slotOf, unpacked, kindNumber, labelNumber, packed, recordNumber, isFree, isLearned, labelFrom, slotMatches};
 ghost use Rattle.table.specs.Slots.{slotBytes, freed, tableGood};
 ghost use Rattle.table.specs.Table.{spoiltSlot};
-ghost use Rattle.records.specs.Halves.{wholeOf, Small, Halved, Fits, heldOrSpoilt, keyIn, keyOf, roundKeyIn, roundKeyOf, pairGood, Pair};
+ghost use Rattle.records.specs.Halves.{wholeOf, Small, Halved, IsHeld, Fits, heldOrSpoilt, keyIn, keyOf, roundKeyIn, roundKeyOf, pairGood, Pair};
 use table::Entry;
 use table::Label;
 use table::Slot;
@@ -114,6 +114,18 @@ pub fn unpack(t: &[u8], at: usize) -> Slot
     held_or_spoilt(h)
 }
 
+// The same of a record that is known to be learned or configured: only its state is asked.
+pub fn unpack_held(t: &[u8], at: usize) -> Slot
+    requires { ⌜ (at + recordBytes ≤ length (now t)) × IsHeld (recordOf (drop at (now t))) ⌝ }
+    ensures { λ r. ⌜ r ≡ unpacked (drop at (now (t .entry))) ⌝ }
+{
+    let h = split(t, at);
+    if state_of(h) == 1 {
+        return Slot::Learned(entry_of(h));
+    }
+    Slot::Configured(entry_of(h))
+}
+
 // The nickname in the record at a place of the table.
 pub fn nickname_at(t: &[u8], at: usize) -> u16
     requires { ⌜ at + recordBytes ≤ length (now t) ⌝ }
@@ -201,8 +213,8 @@ fn write(h: Halves, slot: &mut [u8])
 {
     let hi = h.hi;
     let lo = h.lo;
-    numbers::fill(&mut slot[0..8], hi);
-    numbers::fill(&mut slot[8..14], lo);
+    numbers::fill8(&mut slot[0..8], hi);
+    numbers::fill6(&mut slot[8..14], lo);
 }
 
 // Writes the record of a learned entry to a slot.

@@ -126,9 +126,9 @@ fn learning_number(l: Learning) -> u64
     }
 }
 
-fn delivered_word(length: u16, label: Label, learning: Learning) -> u64
+fn delivered_word(learning: Learning, length: u16, label: Label) -> u64
     requires { ⌜ labelNumber label < 2 ^ 24 ⌝ }
-    ensures { λ r. ⌜ r ≡ readWord (Delivered length label learning) ⌝ }
+    ensures { λ r. ⌜ r ≡ readWord (Delivered learning length label) ⌝ }
 {
     let values = 65 + length as u64 * 0x100 + learning_number(learning) * 0x100_0000;
     values
@@ -144,10 +144,10 @@ fn read_word(a: ReadAnswer) -> u64
         ReadAnswer::Refused(n) => n as u64,
         ReadAnswer::Onward => 64,
         ReadAnswer::Delivered {
+            learning,
             length,
             label,
-            learning,
-        } => delivered_word(length, label, learning),
+        } => delivered_word(learning, length, label),
         ReadAnswer::OtherChannel => 66,
         ReadAnswer::Flushed(k) => 67 + k as u64 * 0x100,
     }

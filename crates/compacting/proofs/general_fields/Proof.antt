@@ -23,8 +23,8 @@ front-refusal-requires c κs = search needs
 returns-3 : tie.Need-returns-3
 returns-3 c = (search not-general, tt)
 
-read-general-requires : tie.Need-read-general-requires
-read-general-requires c κs = search needs
+general-parts-requires : tie.Need-general-parts-requires
+general-parts-requires c κs = search needs
 
 returns-4 : tie.Need-returns-4
 returns-4 c = (search is-general, search needs)
@@ -39,5 +39,5 @@ general-fields-spec =
     front-of-requires
     front-refusal-requires
     returns-3
-    read-general-requires
+    general-parts-requires
     returns-4)

@@ -5,14 +5,11 @@ use borrow.Author.Needs.{needs}
 use Rattle.delivering.proofs.write_native.Statement.{statement}
 use Rattle.delivering.proofs.write_native.Tie as tie
 
-copy-from-6-requires : tie.Need-copy-from-6-requires
-copy-from-6-requires c κs = search needs
+part-requires : tie.Need-part-requires
+part-requires c κs = search needs
 
-add-copy-from-6 : tie.Need-add-copy-from-6
-add-copy-from-6 c = search needs
-
-copy-from-6-requires-2 : tie.Need-copy-from-6-requires-2
-copy-from-6-requires-2 c κs = search needs
+copy-12-requires : tie.Need-copy-12-requires
+copy-12-requires c κs = search needs
 
 rest-requires : tie.Need-rest-requires
 rest-requires c κs = search needs
@@ -29,11 +26,4 @@ returns c = search native-written
 pub write-native-spec : {M : Type 1} → statement M
 write-native-spec =
     tie.close
-    (tie.spec
-    copy-from-6-requires
-    add-copy-from-6
-    copy-from-6-requires-2
-    rest-requires
-    copy-block-requires
-    same-length
-    returns)
+    (tie.spec part-requires copy-12-requires rest-requires copy-block-requires same-length returns)

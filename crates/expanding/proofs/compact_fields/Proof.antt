@@ -1,6 +1,6 @@
 -- `expanding::compact_fields` meets its contract: each way out is an outcome of the definition.
 -- Assumes nothing.
-use Rattle.expanding.proofs.Laws.{bad-outer, bad-sizes, address-there, to-port, to-all, not-here, compact-front}
+use Rattle.expanding.proofs.Laws.{bad-outer, bad-sizes, address-there, addresses-there, to-port, to-all, not-here, compact-front}
 use borrow.Author.Needs.{needs}
 use Rattle.expanding.proofs.compact_fields.Statement.{statement}
 use Rattle.expanding.proofs.compact_fields.Tie as tie
@@ -38,8 +38,8 @@ enum-told-3 c = search needs
 enum-told-4 : tie.Need-enum-told-4
 enum-told-4 c = search needs
 
-read-compact-requires : tie.Need-read-compact-requires
-read-compact-requires c κs = search needs
+compact-parts-requires : tie.Need-compact-parts-requires
+compact-parts-requires c κs = search addresses-there
 
 returns-3 : tie.Need-returns-3
 returns-3 c = (search to-port, tt)
@@ -68,7 +68,7 @@ compact-fields-spec =
     enum-told-2
     enum-told-3
     enum-told-4
-    read-compact-requires
+    compact-parts-requires
     returns-3
     returns-4
     returns-5

@@ -7,11 +7,11 @@ use borrow.Author.Needs.{needs}
 use Rattle.expanding.proofs.write_outer.Statement.{statement}
 use Rattle.expanding.proofs.write_outer.Tie as tie
 
-put-number-requires : tie.Need-put-number-requires
-put-number-requires c κs = omega (arith, outer-room (outerAs (c .before .before .args .u)) _ (c .before .before .pre))
+put-6-requires : tie.Need-put-6-requires
+put-6-requires c κs = omega (arith, outer-room (outerAs (c .before .before .args .u)) _ (c .before .before .pre))
 
-put-number-requires-2 : tie.Need-put-number-requires-2
-put-number-requires-2 c κs = omega (arith, outer-room (outerAs (c .before .before .before .before .before .before .args .u)) _ (c .before .before .before .before .before .before .pre))
+put-6-requires-2 : tie.Need-put-6-requires-2
+put-6-requires-2 c κs = omega (arith, outer-room (outerAs (c .before .before .before .before .before .before .args .u)) _ (c .before .before .before .before .before .before .pre))
 
 write-tag-requires : tie.Need-write-tag-requires
 write-tag-requires c κs = search needs
@@ -25,4 +25,4 @@ returns c = search outer-written
 pub write-outer-spec : {M : Type 1} → statement M
 write-outer-spec =
     tie.close
-    (tie.spec put-number-requires put-number-requires-2 write-tag-requires same-length returns)
+    (tie.spec put-6-requires put-6-requires-2 write-tag-requires same-length returns)

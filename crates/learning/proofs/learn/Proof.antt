@@ -1,6 +1,6 @@
 -- `learning::learn` meets its contract: over the match, or into a free slot.
 -- Assumes nothing.
-use Rattle.learning.proofs.Laws.{match-within, learnt-over, learnt-free}
+use Rattle.learning.proofs.Laws.{match-within, match-good, learnt-over, learnt-free}
 use borrow.Author.Needs.{needs}
 use Rattle.learning.proofs.learn.Statement.{statement}
 use Rattle.learning.proofs.learn.Tie as tie
@@ -18,7 +18,7 @@ enum-known-k : tie.Need-enum-known-k
 enum-known-k c = search needs
 
 over-match-requires : tie.Need-over-match-requires
-over-match-requires c κs = (search match-within, search needs)
+over-match-requires c κs = (search match-within, (search needs, search match-good))
 
 enum-told : tie.Need-enum-told
 enum-told c = search needs

@@ -5,11 +5,11 @@ use borrow.Author.Needs.{needs}
 use Rattle.learning.proofs.over_match.Statement.{statement}
 use Rattle.learning.proofs.over_match.Tie as tie
 
-mul-unpack : tie.Need-mul-unpack
-mul-unpack c = search needs
+mul-unpack-held : tie.Need-mul-unpack-held
+mul-unpack-held c = search needs
 
-unpack-requires : tie.Need-unpack-requires
-unpack-requires c κs = search needs
+unpack-held-requires : tie.Need-unpack-held-requires
+unpack-held-requires c κs = search needs
 
 enum-told : tie.Need-enum-told
 enum-told c = search needs
@@ -60,8 +60,8 @@ pub over-match-spec : {M : Type 1} → statement M
 over-match-spec =
     tie.close
     (tie.spec
-    mul-unpack
-    unpack-requires
+    mul-unpack-held
+    unpack-held-requires
     enum-told
     enum-told-2
     enum-known-old
