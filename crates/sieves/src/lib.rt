@@ -8,11 +8,19 @@ ghost use Rattle.numbers.specs.Numberings.{bitAt};
 ghost use Rattle.ranges.specs.Ranges.{covered};
 ghost use Rattle.sieves.specs.Sieves.{sieveBytes, spotOf, Keeps, Marked, Sieved};
 
+// The numbers that share a bit, and how many bits there are.
+const STRETCH: u64 = 512;
+
+const SPOTS: u64 = 0x8000;
+
+// A longer interval marks every number: it would take as long to mark as a search takes.
+const LONGEST_MARKED: u64 = 64 * STRETCH;
+
 // The place of a number's bit.
 fn spot_of(x: u64) -> u64
     ensures { λ r. ⌜ (r ≡ spotOf x) × (r < 2 ^ 15) ⌝ }
 {
-    x / 512 % 0x8000
+    x / STRETCH % SPOTS
 }
 
 // Marks the numbers from s to before e. Where they are many it answers false and marks nothing.
@@ -24,7 +32,7 @@ fn mark(s: u64, e: u64, sieve: &mut [u8]) -> bool
         return true;
     }
     let last = e - 1;
-    if 0x8000 <= last - s {
+    if LONGEST_MARKED <= last - s {
         return false;
     }
     let i = spot_of(s);
@@ -41,7 +49,7 @@ pub fn mark_stretch(h: u64, sieve: &mut [u8])
     requires { ⌜ length (now sieve) ≡ sieveBytes ⌝ }
     ensures { λ _. ⌜ Keeps (now (sieve .entry)) (now (sieve .exit)) × ((x : ℕ) → h ≡ x / 512 → bitAt (spotOf x) (now (sieve .exit)) ≡ true) ⌝ }
 {
-    bits::add_one(sieve, (h % 0x8000) as usize);
+    bits::add_one(sieve, (h % SPOTS) as usize);
 }
 
 // Marks every number.
@@ -49,7 +57,7 @@ pub fn mark_all(sieve: &mut [u8])
     requires { ⌜ length (now sieve) ≡ sieveBytes ⌝ }
     ensures { λ _. ⌜ Keeps (now (sieve .entry)) (now (sieve .exit)) × ((s e : ℕ) → Marked s e (now (sieve .exit))) ⌝ }
 {
-    bits::add_range(sieve, 0, 0x8000);
+    bits::add_range(sieve, 0, SPOTS as usize);
 }
 
 // Marks the numbers in intervals.
