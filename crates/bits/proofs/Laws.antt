@@ -142,7 +142,7 @@ unfolding either
 either-none true = refl
 either-none false = refl
 
-either-all : (a : Bool) → either a true ≡ true
+pub either-all : (a : Bool) → either a true ≡ true
 unfolding either
 either-all true = refl
 either-all false = refl

@@ -183,12 +183,6 @@ module _ (h : Halves) where
         let nickname : h .lo / 2 ^ 21 % 2 ^ 16 ≡ nicknameOf n = omega arith in
         good-fields n _ _ _ _ kind label group nickname
 
-    pub state-halves : h .hi / 2 ^ 62 ≡ stateOf (wholeOf h)
-    state-halves =
-        let hi = s .hi-small in
-        let lo = s .lo-small in
-        omega arith
-
     -- the label of a good record, which fits where it is a VLAN
     module _ (good : entryGood (entryOf (wholeOf h)) ≡ true) where
       pub vlan-fits : h .hi / 2 ^ 61 % 2 ≡ 0 → h .hi / 2 ^ 37 % 2 ^ 24 ≤ 0xffe

@@ -15,6 +15,7 @@ use Rattle.numbers.specs.Tests.{either, anyOf}
 use Rattle.numbers.specs.Numberings.{bitAt}
 use Rattle.numbers.proofs.Truth.{both-true}
 use Rattle.bits.specs.Ranged.{Ranged}
+use Rattle.bits.proofs.Laws.{either-all}
 use Rattle.sorting.proofs.Laws.{either-none}
 use Rattle.ranges.specs.Ranges.{lowOf, pastOf, holds, covered}
 use Rattle.sieves.specs.Sieves.{sieveBytes, spotOf, Keeps, Marked, Sieved}
@@ -69,11 +70,6 @@ keeps-twice s t u a b = record { long = b .long ∙ a .long; kept = λ y h. b .k
 
 -- ---- intervals
 
-either-true : (a : Bool) → either a true ≡ true
-unfolding either
-either-true true = refl
-either-true false = refl
-
 -- a loop over a list of which the test t says which numbers each element has
 pub record Marking (t : ℕ → ℕ → Bool) (keys s₀ s : List ℕ) (i : ℕ) : Type 0 where
   pub place : i ≤ length keys
@@ -82,7 +78,7 @@ pub record Marking (t : ℕ → ℕ → Bool) (keys s₀ s : List ℕ) (i : ℕ)
 
 module _ (t : ℕ → ℕ → Bool) (keys s₀ : List ℕ) where
   pub marking-start : Marking t keys s₀ s₀ 0
-  marking-start = record { place = omega arith; keeps = keeps-none s₀; each = λ x h. rw h (either-true (bitAt (spotOf x) s₀)) }
+  marking-start = record { place = omega arith; keeps = keeps-none s₀; each = λ x h. rw h (either-all (bitAt (spotOf x) s₀)) }
 
   module _ (s : List ℕ) (i : ℕ) (m : Marking t keys s₀ s i) where
     pub marking-done : length keys ≤ i → length s₀ ≡ sieveBytes → Keeps s₀ s × Sieved (λ x. anyOf (t x) keys) s
@@ -117,7 +113,7 @@ module _ (t : ℕ → ℕ → Bool) (keys s₀ : List ℕ) where
             → either (bitAt (spotOf x) u) (anyOf (t x) (drop (i + 1) keys)) ≡ true
         go x h true ea b eb = rw (k .kept (spotOf x) ea)
         go x h false ea true eb = rw (mark x eb)
-        go x h false ea false eb = rw (add-one i, rw (ea, eb) at h) (either-true (bitAt (spotOf x) u))
+        go x h false ea false eb = rw (add-one i, rw (ea, eb) at h) (either-all (bitAt (spotOf x) u))
 
 -- what an interval has is marked
 pub interval-marked : (past : List ℕ) (v e : ℕ) (u : List ℕ) → e ≡ pastOf past v → Marked (v / 4096) e u → (x : ℕ) → holds (pastOf past) x v ≡ true → bitAt (spotOf x) u ≡ true
