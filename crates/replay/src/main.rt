@@ -258,9 +258,9 @@ fn send_frame(b: &[u8], table: &[u8], work: &mut [u8])
 {
     let s = settings_in(b);
     let frame = &b[34..];
-    let answer = sending::send(s, frame, work);
+    let answer = convert_send::send(s, frame, work);
     print_areas(shinglebar::send_word(answer), table, work);
-    print_bytes(sending::choose(answer, work, frame));
+    print_bytes(convert_send::choose(answer, work, frame));
     io::write_all(1, &[b'\n']);
 }
 
@@ -324,7 +324,7 @@ fn step(kind: u64, b: &[u8], table: &mut [u8], size: usize, area: &mut [u8]) -> 
     requires { ⌜ (length (now b) ≤ length (now table)) × (size ≤ length (now table)) ⌝ }
 {
     if kind == 0 {
-        copying::copy_at(b, table, 0);
+        frame_copy::copy_at(b, table, 0);
         return b.len();
     }
     if replay_call(kind, b, &mut table[0..size], area) {

@@ -18,7 +18,7 @@ ghost use Rattle.convert.specs.Words.{convertWord, sendWord};
 ghost use Rattle.shinglebar.specs.Arguments.{settingsOf, outerOf};
 use convert::ConvertAnswer;
 use convert::SendAnswer;
-use expanding::Outer;
+use convert_expand::Outer;
 use flush::FlushAnswer;
 use frame::Settings;
 use receive::ReadAnswer;
@@ -42,7 +42,7 @@ fn lookup_word(a: LookupAnswer) -> u64
 pub extern "C" fn shinglebar_lookup(kind: u32, label: u32, mac: u64, table: &[u8]) -> u64
     ensures { λ r. ⌜ r ≡ lookupWord (lookedUp kind label mac (now (table .entry))) ⌝ }
 {
-    lookup_word(search::lookup(kind, label, mac, table))
+    lookup_word(table_search::lookup(kind, label, mac, table))
 }
 
 fn age_word(a: AgeAnswer) -> u64
@@ -58,7 +58,7 @@ fn age_word(a: AgeAnswer) -> u64
 pub extern "C" fn shinglebar_age(seconds: u16, table: &mut [u8]) -> u64
     ensures { λ r. ⌜ onTable r (now (table .exit)) ≡ tableAs ageWord (aged seconds (now (table .entry))) ⌝ }
 {
-    age_word(ageing::age(seconds, table))
+    age_word(table_ageing::age(seconds, table))
 }
 
 fn spoilt_word(a: SpoiltAnswer) -> u64
@@ -75,7 +75,7 @@ fn spoilt_word(a: SpoiltAnswer) -> u64
 pub extern "C" fn shinglebar_spoilt(table: &[u8]) -> u64
     ensures { λ r. ⌜ r ≡ spoiltWord (lowestSpoilt (now (table .entry))) ⌝ }
 {
-    spoilt_word(search::lowest_spoilt(table))
+    spoilt_word(table_search::lowest_spoilt(table))
 }
 
 fn flush_word(a: FlushAnswer) -> u64
@@ -91,7 +91,7 @@ fn flush_word(a: FlushAnswer) -> u64
 pub extern "C" fn shinglebar_flush(ingress: u32, payload: &[u8], table: &mut [u8]) -> u64
     ensures { λ r. ⌜ onTable r (now (table .exit)) ≡ tableAs flushWord (flushed ingress (now (payload .entry)) (now (table .entry))) ⌝ }
 {
-    flush_word(flushing::flush(ingress, payload, table))
+    flush_word(flush_call::flush(ingress, payload, table))
 }
 
 // The settings of a port, from the six numbers of every call that has them.
@@ -132,8 +132,8 @@ fn delivered_word(learning: Learning, length: u16, label: Label) -> u64
 {
     let values = 65 + length as u64 * 0x100 + learning_number(learning) * 0x100_0000;
     values
-        + records::kind_number(label) * 0x1_0000_0000
-        + records::label_number(label) * 0x100_0000_0000
+        + table_records::kind_number(label) * 0x1_0000_0000
+        + table_records::label_number(label) * 0x100_0000_0000
 }
 
 fn read_word(a: ReadAnswer) -> u64
@@ -168,7 +168,7 @@ pub extern "C" fn shinglebar_receive(
     ensures { λ r. ⌜ onBoth r (now (table .exit)) (now (out .exit)) ≡ bothAs readWord (received (settingsOf port inner nickname compact confidence seconds) (now (frame .entry)) (now (table .entry)) (now (out .entry))) ⌝ }
 {
     let s = settings(port, inner, nickname, compact, confidence, seconds);
-    read_word(receiving::receive(s, frame, table, out))
+    read_word(receive_call::receive(s, frame, table, out))
 }
 
 fn convert_word(a: ConvertAnswer) -> u64
@@ -194,7 +194,7 @@ pub extern "C" fn shinglebar_compact(
     ensures { λ r. ⌜ onArea r (now (out .exit)) ≡ areaAs convertWord (compacted (settingsOf port inner nickname compact confidence seconds) (now (frame .entry)) (now (out .entry))) ⌝ }
 {
     let s = settings(port, inner, nickname, compact, confidence, seconds);
-    convert_word(compacting::compact(s, frame, out))
+    convert_word(convert_compact::compact(s, frame, out))
 }
 
 #[no_mangle]
@@ -219,7 +219,7 @@ pub extern "C" fn shinglebar_expand(
         tagged: tagged,
         tag: tag,
     };
-    convert_word(expanding::expand(s, u, frame, out))
+    convert_word(convert_expand::expand(s, u, frame, out))
 }
 
 pub fn send_word(a: SendAnswer) -> u64
@@ -246,5 +246,5 @@ pub extern "C" fn shinglebar_send(
     ensures { λ r. ⌜ onArea r (now (work .exit)) ≡ areaAs sendWord (sent (settingsOf port inner nickname compact confidence seconds) (now (frame .entry)) (now (work .entry))) ⌝ }
 {
     let s = settings(port, inner, nickname, compact, confidence, seconds);
-    send_word(sending::send(s, frame, work))
+    send_word(convert_send::send(s, frame, work))
 }

@@ -9,18 +9,6 @@ use borrow.Author.Needs.{needs}
 use Rattle.shinglebar.proofs.shinglebar_compact.Statement.{statement}
 use Rattle.shinglebar.proofs.shinglebar_compact.Tie as tie
 
-settings-requires : tie.Need-settings-requires
-settings-requires c κs = search needs
-
-compact-requires : tie.Need-compact-requires
-compact-requires c κs = search needs
-
-convert-word-requires : tie.Need-convert-word-requires
-convert-word-requires c κs = search needs
-
-same-length : tie.Need-same-length
-same-length c = search needs
-
 returns : tie.Need-returns
 returns c =
     let a = c .before .before .before .before .before .before .before .before .args in
@@ -31,4 +19,4 @@ returns c =
 pub shinglebar-compact-spec : {M : Type 1} → statement M
 shinglebar-compact-spec =
     tie.close
-    (tie.spec settings-requires compact-requires convert-word-requires same-length returns)
+    (tie.spec (λ c κs. search needs) (λ c κs. search needs) (λ c κs. search needs) (λ c. search needs) returns)

@@ -10,18 +10,6 @@ use borrow.Author.Needs.{needs}
 use Rattle.shinglebar.proofs.shinglebar_expand.Statement.{statement}
 use Rattle.shinglebar.proofs.shinglebar_expand.Tie as tie
 
-settings-requires : tie.Need-settings-requires
-settings-requires c κs = search needs
-
-expand-requires : tie.Need-expand-requires
-expand-requires c κs = search needs
-
-convert-word-requires : tie.Need-convert-word-requires
-convert-word-requires c κs = search needs
-
-same-length : tie.Need-same-length
-same-length c = search needs
-
 returns : tie.Need-returns
 returns c =
     let a = c .before .before .before .before .before .before .before .before .args in
@@ -32,4 +20,4 @@ returns c =
 pub shinglebar-expand-spec : {M : Type 1} → statement M
 shinglebar-expand-spec =
     tie.close
-    (tie.spec settings-requires expand-requires convert-word-requires same-length returns)
+    (tie.spec (λ c κs. search needs) (λ c κs. search needs) (λ c κs. search needs) (λ c. search needs) returns)

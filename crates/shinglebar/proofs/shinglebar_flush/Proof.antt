@@ -7,17 +7,8 @@ use borrow.Author.Needs.{needs}
 use Rattle.shinglebar.proofs.shinglebar_flush.Statement.{statement}
 use Rattle.shinglebar.proofs.shinglebar_flush.Tie as tie
 
-flush-requires : tie.Need-flush-requires
-flush-requires c κs = search needs
-
-flush-word-requires : tie.Need-flush-word-requires
-flush-word-requires c κs = search needs
-
-same-length : tie.Need-same-length
-same-length c = search needs
-
 returns : tie.Need-returns
 returns c = rw (c .flush-word .ensures) (ap (tableAs flushWord) (c .before .before .before .flush .ensures))
 
 pub shinglebar-flush-spec : {M : Type 1} → statement M
-shinglebar-flush-spec = tie.close (tie.spec flush-requires flush-word-requires same-length returns)
+shinglebar-flush-spec = tie.close (tie.spec (λ c κs. search needs) (λ c κs. search needs) (λ c. search needs) returns)

@@ -6,14 +6,8 @@ use borrow.Author.Needs.{needs}
 use Rattle.shinglebar.proofs.shinglebar_lookup.Statement.{statement}
 use Rattle.shinglebar.proofs.shinglebar_lookup.Tie as tie
 
-lookup-requires : tie.Need-lookup-requires
-lookup-requires c κs = search needs
-
-lookup-word-requires : tie.Need-lookup-word-requires
-lookup-word-requires c κs = search needs
-
 returns : tie.Need-returns
 returns c = c .lookup-word .ensures ∙ ap lookupWord (c .before .lookup .ensures)
 
 pub shinglebar-lookup-spec : {M : Type 1} → statement M
-shinglebar-lookup-spec = tie.close (tie.spec lookup-requires lookup-word-requires returns)
+shinglebar-lookup-spec = tie.close (tie.spec (λ c κs. search needs) (λ c κs. search needs) returns)

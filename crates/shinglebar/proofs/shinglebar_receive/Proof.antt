@@ -11,21 +11,9 @@ use borrow.Author.Needs.{needs}
 use Rattle.shinglebar.proofs.shinglebar_receive.Statement.{statement}
 use Rattle.shinglebar.proofs.shinglebar_receive.Tie as tie
 
-settings-requires : tie.Need-settings-requires
-settings-requires c κs = search needs
-
-receive-requires : tie.Need-receive-requires
-receive-requires c κs = search needs
-
 read-word-requires : tie.Need-read-word-requires
 read-word-requires c κs =
     subst LabelFits (sym (ap (λ (x : OnBoth ReadAnswer). x .answer) (c .before .before .before .before .receive .ensures))) (read-fits _ _ _ _)
-
-same-length : tie.Need-same-length
-same-length c = search needs
-
-same-length-2 : tie.Need-same-length-2
-same-length-2 c = search needs
 
 returns : tie.Need-returns
 returns c =
@@ -37,4 +25,4 @@ returns c =
 pub shinglebar-receive-spec : {M : Type 1} → statement M
 shinglebar-receive-spec =
     tie.close
-    (tie.spec settings-requires receive-requires read-word-requires same-length same-length-2 returns)
+    (tie.spec (λ c κs. search needs) (λ c κs. search needs) read-word-requires (λ c. search needs) (λ c. search needs) returns)

@@ -9,18 +9,6 @@ use borrow.Author.Needs.{needs}
 use Rattle.shinglebar.proofs.shinglebar_send.Statement.{statement}
 use Rattle.shinglebar.proofs.shinglebar_send.Tie as tie
 
-settings-requires : tie.Need-settings-requires
-settings-requires c κs = search needs
-
-send-requires : tie.Need-send-requires
-send-requires c κs = search needs
-
-send-word-requires : tie.Need-send-word-requires
-send-word-requires c κs = search needs
-
-same-length : tie.Need-same-length
-same-length c = search needs
-
 returns : tie.Need-returns
 returns c =
     let a = c .before .before .before .before .before .before .before .before .args in
@@ -30,4 +18,4 @@ returns c =
 
 pub shinglebar-send-spec : {M : Type 1} → statement M
 shinglebar-send-spec =
-    tie.close (tie.spec settings-requires send-requires send-word-requires same-length returns)
+    tie.close (tie.spec (λ c κs. search needs) (λ c κs. search needs) (λ c κs. search needs) (λ c. search needs) returns)

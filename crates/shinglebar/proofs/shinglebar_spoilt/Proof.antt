@@ -6,14 +6,8 @@ use borrow.Author.Needs.{needs}
 use Rattle.shinglebar.proofs.shinglebar_spoilt.Statement.{statement}
 use Rattle.shinglebar.proofs.shinglebar_spoilt.Tie as tie
 
-lowest-spoilt-requires : tie.Need-lowest-spoilt-requires
-lowest-spoilt-requires c κs = search needs
-
-spoilt-word-requires : tie.Need-spoilt-word-requires
-spoilt-word-requires c κs = search needs
-
 returns : tie.Need-returns
 returns c = c .spoilt-word .ensures ∙ ap spoiltWord (c .before .lowest-spoilt .ensures)
 
 pub shinglebar-spoilt-spec : {M : Type 1} → statement M
-shinglebar-spoilt-spec = tie.close (tie.spec lowest-spoilt-requires spoilt-word-requires returns)
+shinglebar-spoilt-spec = tie.close (tie.spec (λ c κs. search needs) (λ c κs. search needs) returns)

@@ -1,0 +1,137 @@
+-- Laws of the two calls: refused, or cleared; a good table has few slots.
+-- Assumes nothing.
+use Prim.Native.Nat.{ℕ, zero, suc, _+_, _-_, _*_, _%_, _≤_}
+use mathlib.Core.Bool.{Bool, true, false}
+use mathlib.Core.List.{List}
+use mathlib.Core.Path.{_≡_, sym, ap, _∙_}
+use native.Mathlib.Nat.{add-sub-cancel-left}
+use native.Mathlib.Omega.{arith}
+use lib.Dec.{eqb}
+use lib.ListN.{length, take, drop}
+use Rattle.numbers.specs.Tests.{pick, between}
+use Rattle.numbers.specs.Result.{Result, refused, got, check, andThen, settled}
+use Rattle.numbers.specs.Refusals.{payload-corrupt, table-length-bad}
+use Rattle.numbers.specs.After.{OnTable, onTable}
+use Rattle.numbers.proofs.Truth.{both-true, between-is}
+use Rattle.numbers.proofs.Answers.{got-got, then-got}
+use Rattle.table.specs.Slots.{slotBytes, mostSlots, tableGood, slotsOf, slotAt, countSlots}
+use Rattle.flush.specs.Payload.{everyType, nickBytes, blockCount, blockBytes, made, payloadOf}
+use Rattle.flush.specs.Flush.{slotMeant, clearedBy, clearing, flushed}
+use Rattle.flush.specs.Validity.{Valid}
+use Rattle.flush.specs.declared.FlushAnswer.the-variants as answer
+use Rattle.flush.proofs.Validity.{validity}
+use Rattle.flush_payload.proofs.Laws.{rest-is}
+use Rattle.flush_sweep.specs.Clearing.{payloadFrom}
+use Rattle.flush_call.specs.Clearing.{clearedOn}
+use Rattle.flush_call.specs.declared.Cleared.{Cleared}
+use Rattle.flush_call.specs.declared.Cleared.the-variants.{Refused, Count}
+
+-- ---- judged, and cleared
+
+module _ (l : List ℕ) (j : Bool) (judged : check j payload-corrupt (got (made l)) ≡ payloadOf everyType l) where
+  module _ (good : j ≡ true) where
+    judged-got : payloadOf everyType l ≡ got (made l)
+    unfolding check
+    judged-got = sym judged ∙ rw good
+
+    valid : Valid l
+    valid = validity .valid l .0 judged-got
+
+    pub good-front : 2 + nickBytes l ≤ length l
+    good-front = valid .counts
+
+    pub good-blocks : (k n : ℕ) → k ≡ nickBytes l → n ≡ blockCount l → blockBytes * n ≤ length (take (length l - (2 + k)) (drop (2 + k) l))
+    good-blocks k n e f =
+        let b = valid .blocks in
+        rw (rest-is (2 + k) l, e, f) b
+
+  module _ (ingress : ℕ) (t : List ℕ) where
+    pub meant-refused : j ≡ false → onTable (Refused payload-corrupt) t ≡ clearedOn t (clearing everyType ingress l t)
+    unfolding clearing clearedOn andThen check
+    meant-refused h = rw (← judged, h)
+
+    pub meant-cleared : j ≡ true → (k n : ℕ) → k ≡ nickBytes l → n ≡ blockCount l → (c : ℕ) (u : List ℕ)
+        → onTable c u ≡ clearedBy (slotMeant everyType (payloadFrom (take (1 + k - 1) (drop 1 l)) n (take (length l - (2 + k)) (drop (2 + k) l))) ingress) t
+        → onTable (Count c) u ≡ clearedOn t (clearing everyType ingress l t)
+    unfolding clearing clearedOn andThen
+    meant-cleared h k n e f c u ran =
+        let same : onTable c u ≡ clearedBy (slotMeant everyType (made l) ingress) t = rw (add-sub-cancel-left 1 k, rest-is (2 + k) l, e, f) at ran in
+        rw (judged-got h, ← same)
+
+-- ---- what an answer says of the definition
+
+module _ (t u : List ℕ) (r : Cleared) where
+  answer-is : (a : OnTable Cleared) → onTable r u ≡ a → (r ≡ a .answer) × (u ≡ a .table)
+  answer-is a e = (ap (λ (x : OnTable Cleared). x .answer) e, ap (λ (x : OnTable Cleared). x .table) e)
+
+  pub ran-refused : (x : Result (OnTable ℕ)) → onTable r u ≡ clearedOn t x → (n : ℕ) → r ≡ Refused n → (x ≡ refused n) × (u ≡ t)
+  unfolding clearedOn
+  ran-refused (refused m) ran n e =
+      let a = answer-is (onTable (Refused m) t) ran in
+      let same : m ≡ n = cc (a .0) in
+      (ap refused same, a .1)
+  ran-refused (got c) ran n e = let z : _≡_ {A = ℕ} 0 1 = cc (answer-is _ ran .0) in absurd (omega arith)
+
+  pub ran-count : (x : Result (OnTable ℕ)) → onTable r u ≡ clearedOn t x → (n : ℕ) → r ≡ Count n → x ≡ got (onTable n u)
+  unfolding clearedOn
+  ran-count (refused m) ran n e = let z : _≡_ {A = ℕ} 0 1 = cc (answer-is _ ran .0) in absurd (omega arith)
+  ran-count (got c) ran n e =
+      let a = answer-is (onTable (Count (c .answer)) (c .table)) ran in
+      let same : n ≡ c .answer = cc (a .0) in
+      rw (same, a .1)
+
+-- ---- the count
+
+pick-few : (b : Bool) → pick b 1 0 ≤ 1
+unfolding pick
+pick-few true = omega arith
+pick-few false = omega arith
+
+count-few : (meant : List ℕ → Bool) (t : List ℕ) (n : ℕ) → countSlots meant 0 n t ≤ n
+unfolding countSlots
+count-few meant t zero = omega arith
+count-few meant t (suc n) =
+    let a = count-few meant t n in
+    let b = pick-few (meant (slotAt (0 + n) t)) in
+    omega arith
+
+-- no more are cleared than there are slots
+pub clearing-few : (ingress : ℕ) (l t : List ℕ) (c : OnTable ℕ) → clearing everyType ingress l t ≡ got c → c .answer ≤ slotsOf t
+unfolding clearing clearedBy
+clearing-few ingress l t c h =
+    let (p, q, e) = then-got _ _ _ h in
+    let same : countSlots (slotMeant everyType p ingress) 0 (slotsOf t) t ≡ c .answer = ap (λ (x : OnTable ℕ). x .answer) (got-got _ _ e) in
+    let few = count-few (slotMeant everyType p ingress) t (slotsOf t) in
+    omega arith
+
+pub good-slots : (t : List ℕ) → tableGood t ≡ true → slotsOf t ≤ mostSlots
+unfolding tableGood
+good-slots t h =
+    let b = both-true (between 1 (slotBytes * mostSlots) (length t)) (eqb (length t % slotBytes) 0) h in
+    let c = between-is 1 (slotBytes * mostSlots) (length t) (b .0) in
+    omega arith
+
+-- ---- the flush call
+
+module _ (ingress : ℕ) (l t : List ℕ) (g : Bool) (good : g ≡ tableGood t) where
+  pub flush-refused : g ≡ false → onTable (answer.Refused table-length-bad) t ≡ flushed ingress l t
+  unfolding flushed settled check
+  flush-refused h = rw (← good, h)
+
+  module _ (ok : g ≡ true) (r : Cleared) (u : List ℕ) (ran : onTable r u ≡ clearedOn t (clearing everyType ingress l t)) where
+    pub flush-corrupt : (n : ℕ) → r ≡ Refused n → onTable (answer.Refused n) u ≡ flushed ingress l t
+    unfolding flushed settled check andThen
+    flush-corrupt n e =
+        let a = ran-refused t u r (clearing everyType ingress l t) ran n e in
+        rw (← good, ok, a .0, a .1)
+
+    module _ (n : ℕ) (e : r ≡ Count n) where
+      pub flush-cleared : onTable (answer.Flushed n) u ≡ flushed ingress l t
+      unfolding flushed settled check andThen
+      flush-cleared = rw (← good, ok, ran-count t u r (clearing everyType ingress l t) ran n e)
+
+      pub count-fits : n ≤ mostSlots
+      count-fits =
+          let few = clearing-few ingress l t (onTable n u) (ran-count t u r (clearing everyType ingress l t) ran n e) in
+          let slots = good-slots t (sym good ∙ ok) in
+          omega arith

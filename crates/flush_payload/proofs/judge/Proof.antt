@@ -1,0 +1,36 @@
+-- `flush_payload::judge` meets its contract: each way out is a test of the definition, in its order.
+-- Assumes nothing.
+use Rattle.flush_payload.proofs.Laws.{short-front, short-nicks, short-blocks, judged}
+use borrow.Author.Needs.{needs}
+use Rattle.flush_payload.proofs.judge.Statement.{statement}
+use Rattle.flush_payload.proofs.judge.Tie as tie
+
+returns : tie.Need-returns
+returns c = search short-front
+
+returns-2 : tie.Need-returns-2
+returns-2 c = search short-nicks
+
+returns-3 : tie.Need-returns-3
+returns-3 c = search short-blocks
+
+returns-4 : tie.Need-returns-4
+returns-4 c = search judged
+
+pub judge-spec : {M : Type 1} → statement M
+judge-spec =
+    tie.close
+    (tie.spec
+    returns
+    (λ c κs. search needs)
+    (λ c. search needs)
+    returns-2
+    (λ c κs. search needs)
+    (λ c. search needs)
+    (λ c. search needs)
+    returns-3
+    (λ c. search needs)
+    (λ c. search needs)
+    (λ c. search needs)
+    (λ c κs. search needs)
+    returns-4)

@@ -1,0 +1,49 @@
+-- `flush_sets::add_map` meets its contract. The invariant: what was added and the map from `at` on, whose first number is `n`, make up the whole.
+-- Assumes nothing.
+use Prim.Native.Nat.{_-_}
+use lib.ListN.{length}
+use Rattle.flush_sets.proofs.Maps.{Mapping, map-none, map-start, map-next, map-past, map-done}
+use borrow.Author.Needs.{needs}
+use Rattle.flush_sets.proofs.add_map.Statement.{statement}
+use Rattle.flush_sets.proofs.add_map.Tie as tie
+
+abbrev Inv-loop : tie.InvT-loop
+Inv-loop v s₀ n₀ at₀ s n at = Mapping v s₀ s n at
+
+abbrev μ-loop : tie.MeasureT-loop
+μ-loop v s₀ n₀ at₀ s n at = length v - at
+
+returns : tie.Need-returns Inv-loop μ-loop
+returns c = search map-none
+
+loop-holds : tie.Need-loop-holds Inv-loop μ-loop
+loop-holds c = search map-start
+
+returns-2 : tie.Need-returns-2 Inv-loop μ-loop
+returns-2 c = search map-past
+
+loop-again : tie.Need-loop-again Inv-loop μ-loop
+loop-again c = search map-next
+
+returns-3 : tie.Need-returns-3 Inv-loop μ-loop
+returns-3 c = search map-done
+
+pub add-map-spec : {M : Type 1} → statement M
+add-map-spec =
+    tie.close
+    (tie.spec
+    Inv-loop
+    μ-loop
+    returns
+    (λ c κs. search needs)
+    loop-holds
+    (λ c. search needs)
+    returns-2
+    (λ c. search needs)
+    (λ c κs. search needs)
+    (λ c. search needs)
+    (λ c. search needs)
+    (λ c. search needs)
+    loop-again
+    (λ c. search needs)
+    returns-3)

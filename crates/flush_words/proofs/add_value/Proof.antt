@@ -1,0 +1,15 @@
+-- `flush_words::add_value` meets its contract: each way out is a case of the definition.
+-- Assumes nothing.
+use Rattle.flush_words.proofs.Gathering.{value-map, value-other}
+use borrow.Author.Needs.{needs}
+use Rattle.flush_words.proofs.add_value.Statement.{statement}
+use Rattle.flush_words.proofs.add_value.Tie as tie
+
+returns : tie.Need-returns
+returns c = search value-map
+
+returns-2 : tie.Need-returns-2
+returns-2 c = λ few. search value-other
+
+pub add-value-spec : {M : Type 1} → statement M
+add-value-spec = tie.close (tie.spec (λ c κs. search needs) (λ c. search needs) returns returns-2)

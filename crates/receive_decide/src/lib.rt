@@ -1,0 +1,83 @@
+// What the fields of a frame lead to, alike for both formats: 8, 9, 11; onward; a channel frame, or one to deliver.
+ghost use mathlib.Core.Path.{_≡_};
+ghost use Rattle.numbers.specs.Result.{Result};
+ghost use Rattle.numbers.specs.After.{OnBoth};
+ghost use Rattle.frame.specs.Fields.{Fields};
+ghost use Rattle.frame.specs.Labels.{isChannel};
+ghost use Rattle.receive.specs.declared.ReadAnswer.{ReadAnswer};
+ghost use Rattle.frame_parse.specs.Meaning.{fieldsIn};
+ghost use Rattle.receive_decide.specs.Meaning.{Inside, Viewed, deciding, stepAs, nicknamesOf, onwardOf};
+use frame::Settings;
+use frame_parse::Parts;
+use numbers::refusals::HOPS_SPENT;
+use numbers::refusals::NICKNAME_BAD;
+use numbers::refusals::SOURCE_GROUP;
+
+// The numbers that are read of a frame once: the header's first word and nicknames, the inner addresses.
+pub struct View {
+    pub first: u64,
+    pub egress: u64,
+    pub ingress: u64,
+    pub dst: u64,
+    pub src: u64,
+}
+
+pub enum Step {
+    Refused(u8),
+    Onward,
+    Channel,
+    Native,
+}
+
+// Reads those numbers.
+pub fn read_view(f: &[u8], p: Parts) -> View
+    requires { ⌜ Inside (now f) p ⌝ }
+    ensures { λ r. ⌜ Viewed (fieldsIn (now (f .entry)) p) r ⌝ }
+{
+    let h = p.header;
+    let d = p.dst;
+    View {
+        first: numbers::be2(f, h),
+        egress: numbers::be2(f, h + 2),
+        ingress: numbers::be2(f, h + 4),
+        dst: numbers::be6(f, d),
+        src: numbers::be6(f, d + 6),
+    }
+}
+
+// Refusal 9.
+fn nicknames_good(nickname: u32, egress: u64, ingress: u64) -> bool
+    ensures { λ r. ⌜ r ≡ nicknamesOf nickname egress ingress ⌝ }
+{
+    numbers::nickname_good(egress)
+        & (numbers::nickname_good(ingress) & (ingress != nickname as u64))
+}
+
+// M is 0 and egress is not our nickname.
+fn is_onward(nickname: u32, first: u64, egress: u64) -> bool
+    ensures { λ r. ⌜ r ≡ onwardOf nickname first egress ⌝ }
+{
+    (first / 0x800 % 2 == 0) & (egress != nickname as u64)
+}
+
+// The decision, `channel` being whether the content starts 8946.
+pub fn decide(s: Settings, v: View, channel: bool) -> Step
+    ensures { λ r. ⌜ ((p : Fields) → Viewed p v → channel ≡ isChannel (p .content) → (a b c : Result (OnBoth ReadAnswer)) → stepAs r a b c ≡ deciding s p a b c) ⌝ }
+{
+    if v.first % 0x40 == 0 {
+        return Step::Refused(HOPS_SPENT);
+    }
+    if !nicknames_good(s.nickname, v.egress, v.ingress) {
+        return Step::Refused(NICKNAME_BAD);
+    }
+    if !numbers::is_individual(v.src) {
+        return Step::Refused(SOURCE_GROUP);
+    }
+    if is_onward(s.nickname, v.first, v.egress) {
+        return Step::Onward;
+    }
+    if channel {
+        return Step::Channel;
+    }
+    Step::Native
+}

@@ -1,0 +1,43 @@
+-- `table_records::spoilt_at` meets its contract: of state 1 or 2 the entry tells, else any bit.
+-- Assumes nothing.
+use Prim.Native.Nat.{ℕ, _%_, _^_}
+use mathlib.Core.Path.{ap}
+use Rattle.table.specs.Record.{unpacked}
+use Rattle.table.specs.Table.{spoiltSlot}
+use Rattle.table_records.proofs.Fronts.{spoilt-entry, spoilt-front, spoilt-rest, three-parts}
+use borrow.Author.Needs.{needs}
+use Rattle.table_records.proofs.spoilt_at.Statement.{statement}
+use Rattle.table_records.proofs.spoilt_at.Tie as tie
+
+good-behind-requires : tie.Need-good-behind-requires
+good-behind-requires c κs = (search needs, ap (λ (x : ℕ). x % 2 ^ 30) (c .before .front-at .ensures .0))
+
+returns : tie.Need-returns
+unfolding spoiltSlot unpacked
+returns c = spoilt-entry _ _ (c .before .before .front-at .ensures .0) (c .before .before .front-at .ensures .1) (c .before .if1 .taken) _ (c .good-behind .ensures)
+
+returns-2 : tie.Need-returns-2
+unfolding spoiltSlot unpacked
+returns-2 c = spoilt-front _ _ (c .before .before .front-at .ensures .0) (c .before .before .front-at .ensures .1) (c .before .if1 .left) (c .if2 .taken)
+
+returns-3 : tie.Need-returns-3
+unfolding spoiltSlot unpacked
+returns-3 c =
+    let start = c .before .before .before .before .before .before in
+    let front = c .before .before .before .before .front-at .ensures in
+    spoilt-rest _ _ (front .0) (front .1) (c .before .before .if2 .left) _ _ _ (c .before .be8 .ensures .1) (c .be2 .ensures .1)
+    (three-parts (start .args .t .now) (start .args .at) (start .pre) _ _ (c .before .be8 .ensures .0) (c .be2 .ensures .0))
+
+pub spoilt-at-spec : {M : Type 1} → statement M
+spoilt-at-spec =
+    tie.close
+    (tie.spec
+    (λ c κs. search needs)
+    good-behind-requires
+    returns
+    returns-2
+    (λ c. search needs)
+    (λ c κs. search needs)
+    (λ c. search needs)
+    (λ c κs. search needs)
+    returns-3)

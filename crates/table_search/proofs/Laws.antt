@@ -1,0 +1,167 @@
+-- Laws of searching: each test looks at a slot's own bytes; what the telling bytes rule out; numbers that no good record can hold.
+-- Assumes nothing.
+use Prim.Native.Nat.{ℕ, zero, suc, _+_, _-_, _*_, _%_, _^_, _<_, _≤_}
+use mathlib.Core.Bool.{Bool, true, false, not, _&&_}
+use mathlib.Core.List.{List}
+use mathlib.Core.Path.{_≡_, refl, sym, ap, _∙_}
+use native.Mathlib.Nat.{zero-add}
+use native.Mathlib.Decide.{ℕ-discrete}
+use native.Mathlib.Omega.{arith}
+use lib.Dec.{eqb}
+use lib.ListN.{drop, length}
+use borrow.Author.Tests.{ne-eqb, not-false}
+use Rattle.numbers.specs.Tests.{pick, between}
+use Rattle.numbers.specs.Result.{check, settled}
+use Rattle.numbers.proofs.Truth.{not-true-false, both-true, between-is}
+use Rattle.table.specs.Learning.{freeSlot}
+use Rattle.table.specs.Record.{recordOf, stateOf, nicknameOf, vlanKind, fineKind, labelFrom, unpacked, isFree, isSpoilt, slotMatches}
+use Rattle.table.specs.Slots.{slotBytes, mostSlots, tableGood, firstSlot, lowest}
+use Rattle.table.specs.Table.{holds, placeOf, nicknameAt, lookedUp, spoiltSlot, spoiltAt, lowestSpoilt}
+use Rattle.table.specs.declared.Label.{Label}
+use Rattle.table.specs.declared.Label.the-variants.{Vlan, Fine}
+use Rattle.table.specs.declared.Place.{Place}
+use Rattle.table.specs.declared.Place.the-variants.{At, Nowhere}
+use Rattle.table.specs.declared.LookupAnswer.the-variants as lookup
+use Rattle.table.specs.declared.SpoiltAnswer.the-variants as spoilt
+use Rattle.table.proofs.Slots.{Local, search-next, lowest-none, lowest-within}
+use Rattle.table_records.specs.Halves.{keyIn, keyOf, roundKeyIn, roundKeyOf, pairGood}
+use Rattle.table_records.specs.Rounds.{Keyed, NoneOfFour, Passed}
+use Rattle.table_records.proofs.Laws.{record-near, unpacked-near, pair-key, pair-round-key, free-state, pair-fits}
+use Rattle.numbers.proofs.Truth.{and-both}
+use Rattle.table_records.proofs.Fronts.{pair-holds}
+use Rattle.table_records.proofs.Rounds.{passed-four}
+use Rattle.table_search.specs.States.{InNoState}
+
+pub holds-near : (l : Label) (m : ℕ) → Local (holds l m)
+unfolding holds
+holds-near l m x = ap (slotMatches l m) (unpacked-near x)
+
+pub free-near : Local freeSlot
+unfolding freeSlot
+free-near x = ap isFree (unpacked-near x)
+
+pub spoilt-near : Local spoiltSlot
+unfolding spoiltSlot
+spoilt-near x = ap isSpoilt (unpacked-near x)
+
+-- another key: the slot does not hold the pair
+pub other-key : (k x m : ℕ) → k ≤ 1 → (r : List ℕ) → (keyIn (recordOf r) ≡ keyOf m → ⊥) → false ≡ holds (labelFrom k x) m r
+unfolding holds unpacked
+other-key k x m hk r h = sym (not-true-false _ (λ e. h (pair-key k x m (recordOf r) hk e)))
+
+other-round-key : (k x m : ℕ) → k ≤ 1 → (r : List ℕ) → (roundKeyIn (recordOf r) ≡ roundKeyOf m → ⊥) → false ≡ holds (labelFrom k x) m r
+unfolding holds unpacked
+other-round-key k x m hk r h = sym (not-true-false _ (λ e. h (pair-round-key k x m (recordOf r) hk e)))
+
+-- slots that a round rules out are passed by
+past : (p : List ℕ → Bool) → Local p → (P : List ℕ → Type 0) → ((r : List ℕ) → (P r → ⊥) → false ≡ p r)
+    → (t : List ℕ) (i j : ℕ) → i ≤ j → Passed P i j t → firstSlot p i t ≡ Nowhere → firstSlot p j t ≡ Nowhere
+past p near P other t i j h passed so-far = let far : j - i + i ≡ j = omega arith in rw far at (go (j - i) (omega arith))
+  where
+    go : (d : ℕ) → d + i ≤ j → firstSlot p (d + i) t ≡ Nowhere
+    go zero b = rw (zero-add i) so-far
+    go (suc d) b =
+        let next : suc d + i ≡ d + i + 1 = omega arith in
+        rw next (search-next p near t (d + i) (go d (omega arith)) false (other (drop (slotBytes * (d + i)) t) (passed (d + i) (omega arith) (omega arith))) refl)
+
+pub search-past : (k x m key : ℕ) → k ≤ 1 → key ≡ roundKeyOf m → (t : List ℕ) (i j : ℕ) → i ≤ j → Passed (Keyed key) i j t → firstSlot (holds (labelFrom k x) m) i t ≡ Nowhere → firstSlot (holds (labelFrom k x) m) j t ≡ Nowhere
+search-past k x m key hk e =
+    past (holds (labelFrom k x) m) (holds-near (labelFrom k x) m) (Keyed key) (λ r h. other-round-key k x m hk r (λ q. h (q ∙ sym e)))
+
+-- a label and an address that no good record can hold are nowhere
+pub pair-nowhere : (k x m : ℕ) (t : List ℕ) → k ≤ 1 → (g : Bool) → g ≡ pairGood (labelFrom k x) m → g ≡ false → Nowhere ≡ lowest (holds (labelFrom k x) m) t
+unfolding holds unpacked
+pair-nowhere k x m t hk g e h =
+    lowest-none (holds (labelFrom k x) m) t (λ r. not-true-false _ (λ q. true-not-false (sym (pair-holds k x m (recordOf r) hk q) ∙ sym e ∙ h)))
+  where
+    true-not-false : _≡_ {A = Bool} true false → ⊥
+    true-not-false p = let z : _≡_ {A = ℕ} 0 1 = cc in omega arith
+
+-- another state: the slot is not free
+pub other-state : (r : List ℕ) → (stateOf (recordOf r) ≡ 0 → ⊥) → false ≡ freeSlot r
+unfolding freeSlot unpacked
+other-state r h = sym (not-true-false _ (λ e. h (free-state (recordOf r) e)))
+
+pub free-past : (t : List ℕ) (i j : ℕ) → i ≤ j → Passed InNoState i j t → firstSlot freeSlot i t ≡ Nowhere → firstSlot freeSlot j t ≡ Nowhere
+free-past = past freeSlot free-near InNoState other-state
+
+-- ---- a lookup of any numbers
+
+pub other-kind : (k x m : ℕ) (t : List ℕ) → 1 < k → Nowhere ≡ placeOf k x m t
+unfolding placeOf pick
+other-kind k x m t h = rw (ne-eqb k 0 (omega arith), ne-eqb k 1 (omega arith))
+
+pub place-from : (k x m : ℕ) (t : List ℕ) → k ≤ 1 → lowest (holds (labelFrom k x) m) t ≡ placeOf k x m t
+unfolding placeOf labelFrom pick
+place-from k x m t h = go (ℕ-discrete k 0)
+  where
+    go : Dec (k ≡ 0) → lowest (holds (pick (eqb k 0) (Vlan x) (Fine x)) m) t ≡ pick (eqb k 0) (lowest (holds (Vlan x) m) t) (pick (eqb k 1) (lowest (holds (Fine x) m) t) Nowhere)
+    go (yes e) = rw e
+    go (no e) = let o : k ≡ 1 = omega arith in rw o
+
+pub too-large : (k x m : ℕ) (t : List ℕ) → k ≤ 1 → ((x < 2 ^ 24) × (m < 2 ^ 48) → ⊥) → Nowhere ≡ placeOf k x m t
+unfolding holds unpacked
+too-large k x m t hk h =
+    lowest-none (holds (labelFrom k x) m) t (λ r. not-true-false _ (λ e. h (pair-fits k x m (recordOf r) hk e)))
+    ∙ place-from k x m t hk
+
+-- ---- the outcomes of a lookup
+
+pub place-within : (k x m : ℕ) (t : List ℕ) (j : ℕ) → placeOf k x m t ≡ At j → slotBytes * j + slotBytes ≤ length t
+unfolding placeOf pick
+place-within k x m t j e = go (eqb k vlanKind) (eqb k fineKind) e
+  where
+    within : (p : List ℕ → Bool) → lowest p t ≡ At j → slotBytes * j + slotBytes ≤ length t
+    within p h = let w = lowest-within p t j h in omega arith
+
+    go : (a b : Bool) → pick a (lowest (holds (Vlan x) m) t) (pick b (lowest (holds (Fine x) m) t) Nowhere) ≡ At j → slotBytes * j + slotBytes ≤ length t
+    go true b h = within (holds (Vlan x) m) h
+    go false true h = within (holds (Fine x) m) h
+    go false false h = let z : _≡_ {A = ℕ} 0 1 = cc in absurd (omega arith)
+
+module _ (k x m : ℕ) (t : List ℕ) (g : Bool) (good : g ≡ tableGood t) where
+  pub lookup-refused : g ≡ false → lookup.Refused 2 ≡ lookedUp k x m t
+  unfolding lookedUp settled check
+  lookup-refused h = rw (← good, h)
+
+  module _ (ok : g ≡ true) (p : Place) (place : p ≡ placeOf k x m t) where
+    pub lookup-found : (j : ℕ) → p ≡ At j → (n : ℕ) → n ≡ nicknameOf (recordOf (drop (slotBytes * j) t)) → lookup.Found n ≡ lookedUp k x m t
+    unfolding lookedUp settled check nicknameAt
+    lookup-found j e n f = rw (← good, ok, ← place, e, record-near (drop (slotBytes * j) t)) (ap lookup.Found f)
+
+    pub lookup-none : p ≡ Nowhere → lookup.Unknown ≡ lookedUp k x m t
+    unfolding lookedUp settled check nicknameAt
+    lookup-none e = rw (← good, ok, ← place, e)
+
+-- ---- the outcomes of the search for a spoilt slot
+
+module _ (t : List ℕ) (g : Bool) (good : g ≡ tableGood t) where
+  pub spoilt-refused : g ≡ false → spoilt.Refused 2 ≡ lowestSpoilt t
+  unfolding lowestSpoilt settled check
+  spoilt-refused h = rw (← good, h)
+
+  module _ (ok : g ≡ true) (p : Place) (place : p ≡ lowest spoiltSlot t) where
+    pub spoilt-found : (j : ℕ) → p ≡ At j → spoilt.Lowest j ≡ lowestSpoilt t
+    unfolding lowestSpoilt settled check spoiltAt
+    spoilt-found j e = rw (← good, ok, ← place, e)
+
+    pub spoilt-none : p ≡ Nowhere → spoilt.Clean ≡ lowestSpoilt t
+    unfolding lowestSpoilt settled check spoiltAt
+    spoilt-none e = rw (← good, ok, ← place, e)
+
+    -- the slots of a good table are few
+    pub spoilt-fits : (j : ℕ) → p ≡ At j → j < mostSlots
+    unfolding tableGood
+    spoilt-fits j e =
+        let w = lowest-within spoiltSlot t j (sym place ∙ e) in
+        let b = both-true (between 1 (slotBytes * mostSlots) (length t)) (eqb (length t % slotBytes) 0) (sym good ∙ ok) in
+        let c = between-is 1 (slotBytes * mostSlots) (length t) (b .0) in
+        omega arith
+
+-- ---- a round of eight
+
+pub passed-eight : (P : List ℕ → Type 0) (t : List ℕ) (from i at : ℕ) → at ≡ slotBytes * i → Passed P from i t → (a b : Bool) → not (a && b) ≡ false
+    → (a ≡ true → NoneOfFour P at t) → (b ≡ true → NoneOfFour P (at + 56) t) → Passed P from (i + 8) t
+passed-eight P t from i at e so-far a b h low high k above below =
+    let both = both-true _ _ (sym (and-both a b) ∙ not-false _ h) in
+    passed-four P t from (i + 4) (at + 56) (omega arith) (passed-four P t from i at e so-far (low (both .0))) (high (both .1)) k above (omega arith)
