@@ -1,0 +1,181 @@
+-- Laws of clearing by marks: a walk that clears and counts, and that it is clearing by the test that chose the marks.
+-- Assumes nothing.
+use Prim.Native.Nat.{ℕ, zero, suc, _+_, _-_, _*_, _<_, _≤_}
+use mathlib.Core.Bool.{Bool, true, false}
+use mathlib.Core.List.{List, _++_}
+use mathlib.Core.Path.{_≡_, refl, sym, ap, _∙_}
+use native.Mathlib.Nat.{add-zero, zero-add, add-suc}
+use native.Mathlib.Numerals.{add-one}
+use native.Mathlib.Omega.{arith}
+use lib.ListN.{length, take, drop, take-append-drop}
+use Rattle.numbers.specs.Tests.{pick}
+use Rattle.numbers.specs.Numberings.{bitAt}
+use Rattle.numbers.specs.After.{onTable}
+use Rattle.numbers.specs.Bytes.{bytesOf}
+use Rattle.table.specs.Slots.{slotBytes, slotsOf, slotAt, putSlot, freed, onSlots, countSlots}
+use Rattle.table.specs.declared.Place.{Place}
+use Rattle.table.specs.declared.Place.the-variants.{At, Nowhere}
+use Rattle.table.proofs.Slots.{length-putSlot, put-lent, drop-onSlots}
+use Rattle.flush.specs.Flush.{clearedSlot, clearedBy}
+use Rattle.flush.proofs.Flushing.{cleared-hit, cleared-miss, cleared-keeps}
+use Rattle.flush_marks.specs.Marks.{Unmarked, Found, NextMark, Chosen, countMarks, freedMarks, clearedMarks, ClearedTo, clearedIn}
+
+-- ---- slots without a mark
+
+module _ (m : List ℕ) where
+  count-skip : (d i : ℕ) → Unmarked m i (i + d) → countMarks m (i + d) ≡ countMarks m i
+  unfolding countMarks pick
+  count-skip zero i none = rw (add-zero i)
+  count-skip (suc d) i none =
+      let next : i + suc d ≡ suc (i + d) = omega arith in
+      let before : Unmarked m i (i + d) = record { none = λ j a b. none .none j a (omega arith) } in
+      rw (next, none .none (i + d) (omega arith) (omega arith), count-skip d i before) (add-zero (countMarks m i))
+
+  freed-skip : (t : List ℕ) (d i : ℕ) → Unmarked m i (i + d) → freedMarks m (i + d) t ≡ freedMarks m i t
+  unfolding freedMarks pick
+  freed-skip t zero i none = rw (add-zero i)
+  freed-skip t (suc d) i none =
+      let next : i + suc d ≡ suc (i + d) = omega arith in
+      let before : Unmarked m i (i + d) = record { none = λ j a b. none .none j a (omega arith) } in
+      rw (next, none .none (i + d) (omega arith) (omega arith), freed-skip t d i before)
+
+-- ---- the walk
+
+-- how many are marked
+module _ (m : List ℕ) where
+  pub record CountedTo (i c : ℕ) : Type 0 where
+    pub count : c ≡ countMarks m i
+    pub few : c ≤ i
+
+  pub counted-none : CountedTo 0 0
+  unfolding countMarks
+  counted-none = record { count = refl; few = omega arith }
+
+  module _ (i c n : ℕ) (so-far : CountedTo i c) where
+    counted-skip : (k : ℕ) → i ≤ k → Unmarked m i k → CountedTo k c
+    counted-skip k far none =
+        let sum : i + (k - i) ≡ k = omega arith in
+        let few = so-far .few in
+        record { count = so-far .count ∙ sym (rw sum at (count-skip m (k - i) i (rw sum none))); few = omega arith }
+
+    pub counted-ends : i ≤ n → n ≤ i → c ≡ countMarks m n
+    counted-ends a b = let same : i ≡ n = omega arith in rw same at (so-far .count)
+
+    module _ (p : Place) (next : NextMark m i n p) where
+      pub counted-rest : i ≤ n → p ≡ Nowhere → c ≡ countMarks m n
+      counted-rest h e = counted-skip n h (next .miss e) .count
+
+      pub counted-within : (k : ℕ) → p ≡ At k → (i ≤ k) × (k < n)
+      counted-within k e = (next .hit k e .behind, next .hit k e .within)
+
+      pub counted-next : (k : ℕ) → p ≡ At k → CountedTo (k + 1) (c + 1)
+      unfolding countMarks pick
+      counted-next k e =
+          let f = next .hit k e in
+          let s = counted-skip k (f .behind) (f .passed) in
+          let few = s .few in
+          record { count = rw (add-one k, f .marked, ← s .count); few = omega arith }
+
+-- clearing
+freed-long : length freed ≡ slotBytes
+unfolding bytesOf
+freed-long = refl
+
+module _ (m t : List ℕ) where
+  pub cleared-none : ClearedTo m t 0 0 t
+  unfolding countMarks freedMarks
+  cleared-none = record { count = refl; few = omega arith; long = refl; left = refl }
+
+  module _ (i c : ℕ) (u : List ℕ) (so-far : ClearedTo m t i c u) where
+    cleared-skip : (k : ℕ) → i ≤ k → Unmarked m i k → ClearedTo m t k c u
+    cleared-skip k far none =
+        let sum : i + (k - i) ≡ k = omega arith in
+        let few = so-far .few in
+        record {
+          count = so-far .count ∙ sym (rw sum at (count-skip m (k - i) i (rw sum none)));
+          few = omega arith;
+          long = so-far .long;
+          left = so-far .left ∙ sym (rw sum at (freed-skip m t (k - i) i (rw sum none)));
+        }
+
+    pub cleared-ends : i ≤ slotsOf t → slotsOf t ≤ i → onTable c u ≡ clearedMarks m t
+    unfolding clearedMarks
+    cleared-ends a b =
+        let same : i ≡ slotsOf t = omega arith in
+        let count : c ≡ countMarks m (slotsOf t) = so-far .count ∙ ap (countMarks m) same in
+        let left : u ≡ freedMarks m (slotsOf t) t = so-far .left ∙ ap (λ (n : ℕ). freedMarks m n t) same in
+        cc
+
+    module _ (p : Place) (next : NextMark m i (slotsOf t) p) where
+      pub cleared-rest : i ≤ slotsOf t → p ≡ Nowhere → onTable c u ≡ clearedMarks m t
+      unfolding clearedMarks
+      cleared-rest h e =
+          let s = cleared-skip (slotsOf t) h (next .miss e) in
+          let count : c ≡ countMarks m (slotsOf t) = s .count in
+          let left : u ≡ freedMarks m (slotsOf t) t = s .left in
+          cc
+
+      module _ (k : ℕ) (e : p ≡ At k) where
+        pub cleared-within : (i ≤ k) × (k < slotsOf t)
+        cleared-within = (next .hit k e .behind, next .hit k e .within)
+
+        pub cleared-next : (r : List ℕ) → r ≡ freed
+            → ClearedTo m t (k + 1) (c + 1) (take (slotBytes * k) u ++ (r ++ drop (slotBytes * k + slotBytes - slotBytes * k) (drop (slotBytes * k) u)))
+        unfolding countMarks freedMarks pick
+        cleared-next r free =
+            let f = next .hit k e in
+            let s = cleared-skip k (f .behind) (f .passed) in
+            let few = s .few in
+            let long = s .long in
+            let inside = f .within in
+            rw (put-lent k r u)
+            (record {
+              count = rw (add-one k, f .marked, ← s .count);
+              few = omega arith;
+              long = rw free (length-putSlot k freed u (omega arith) freed-long) ∙ long;
+              left = rw (add-one k, f .marked, ← s .left, free);
+            })
+
+-- ---- clearing by marks is clearing by the test that chose them
+
+put-back : (u : List ℕ) (k : ℕ) → putSlot k (slotAt k u) u ≡ u
+put-back u k = rw (take-append-drop slotBytes (drop (slotBytes * k) u)) (take-append-drop (slotBytes * k) u)
+
+-- the slot that is cleared next is still as it was
+step-case : (meant : List ℕ → Bool) (k : ℕ) (u r : List ℕ) → slotAt k u ≡ r → (b : Bool) → b ≡ meant r → pick b (putSlot k freed u) u ≡ putSlot k (clearedSlot meant r) u
+unfolding pick
+step-case meant k u r same true e = rw (cleared-hit meant r (sym e))
+step-case meant k u r same false e = rw (cleared-miss meant r (sym e), ← same) (sym (put-back u k))
+
+module _ (meant : List ℕ → Bool) (from count : ℕ) (t m : List ℕ) (room : from + count ≤ slotsOf t) (chosen : Chosen meant from count t m) where
+  count-inside : (c : ℕ) → c ≤ count → countMarks m (from + c) ≡ countSlots meant from c t
+  unfolding countMarks countSlots
+  count-inside zero h = rw (add-zero from) (rw (zero-add from) at (count-skip m from 0 (record { none = λ j a b. chosen .below j (omega arith) })))
+  count-inside (suc c) h =
+      let next : from + suc c ≡ suc (from + c) = omega arith in
+      rw (next, chosen .inside (from + c) (omega arith) (omega arith), count-inside c (omega arith))
+
+  freed-inside : (c : ℕ) → c ≤ count → freedMarks m (from + c) t ≡ onSlots (clearedSlot meant) from c t
+  unfolding freedMarks onSlots
+  freed-inside zero h = rw (add-zero from) (rw (zero-add from) at (freed-skip m t from 0 (record { none = λ j a b. chosen .below j (omega arith) })))
+  freed-inside (suc c) h =
+      let next : from + suc c ≡ suc (from + c) = omega arith in
+      let same : slotAt (from + c) (onSlots (clearedSlot meant) from c t) ≡ slotAt (from + c) t = ap (take slotBytes) (drop-onSlots (clearedSlot meant) (cleared-keeps meant) t from c (omega arith)) in
+      rw (next, freed-inside c (omega arith))
+      (step-case meant (from + c) (onSlots (clearedSlot meant) from c t) (slotAt (from + c) t) same (bitAt (from + c) m) (chosen .inside (from + c) (omega arith) (omega arith)))
+
+  above : Unmarked m (from + count) (from + count + (slotsOf t - (from + count)))
+  above = record { none = λ j a b. chosen .above j a (omega arith) }
+
+  pub chosen-cleared : clearedMarks m t ≡ clearedIn meant from count t
+  unfolding clearedMarks clearedIn
+  chosen-cleared =
+      let sum : from + count + (slotsOf t - (from + count)) ≡ slotsOf t = omega arith in
+      let n = rw sum at (count-skip m (slotsOf t - (from + count)) (from + count) above) in
+      let u = rw sum at (freed-skip m t (slotsOf t - (from + count)) (from + count) above) in
+      rw (n, u, count-inside count (omega arith), freed-inside count (omega arith))
+
+-- the whole table
+pub cleared-whole : (meant : List ℕ → Bool) (t : List ℕ) → clearedIn meant 0 (slotsOf t) t ≡ clearedBy meant t
+unfolding clearedIn clearedBy
+cleared-whole meant t = refl
