@@ -12,8 +12,8 @@ use lib.ListN.{length}
 use lib.Seq.{take-append-seam}
 use borrow.Author.Tests.{leb-true}
 use Rattle.numbers.specs.Tests.{pick, either}
-use Rattle.numbers.specs.Result.{Result, refused, got, settled}
-use Rattle.numbers.specs.After.{OnTable, OnBoth, onBoth}
+use Rattle.numbers.specs.Result.{Result, refused, got, check, andThen, settled}
+use Rattle.numbers.specs.After.{OnTable, onTable, OnBoth, onBoth}
 use Rattle.numbers.specs.Bytes.{num}
 use Rattle.numbers.specs.Ranges.{individual, nicknameGood}
 use Rattle.numbers.proofs.Truth.{both-true, both-pass, between-is}
@@ -21,12 +21,16 @@ use Rattle.numbers.proofs.Answers.{refused-got, got-got, check-got, pick-got, t
 use Rattle.table.specs.Record.{labelGood, entryGood}
 use Rattle.table.specs.Learning.{learnt}
 use Rattle.table.specs.declared.Label.{Label}
-use Rattle.table.specs.Claims.{Sound, Unique}
+use Rattle.table.specs.Slots.{tableGood}
+use Rattle.table.specs.Claims.{Sound, Unique, LeavesAlone}
 use Rattle.table.proofs.Packing.{label-fits}
 use Rattle.table.proofs.Unique.{learning-unique}
+use Rattle.table.proofs.Stays.{learning-leaves-alone}
 use Rattle.flush.specs.Payload.{everyType}
-use Rattle.flush.specs.Flush.{clearing}
-use Rattle.flush.proofs.Flushing.{clearing-unique}
+use Rattle.flush.specs.Flush.{clearing, flushed}
+use Rattle.flush.specs.declared.FlushAnswer.the-variants as flush
+use Rattle.flush.proofs.Flushing.{flush-exact, clearing-unique}
+use Rattle.flush.proofs.Stays.{clearing-leaves-alone}
 use Rattle.frame.specs.Settings.{addressesGood, secondsGood, numbersGood, settingsGood, lifeOf, defaultLife, compactOn}
 use Rattle.frame.specs.Front.{addressIn, Front, unicast, multicast, refusedFront, inner, frontOf}
 use Rattle.frame.specs.Header.{ingressOf, egressOf}
@@ -39,9 +43,9 @@ use Rattle.frame.proofs.Parts.{Good, general-is, compact-is}
 use Rattle.receive.specs.Deciding.{ingressAllowed, nicknamesGood, channelPayload}
 use Rattle.receive.specs.Receive.{lesson, deliveredWith, delivery, flushedWith, channel, acted, reading, receivedWith, received}
 use Rattle.receive.specs.Words.{LabelFits}
-use Rattle.receive.specs.Claims.{ReadRefusal, ReadingKeepsUnique, ReadsParsed}
+use Rattle.receive.specs.Claims.{ReadRefusal, ReadingKeepsUnique, ReadsParsed, ReadingLeavesAlone, FlushRead, ReadFlushExact}
 use Rattle.receive.specs.declared.ReadAnswer.{ReadAnswer}
-use Rattle.receive.specs.declared.ReadAnswer.the-variants.{Refused, Onward, OtherChannel}
+use Rattle.receive.specs.declared.ReadAnswer.the-variants.{Refused, Onward, OtherChannel, Flushed}
 
 pub reads-parsed : ReadsParsed
 unfolding received receivedWith
@@ -91,19 +95,29 @@ module _ (life : ℕ) (s : Settings) (p : Fields) (t o : List ℕ) (P : OnBoth R
 
 -- the outcome of the call: refused, or one of those
 module _ (life : ℕ) (s : Settings) (fields : Result Fields) (t o : List ℕ) (P : OnBoth ReadAnswer → Type 0)
-    (h : (p : Fields) → settingsGood s ≡ true → fields ≡ got p → Holds life s p t o P) where
+    (h : (p : Fields) → settingsGood s ≡ true → tableGood t ≡ true → fields ≡ got p → Holds life s p t o P) where
   reading-left : (a : OnBoth ReadAnswer) → reading life s fields t o ≡ got a → P a
   unfolding reading
   reading-left a q =
       let c = check-got _ _ _ _ q in
       let d = check-got _ _ _ _ (c .1) in
       let (p, r, k) = then-got _ _ _ (d .1) in
-      acted-left life s p t o P (h p (c .0) r) a k
+      acted-left life s p t o P (h p (c .0) (d .0) r) a k
 
 settled-left : {A : Type 0} (P : A → Type 0) (leave : ℕ → A) (r : Result A) → ((n : ℕ) → P (leave n)) → ((a : A) → r ≡ got a → P a) → P (settled leave r)
 unfolding settled
 settled-left P leave (refused n) f g = f n
 settled-left P leave (got a) f g = g a refl
+
+-- two answers that differ make any two numbers equal
+apart : {C : Type 0} → _≡_ {A = ℕ} 0 1 → C
+apart e = absurd (omega arith)
+
+count-same : (a b : ℕ) → Flushed a ≡ Flushed b → a ≡ b
+count-same a b e = cc
+
+flushed-same : (a b : ℕ) → flush.Flushed a ≡ flush.Flushed b → a ≡ b
+flushed-same a b e = cc
 
 -- ---- refusals
 
@@ -120,7 +134,7 @@ unfolding received receivedWith
 read-refusal s f t o n =
     settled-left (λ (a : OnBoth ReadAnswer). a .answer ≡ Refused n → (a .table ≡ t) × (a .out ≡ o)) (λ k. onBoth (Refused k) t o) (reading defaultLife s (parsed s f) t o)
     (λ k e. (refl, refl))
-    (reading-left defaultLife s (parsed s f) t o _ (λ p g q. not-refused defaultLife s p t o n))
+    (reading-left defaultLife s (parsed s f) t o _ (λ p g d q. not-refused defaultLife s p t o n))
 
 -- ---- no pair twice
 
@@ -190,7 +204,63 @@ unfolding received receivedWith
 reading-unique s f t o u =
     settled-left (λ (a : OnBoth ReadAnswer). Unique (a .table)) (λ k. onBoth (Refused k) t o) (reading defaultLife s (parsed s f) t o)
     (λ k. u)
-    (reading-left defaultLife s (parsed s f) t o _ (λ p set q. keeps-unique defaultLife s p t o (omega arith) set (parsed-good s f p q) u))
+    (reading-left defaultLife s (parsed s f) t o _ (λ p set d q. keeps-unique defaultLife s p t o (omega arith) set (parsed-good s f p q) u))
+
+-- ---- spoilt and configured records
+
+pub reading-leaves-alone : ReadingLeavesAlone
+unfolding received receivedWith
+reading-leaves-alone s f t o =
+    settled-left (λ (a : OnBoth ReadAnswer). LeavesAlone t (a .table)) (λ k. onBoth (Refused k) t o) (reading defaultLife s (parsed s f) t o)
+    (λ k. same)
+    (reading-left defaultLife s (parsed s f) t o _ (λ p set d q.
+    record {
+      onward = same;
+      other = same;
+      flushes = λ c r. clearing-leaves-alone (ingressOf (p .header)) (channelPayload (p .content)) t c r;
+      delivers = λ n i. learning-leaves-alone (lesson defaultLife s p) t;
+    }))
+  where
+    same : LeavesAlone t t
+    same = record { spoilt = λ k h e. refl; configured = λ k h e. refl }
+
+-- ---- a flush in a frame
+
+module _ (ingress : ℕ) (l t : List ℕ) (c : OnTable ℕ) (good : tableGood t ≡ true) (q : clearing everyType ingress l t ≡ got c) where
+  flush-called : flushed ingress l t ≡ onTable (flush.Flushed (c .answer)) (c .table)
+  unfolding flushed settled check andThen
+  flush-called = rw (good, q)
+
+flush-read : (s : Settings) (f t : List ℕ) (p : Fields) (c : OnTable ℕ) → parsed s f ≡ got p → tableGood t ≡ true → clearing everyType (ingressOf (p .header)) (channelPayload (p .content)) t ≡ got c
+    → FlushRead s f t (c .table) (c .answer)
+unfolding clearing
+flush-read s f t p c read good q =
+    let (x, valid, e) = then-got _ _ _ q in
+    let called = flush-called (ingressOf (p .header)) (channelPayload (p .content)) t c good q in
+    let exact = flush-exact .flush (ingressOf (p .header)) (channelPayload (p .content)) t x good valid in
+    record {
+      fields = p;
+      read = read;
+      call = called;
+      payload = x;
+      valid = valid;
+      each = λ k h. rw called at (exact .each k h);
+      same-length = rw called at (exact .same-length);
+      count = flushed-same _ _ (rw called at (exact .count));
+    }
+
+pub read-flush-exact : ReadFlushExact
+unfolding received receivedWith
+read-flush-exact s f t o n =
+    settled-left (λ (a : OnBoth ReadAnswer). a .answer ≡ Flushed n → FlushRead s f t (a .table) n × (a .out ≡ o)) (λ k. onBoth (Refused k) t o) (reading defaultLife s (parsed s f) t o)
+    (λ k e. apart cc)
+    (reading-left defaultLife s (parsed s f) t o _ (λ p set d q.
+    record {
+      onward = λ e. apart cc;
+      other = λ e. apart cc;
+      flushes = λ c r e. (subst (FlushRead s f t (c .table)) (count-same _ _ e) (flush-read s f t p c q d r), refl);
+      delivers = λ a b e. apart cc;
+    }))
 
 -- ---- the label of the answer
 
@@ -199,7 +269,7 @@ unfolding received receivedWith
 read-fits s f t o =
     settled-left (λ (a : OnBoth ReadAnswer). LabelFits (a .answer)) (λ k. onBoth (Refused k) t o) (reading defaultLife s (parsed s f) t o)
     (λ k. tt)
-    (reading-left defaultLife s (parsed s f) t o _ (λ p set q.
+    (reading-left defaultLife s (parsed s f) t o _ (λ p set d q.
     record {
       onward = tt;
       other = tt;

@@ -1,13 +1,24 @@
 -- What holds of reading.
 -- Assumes nothing.
-use Prim.Native.Nat.{ℕ}
+use Prim.Native.Nat.{ℕ, _<_}
 use mathlib.Core.List.{List}
 use mathlib.Core.Path.{_≡_}
-use Rattle.table.specs.Claims.{Unique}
+use lib.ListN.{length}
+use Rattle.numbers.specs.Result.{got}
+use Rattle.numbers.specs.After.{onTable}
+use Rattle.table.specs.Slots.{slotsOf}
+use Rattle.table.specs.Claims.{Unique, LeavesAlone}
+use Rattle.flush.specs.Payload.{everyType, Payload, payloadOf}
+use Rattle.flush.specs.Flush.{flushed}
+use Rattle.flush.specs.Claims.{learnedThenFree, SlotFacts}
+use Rattle.flush.specs.declared.FlushAnswer.the-variants as flush
+use Rattle.frame.specs.Header.{ingressOf}
+use Rattle.frame.specs.Fields.{Fields}
 use Rattle.frame.specs.Formats.{parsed}
 use Rattle.frame.specs.declared.Settings.{Settings}
+use Rattle.receive.specs.Deciding.{channelPayload}
 use Rattle.receive.specs.Receive.{received}
-use Rattle.receive.specs.declared.ReadAnswer.the-variants.{Refused}
+use Rattle.receive.specs.declared.ReadAnswer.the-variants.{Refused, Flushed}
 
 -- demand 1: "A refusal returns its number and changes nothing: every lent area keeps its bytes"
 abbrev pub ReadRefusal : Type 0
@@ -21,3 +32,24 @@ ReadingKeepsUnique = (s : Settings) (f t o : List ℕ) → Unique t → Unique (
 -- "No answer tells which format arrived": reading sees of a frame only what is parsed of it
 abbrev pub ReadsParsed : Type 0
 ReadsParsed = (s : Settings) (f g t o : List ℕ) → parsed s f ≡ parsed s g → received s f t o ≡ received s g t o
+
+-- "Spoilt records .. are never changed", and configured ones keep their bytes
+abbrev pub ReadingLeavesAlone : Type 0
+ReadingLeavesAlone = (s : Settings) (f t o : List ℕ) → LeavesAlone t (received s f t o .table)
+
+-- a reading that answers a count: the frame's ingress nickname and payload, the table u afterwards and the count n are those of the
+-- flush call; so it clears exactly the learned records in the three sets, slot by slot, and counts the slots learned before and free
+-- after
+pub record FlushRead (s : Settings) (f t u : List ℕ) (n : ℕ) : Type 0 where
+  pub fields : Fields
+  pub read : parsed s f ≡ got fields
+  pub call : flushed (ingressOf (fields .header)) (channelPayload (fields .content)) t ≡ onTable (flush.Flushed n) u
+  pub payload : Payload
+  pub valid : payloadOf everyType (channelPayload (fields .content)) ≡ got payload
+  pub each : (k : ℕ) → k < slotsOf t → SlotFacts payload (ingressOf (fields .header)) t u k
+  pub same-length : length u ≡ length t
+  pub count : n ≡ learnedThenFree (slotsOf t) t u
+
+abbrev pub ReadFlushExact : Type 0
+ReadFlushExact =
+    (s : Settings) (f t o : List ℕ) (n : ℕ) → received s f t o .answer ≡ Flushed n → FlushRead s f t (received s f t o .table) n × (received s f t o .out ≡ o)

@@ -1,5 +1,5 @@
 // Reading a frame. The definitions are in specs/.
-ghost use Rattle.receive.specs.Claims.{ReadRefusal, ReadingKeepsUnique, ReadsParsed};
+ghost use Rattle.receive.specs.Claims.{ReadRefusal, ReadingKeepsUnique, ReadsParsed, ReadingLeavesAlone, ReadFlushExact};
 use table::Label;
 use table::Learning;
 
@@ -19,5 +19,5 @@ pub enum ReadAnswer {
 
 // What holds of the definition of reading.
 pub fn claims()
-    ensures { λ _. ⌜ ReadRefusal × ReadingKeepsUnique × ReadsParsed ⌝ }
+    ensures { λ _. ⌜ ReadRefusal × ReadingKeepsUnique × ReadsParsed × ReadingLeavesAlone × ReadFlushExact ⌝ }
 {}
