@@ -1,3 +1,2 @@
 -- Sending and the choice of what to send (document 01, "Compacting, expanding, sending").
 pub mod Meaning
-pub mod Claims

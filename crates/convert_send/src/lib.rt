@@ -7,7 +7,6 @@ ghost use Rattle.numbers.specs.After.{onArea};
 ghost use Rattle.convert.specs.Compaction.{staysGeneral};
 ghost use Rattle.convert.specs.Sending.{sent, chosen};
 ghost use Rattle.convert_send.specs.Meaning.{sendOf, sentWhere};
-ghost use Rattle.convert_send.specs.Claims.{ChosenSent};
 use convert::ConvertAnswer;
 use convert::SendAnswer;
 use frame::Settings;
@@ -76,8 +75,3 @@ pub fn choose<'a>(answer: SendAnswer, work: &'a [u8], frame: &'a [u8]) -> &'a [u
         SendAnswer::Itself => frame,
     }
 }
-
-// What the choosing function shows after sending.
-pub fn claims()
-    ensures { λ _. ⌜ ChosenSent ⌝ }
-{}

@@ -1,18 +1,20 @@
-// What is promised of the definitions as a whole. The one function here has no code: its contract is the promises, all crates'
-// among them, and its proof is theirs.
+// What is promised of the definitions as a whole. The one function here has no code: its contract names every theorem of every crate,
+// and its proof is theirs.
 ghost use Rattle.numbers.specs.Claims.{Blocks, Maps};
-ghost use Rattle.table.specs.Claims.{UnpackPacked, PackUnpacked, LearningKeepsUnique, KeptWritesNothing};
-ghost use Rattle.flush.specs.Claims.{FlushExact};
+ghost use Rattle.table.specs.Claims.{UnpackPacked, PackUnpacked, LearningKeepsUnique, AgeingKeepsUnique, KeptWritesNothing, AgeingRefusal, LearningLeavesAlone, AgeingLeavesAlone};
+ghost use Rattle.flush.specs.Claims.{FlushExact, FlushingKeepsUnique, FlushRefusal, FlushingLeavesAlone};
 ghost use Rattle.flush.specs.Validity.{Validity};
 ghost use Rattle.frame.specs.Claims.{HeaderLocal, LabelLocal, LabelsGood};
-ghost use Rattle.convert.specs.Claims.{ReadsSame, ExpandCompacted, CompactExpanded};
-ghost use Rattle.receive.specs.Claims.{ReadsParsed};
+ghost use Rattle.convert.specs.Claims.{ReadsSame, ExpandCompacted, CompactExpanded, ConvertRefusals, SendsExactly};
+ghost use Rattle.convert.specs.Chosen.{ChosenSent};
+ghost use Rattle.receive.specs.Claims.{ReadRefusal, ReadingKeepsUnique, ReadsParsed, ReadingLeavesAlone, ReadFlushExact};
 ghost use Rattle.promises.specs.Cases.{Cases};
-ghost use Rattle.promises.specs.Claims.{RefusalChangesNothing, PairsStayUnique};
+ghost use Rattle.promises.specs.Claims.{RefusalChangesNothing, PairsStayUnique, SpoiltStays, ConfiguredStays};
 ghost use Rattle.promises.specs.Example.{InterchangeExample};
 ghost use Rattle.promises.specs.Interchange.{Interchange};
 
 pub fn claims()
-    ensures demands { λ _. ⌜ Interchange × InterchangeExample × ExpandCompacted × CompactExpanded × RefusalChangesNothing × Validity × FlushExact × PairsStayUnique × Cases ⌝ }
-    ensures laws { λ _. ⌜ Blocks × Maps × UnpackPacked × PackUnpacked × LearningKeepsUnique × KeptWritesNothing × HeaderLocal × LabelLocal × LabelsGood × ReadsSame × ReadsParsed ⌝ }
+    ensures demands { λ _. ⌜ Interchange × InterchangeExample × ExpandCompacted × CompactExpanded × RefusalChangesNothing × Validity × FlushExact × ReadFlushExact × PairsStayUnique × SpoiltStays × ConfiguredStays × SendsExactly × ChosenSent × Cases ⌝ }
+    ensures calls { λ _. ⌜ ReadRefusal × FlushRefusal × AgeingRefusal × ConvertRefusals × ReadingKeepsUnique × FlushingKeepsUnique × AgeingKeepsUnique × LearningKeepsUnique × ReadingLeavesAlone × FlushingLeavesAlone × AgeingLeavesAlone × LearningLeavesAlone ⌝ }
+    ensures laws { λ _. ⌜ Blocks × Maps × UnpackPacked × PackUnpacked × KeptWritesNothing × HeaderLocal × LabelLocal × LabelsGood × ReadsSame × ReadsParsed ⌝ }
 {}

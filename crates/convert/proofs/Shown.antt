@@ -16,13 +16,13 @@ use Rattle.numbers.specs.Bytes.{num, laid}
 use Rattle.frame.specs.Settings.{compactOn}
 use Rattle.frame.specs.Fields.{Fields}
 use Rattle.frame.specs.declared.Settings.{Settings}
 use Rattle.convert.specs.Compaction.{compactBytes, staysGeneral, generalFields, compacting, written, compacted}
 use Rattle.convert.specs.Sending.{sending, sent, chosen}
 use Rattle.convert.specs.declared.SendAnswer.{SendAnswer}
 use Rattle.convert.specs.declared.SendAnswer.the-variants.{Refused, Compacted, Itself}
 use Rattle.convert.specs.Claims.{converted}
 use Rattle.convert.proofs.Areas.{writes}
-use Rattle.convert_send.specs.Claims.{ChosenSent}
+use Rattle.convert.specs.Chosen.{ChosenSent}
 
 -- an outcome of sending, `bytes` being the compacted frame or its refusal
 data Outcome (bytes : Result (List ℕ)) (work : List ℕ) : OnArea SendAnswer → Type 0 where
