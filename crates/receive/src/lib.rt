@@ -1,5 +1,6 @@
 // Reading a frame. The definitions are in specs/.
 ghost use Rattle.receive.specs.Claims.{ReadRefusal, ReadingKeepsUnique, ReadsParsed, ReadingLeavesAlone, ReadFlushExact};
+ghost use Rattle.receive.specs.Order.{ReadsExactly};
 use table::Label;
 use table::Learning;
 
@@ -19,5 +20,5 @@ pub enum ReadAnswer {
 
 // What holds of the definition of reading.
 pub fn claims()
-    ensures { λ _. ⌜ ReadRefusal × ReadingKeepsUnique × ReadsParsed × ReadingLeavesAlone × ReadFlushExact ⌝ }
+    ensures { λ _. ⌜ ReadRefusal × ReadingKeepsUnique × ReadsParsed × ReadingLeavesAlone × ReadFlushExact × ReadsExactly ⌝ }
 {}

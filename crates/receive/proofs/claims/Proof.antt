@@ -1,11 +1,12 @@
 -- What `receive::claims` ensures is proved in proofs/Outcomes.
 -- Assumes nothing.
 use Rattle.receive.proofs.Outcomes.{read-refusal, reading-unique, reads-parsed, reading-leaves-alone, read-flush-exact}
+use Rattle.receive.proofs.Order.{reads-exactly}
 use Rattle.receive.proofs.claims.Statement.{statement}
 use Rattle.receive.proofs.claims.Tie as tie
 
 returns : tie.Need-returns
-returns c = (read-refusal, reading-unique, reads-parsed, reading-leaves-alone, read-flush-exact)
+returns c = (read-refusal, reading-unique, reads-parsed, reading-leaves-alone, read-flush-exact, reads-exactly)
 
 pub claims-spec : {M : Type 1} → statement M
 claims-spec = tie.close (tie.spec returns)

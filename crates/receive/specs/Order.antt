@@ -1,0 +1,228 @@
+-- The order of reading's refusals and answers on one page (document 01, "Numbers a caller can get"): rows from top to bottom, of which
+-- the first that applies decides. `ReadsExactly` says that the reading call is this.
+-- Assumes nothing.
+use Prim.Native.Nat.{ℕ}
+use mathlib.Core.Bool.{Bool, true, not}
+use mathlib.Core.List.{List, [], _∷_, _++_}
+use mathlib.Core.Path.{_≡_}
+use lib.Dec.{leb, eqb}
+use lib.ListN.{length, take, drop}
+use Rattle.numbers.specs.Tests.{pick}
+use Rattle.numbers.specs.Result.{Result, refused, got, settled}
+use Rattle.numbers.specs.Refusals.{settings-bad, table-length-bad, frame-length-bad, not-trill, not-for-port, cut-short, version-bad, hops-spent, nickname-bad, label-bad, source-group, multicast-disagrees, not-channel, channel-bad, payload-corrupt, area-short}
+use Rattle.numbers.specs.After.{OnBoth, onBoth}
+use Rattle.numbers.specs.Bytes.{num}
+use Rattle.numbers.specs.Ranges.{individual, vlanGood}
+use Rattle.table.specs.Slots.{tableGood}
+use Rattle.table.specs.Learning.{learnt}
+use Rattle.flush.specs.Payload.{everyType, made, payloadOf}
+use Rattle.flush.specs.Flush.{slotMeant, clearedBy}
+use Rattle.frame.specs.Settings.{settingsGood, compactOn, defaultLife}
+use Rattle.frame.specs.Front.{trillGroup, addressIn, Front, unicast, multicast, refusedFront, inner, frontOf}
+use Rattle.frame.specs.Header.{versionOf, multicastOf, hopCount, ingressOf, headerBytes, agrees}
+use Rattle.frame.specs.Labels.{isTrill, isTag, isFine, isChannel, low12}
+use Rattle.frame.specs.Fields.{Fields, nativeBytes}
+use Rattle.frame.specs.Formats.{sizeGood}
+use Rattle.frame.specs.declared.Settings.{Settings}
+use Rattle.receive.specs.Deciding.{nicknamesGood, isOnward, channelProtocol, channelPayload, flushProtocol, channelGood}
+use Rattle.receive.specs.Receive.{lesson, deliveredWith, flushedWith, received}
+use Rattle.receive.specs.declared.ReadAnswer.{ReadAnswer}
+use Rattle.receive.specs.declared.ReadAnswer.the-variants.{Refused, Onward, OtherChannel}
+
+-- ---- rows
+
+-- an outcome where a test fails, and one where it passes
+pub data Row (A : Type 0) : Type 0 where
+  unless : Bool → A → Row A
+  when : Bool → A → Row A
+
+-- the first row that applies, and the last outcome where none does
+unfoldable pub firstOf : {A : Type 0} → List (Row A) → A → A
+firstOf [] last = last
+firstOf (unless b x ∷ rows) last = pick b (firstOf rows last) x
+firstOf (when b x ∷ rows) last = pick b x (firstOf rows last)
+
+abbrev pub Outcome : Type 0
+Outcome = Result (OnBoth ReadAnswer)
+
+-- l is what is left of the frame: its next n bytes are there
+abbrev pub there : ℕ → List ℕ → Bool
+there n l = leb n (length l)
+
+-- ---- the fields, each from where it begins
+
+-- outer addresses, the optional tag, 22F3: a tag's Ethertype and its other two bytes are two fields
+abbrev pub outerRows : List ℕ → List (Row Outcome)
+outerRows f =
+    unless (there 14 f) (refused cut-short)
+    ∷ pick (isTag (drop 12 f))
+    (unless (there 16 f) (refused cut-short) ∷ unless (there 18 f) (refused cut-short) ∷ unless (isTrill (drop 16 f)) (refused not-trill) ∷ [])
+    (unless (isTrill (drop 12 f)) (refused not-trill) ∷ [])
+
+abbrev pub outerEnd : List ℕ → ℕ
+outerEnd f = pick (isTag (drop 12 f)) 18 14
+
+-- "7 before 12, once all six header bytes are there"; then the options
+abbrev pub headerRows : Front → List ℕ → List (Row Outcome)
+headerRows d h =
+    unless (there 6 h) (refused cut-short)
+    ∷ unless (eqb (versionOf h) 0) (refused version-bad)
+    ∷ unless (agrees d (multicastOf h)) (refused multicast-disagrees)
+    ∷ unless (there (headerBytes h) h) (refused cut-short)
+    ∷ []
+
+abbrev pub addressRows : List ℕ → List (Row Outcome)
+addressRows a =
+    unless (there 6 a) (refused cut-short)
+    ∷ unless (there 6 (drop 6 a)) (refused cut-short)
+    ∷ []
+
+-- a VLAN label, or a fine-grained one
+abbrev pub labelRows : List ℕ → List (Row Outcome)
+labelRows l =
+    unless (there 2 l) (refused cut-short)
+    ∷ pick (isTag l)
+    (unless (there 4 l) (refused cut-short) ∷ unless (vlanGood (low12 2 l)) (refused label-bad) ∷ [])
+    (unless (isFine l) (refused label-bad)
+    ∷ unless (there 4 l) (refused cut-short)
+    ∷ unless (there 6 l) (refused cut-short)
+    ∷ unless (isFine (drop 4 l)) (refused label-bad)
+    ∷ unless (there 8 l) (refused cut-short)
+    ∷ [])
+
+abbrev pub labelEnd : List ℕ → ℕ
+labelEnd l = pick (isTag l) 4 8
+
+abbrev pub trillRows : List ℕ → List (Row Outcome)
+trillRows l =
+    unless (there 2 l) (refused cut-short)
+    ∷ unless (isTrill l) (refused not-trill)
+    ∷ []
+
+abbrev pub contentRows : List ℕ → List (Row Outcome)
+contentRows c = unless (there 2 c) (refused cut-short) ∷ []
+
+-- ---- the two formats
+
+-- General: outer part, header, inner addresses, label, content
+module _ (f : List ℕ) where
+  abbrev pub generalHeader : List ℕ
+  generalHeader = drop (outerEnd f) f
+
+  abbrev pub generalAddresses : List ℕ
+  generalAddresses = drop (headerBytes generalHeader) generalHeader
+
+  abbrev pub generalLabel : List ℕ
+  generalLabel = drop 6 (drop 6 generalAddresses)
+
+  abbrev pub generalContent : List ℕ
+  generalContent = drop (labelEnd generalLabel) generalLabel
+
+  abbrev pub generalRows : Front → List (Row Outcome)
+  generalRows d = outerRows f ++ (headerRows d generalHeader ++ (addressRows generalAddresses ++ (labelRows generalLabel ++ contentRows generalContent)))
+
+  abbrev pub generalParts : Fields
+  generalParts = record {
+    header = take (headerBytes generalHeader) generalHeader;
+    dst = take 6 generalAddresses;
+    src = take 6 (drop 6 generalAddresses);
+    label = take (labelEnd generalLabel) generalLabel;
+    content = generalContent;
+  }
+
+-- Compact: inner addresses, label, 22F3, header, content
+module _ (f : List ℕ) where
+  abbrev pub compactLabel : List ℕ
+  compactLabel = drop 6 (drop 6 f)
+
+  abbrev pub compactType : List ℕ
+  compactType = drop (labelEnd compactLabel) compactLabel
+
+  abbrev pub compactHeader : List ℕ
+  compactHeader = drop 2 compactType
+
+  abbrev pub compactContent : List ℕ
+  compactContent = drop (headerBytes compactHeader) compactHeader
+
+  abbrev pub compactRows : List (Row Outcome)
+  compactRows = addressRows f ++ (labelRows compactLabel ++ (trillRows compactType ++ (headerRows inner compactHeader ++ contentRows compactContent)))
+
+  abbrev pub compactParts : Fields
+  compactParts = record {
+    header = take (headerBytes compactHeader) compactHeader;
+    dst = take 6 f;
+    src = take 6 (drop 6 f);
+    label = take (labelEnd compactLabel) compactLabel;
+    content = compactContent;
+  }
+
+-- 5 "destination in front not for this port", then the fields of the format that it means
+abbrev pub frontRows : Bool → Front → List ℕ → List (Row Outcome)
+frontRows on unicast f = generalRows f unicast
+frontRows on multicast f = generalRows f multicast
+frontRows on refusedFront f = when true (refused not-for-port) ∷ []
+frontRows on inner f = unless on (refused not-for-port) ∷ compactRows f
+
+abbrev pub frontParts : Front → List ℕ → Fields
+frontParts unicast f = generalParts f
+frontParts multicast f = generalParts f
+frontParts refusedFront f = generalParts f
+frontParts inner f = compactParts f
+
+-- ---- on the fields read, alike for both formats
+
+abbrev pub isGot : {A : Type 0} → Result A → Bool
+isGot (refused n) = not true
+isGot (got a) = true
+
+module _ (s : Settings) (p : Fields) (t o : List ℕ) where
+  abbrev pub decisionRows : List (Row Outcome)
+  decisionRows =
+      when (eqb (hopCount (p .header)) 0) (refused hops-spent)
+      ∷ unless (nicknamesGood s (p .header)) (refused nickname-bad)
+      ∷ unless (individual (num (p .src))) (refused source-group)
+      ∷ when (isOnward s (p .header)) (got (onBoth Onward t o))
+      ∷ []
+
+  -- content 8946: a channel frame
+  abbrev pub channelRows : List (Row Outcome)
+  channelRows =
+      unless (there 6 (p .content)) (refused cut-short)
+      ∷ unless (channelGood s p) (refused channel-bad)
+      ∷ unless (eqb (channelProtocol (p .content)) flushProtocol) (got (onBoth OtherChannel t o))
+      ∷ unless (isGot (payloadOf everyType (channelPayload (p .content)))) (refused payload-corrupt)
+      ∷ []
+
+  abbrev pub flushesAll : Outcome
+  flushesAll = got (flushedWith o (clearedBy (slotMeant everyType (made (channelPayload (p .content))) (ingressOf (p .header))) t))
+
+  -- any other content: a native frame
+  abbrev pub nativeRows : List (Row Outcome)
+  nativeRows =
+      when (trillGroup (num (p .dst))) (refused not-channel)
+      ∷ unless (leb (length (nativeBytes p)) (length o)) (refused area-short)
+      ∷ []
+
+  abbrev pub delivers : Outcome
+  delivers = got (deliveredWith p o (learnt (lesson defaultLife s p) t))
+
+  abbrev pub actedOn : Outcome
+  actedOn =
+      firstOf decisionRows
+      (pick (isChannel (p .content)) (firstOf channelRows flushesAll) (firstOf nativeRows delivers))
+
+-- ---- the whole
+
+-- "Order: 1, 2, 3, 5; then the fields from left to right .. Then, on the fields read and alike for both formats: 8, 9, 11; onward; 13;
+-- 6 where the four bytes after 8946 are cut; 14, 15, 16."
+abbrev pub readInOrder : Settings → List ℕ → List ℕ → List ℕ → Outcome
+readInOrder s f t o =
+    firstOf
+    (unless (settingsGood s) (refused settings-bad)
+    ∷ unless (tableGood t) (refused table-length-bad)
+    ∷ unless (sizeGood (length f)) (refused frame-length-bad)
+    ∷ frontRows (compactOn s) (frontOf s (addressIn f)) f)
+    (actedOn s (frontParts (frontOf s (addressIn f)) f) t o)
+
+abbrev pub ReadsExactly : Type 0
+ReadsExactly = (s : Settings) (f t o : List ℕ) → received s f t o ≡ settled (λ n. onBoth (Refused n) t o) (readInOrder s f t o)
