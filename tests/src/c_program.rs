@@ -3,8 +3,8 @@
 use std::path::Path;
 use std::process::Command;
 
-/// Runs a program; it must end well.
-pub fn run(program: &Path) {
+/// Runs a program, which must end well; what it printed.
+pub fn run(program: &Path) -> String {
     let output = Command::new(program)
         .output()
         .unwrap_or_else(|error| panic!("{} cannot be run: {error}", program.display()));
@@ -16,10 +16,12 @@ pub fn run(program: &Path) {
         String::from_utf8_lossy(&output.stdout),
         String::from_utf8_lossy(&output.stderr)
     );
+    String::from_utf8(output.stdout).expect("UTF-8")
 }
 
-/// Compiles a program of the folder `c` as C and as C++, links it with the archive and runs it.
-pub fn compile_and_run(name: &str) {
+/// Compiles a program of the folder `c` as C and as C++, links it with the archive and runs it; what
+/// each of the two printed.
+pub fn compile_and_run(name: &str) -> [String; 2] {
     let package = Path::new(env!("CARGO_MANIFEST_DIR"));
     let source = package.join("c").join(name);
     let languages: [(&str, &[&str]); 2] = [
@@ -29,7 +31,7 @@ pub fn compile_and_run(name: &str) {
             &["-x", "c++", "-std=c++98", "-pedantic", "-Wno-long-long"],
         ),
     ];
-    for (compiler, options) in languages {
+    languages.map(|(compiler, options)| {
         let program = Path::new(env!("OUT_DIR")).join(format!("{name}-{compiler}"));
         let output = Command::new(compiler)
             .args(options)
@@ -47,6 +49,6 @@ pub fn compile_and_run(name: &str) {
             "{compiler} cannot compile {name}:\n{}",
             String::from_utf8_lossy(&output.stderr)
         );
-        run(&program);
-    }
+        run(&program)
+    })
 }
