@@ -31,7 +31,7 @@
 #define SHINGLEBAR_FRAME_LENGTH_MAX 9216
 #define SHINGLEBAR_COMPACT_LENGTH_MAX 9204
 
-/* The refusal numbers. */
+/* The refusal numbers. shinglebar_refusal_string has the words. */
 enum shinglebar_refusal_number {
     /* settings outside their ranges */
     SHINGLEBAR_REFUSAL_SETTINGS = 1,
@@ -297,6 +297,33 @@ static inline uint16_t shinglebar_nickname(uint64_t result)
 static inline unsigned shinglebar_slot(uint64_t result)
 {
     return (unsigned)((result >> 8) & 0xFFFFu);
+}
+
+/* What a refusal means, in words, or "no refusal". Takes a result or a refusal number. */
+static inline const char *shinglebar_refusal_string(uint64_t result)
+{
+    static const char *const words[] = {
+        "no refusal",
+        "settings outside their ranges",
+        "table length 0, not a multiple of 14, or over 57,344",
+        "frame (or expanded result) outside 14 to 9,216 bytes",
+        "22F3 not at its place",
+        "destination in front not for this port",
+        "the frame ends inside a field it needs, or content under 2 bytes",
+        "V is not 0",
+        "Hop Count 0",
+        "a nickname outside 0001 to FFBF, or ingress nickname our own",
+        "label Ethertype or VLAN number not allowed",
+        "inner source is a group address",
+        "M and the General destination disagree",
+        "inner destination :40 to :4F, content not 8946",
+        "channel: version or ERR not 0, or destination neither own inner address nor 01-80-C2-00-00-42",
+        "flush payload corrupt",
+        "output area shorter than the result",
+        "frame may not be compacted",
+        "a General frame given where Compact is required"
+    };
+    return words[result < sizeof words / sizeof words[0] ? (size_t)result : 0];
 }
 
 /* Records. These three do not call the archive. */
