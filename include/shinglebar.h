@@ -3,22 +3,38 @@
  *
  * Rules for every call:
  *
- * - An area is a pointer and a length. The areas of one call (frame or payload, table, output or
- *   working area) may not overlap; in particular a native frame cannot be delivered in place, into
- *   the frame it came from.
- * - A length may not exceed the memory behind its pointer.
- * - A pointer given to a call of the archive is never NULL, also at length 0. The wrappers whose names
- *   end in _any take NULL with length 0 and pass the address of a static byte instead.
  * - Addresses are numbers below 2^48, the first byte on the wire most significant. 2^48 or more in a
  *   setting is refusal 1.
  * - `seconds` of shinglebar_age is 16 bits wide, 0 to 65,535: a larger number given to it loses its
  *   high bits in the conversion, so a caller with more seconds ages by 65,535.
- * - A refusal changes nothing. An output or working area keeps its bytes behind what is written.
+ * - A refusal changes nothing.
+ *
+ * Areas. An area is a pointer and a length, lent for the call: nothing of it is kept afterwards.
+ *
+ * - The areas of one call (frame or payload, table, output or working area) may not overlap; in
+ *   particular a native frame cannot be delivered in place, into the frame it came from.
+ * - A length may not exceed the memory behind its pointer. No alignment is needed.
+ * - A pointer given to a call of the archive is never NULL, also at length 0. The wrappers whose names
+ *   end in _any take NULL with length 0 and pass the address of a static byte instead.
+ * - An area that is lent as const is not written. An output or working area keeps its bytes behind
+ *   what is written.
+ *
+ * Threads. The archive has no state of its own, takes no lock and never waits: any number of threads
+ * may call it at once.
+ *
+ * - An area that a call writes (output, working area, and the table of receive, flush and age) may not
+ *   be used by another thread until the call has returned. A table that threads share needs a lock of
+ *   theirs: shared for lookup and spoilt, exclusive for receive, flush and age.
+ * - A thread needs SHINGLEBAR_STACK_MAX bytes of stack for a call, beside its own. There is no heap.
+ *
+ * docs/FORMATS.md has the layouts of records, frames and flush payloads, and the order of refusals.
+ * SHINGLEBAR_VERSION is the one version of archive, header, driver, pkg-config file and Rust package.
  *
  * Usable from C99 and from C++.
  */
 #ifndef SHINGLEBAR_H
 #define SHINGLEBAR_H
+#define SHINGLEBAR_VERSION "0.1.0"
 
 #include <stddef.h>
 #include <stdint.h>
@@ -30,6 +46,13 @@
 /* The bytes of the longest frame, and of a working area in which every compaction has room. */
 #define SHINGLEBAR_FRAME_LENGTH_MAX 9216
 #define SHINGLEBAR_COMPACT_LENGTH_MAX 9204
+
+/* The bytes of stack that a call takes at most: any call (a long flush takes most, so a frame that
+ * brings one does), and every call but receive and flush. Measured on x86-64: tests/c/stack.c paints the
+ * stack of a thread, makes the calls that take most, and fails where one takes more. Of both about 3,000
+ * are the dynamic loader's, when the archive first calls memmove or memset in a program linked lazily. */
+#define SHINGLEBAR_STACK_MAX 135168
+#define SHINGLEBAR_STACK_SMALL_MAX 4096
 
 /* The refusal numbers. shinglebar_refusal_string has the words. */
 enum shinglebar_refusal_number {

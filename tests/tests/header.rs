@@ -1,10 +1,11 @@
-//! The header used from C and from C++: the wrappers of lookup, age and spoilt, the decoders, records
-//! and refusal strings.
+//! The header used from C and from C++: the wrappers of lookup, age and spoilt, the decoders, records,
+//! refusal strings and the stack that a call takes; and what it says of the archive.
 
 use shinglebar::Refusal;
 use shinglebar_tests::c_program;
 use std::fs;
 use std::path::Path;
+use std::process::Command;
 
 /// Runs a program that build.rs compiled.
 fn run(program: &str) {
@@ -57,4 +58,42 @@ fn the_refusal_strings_are_the_words_of_the_rust_package_and_of_the_readme() {
         let row = format!("| {} | {refusal} |", refusal.number());
         assert!(readme.lines().any(|line| line == row), "no row `{row}`");
     }
+}
+
+#[test]
+fn no_call_takes_more_stack_than_the_header_says() {
+    for printed in c_program::compile_and_run("stack.c") {
+        eprint!("{printed}");
+    }
+}
+
+/// "The archive has no state of its own", and calls "no C function but `memmove` and `memset`".
+#[test]
+fn the_archive_has_no_data_and_asks_for_memmove_and_memset_alone() {
+    let output = Command::new("nm")
+        .args(["--format=posix", env!("SHINGLEBAR_ARCHIVE")])
+        .output()
+        .expect("nm");
+    assert!(output.status.success());
+    let listed = String::from_utf8(output.stdout).expect("UTF-8");
+    let mut asked = Vec::new();
+    let mut offered = Vec::new();
+    for line in listed.lines().filter(|line| !line.ends_with(':')) {
+        let mut words = line.split_whitespace();
+        let (name, kind) = (words.next().expect("a name"), words.next().expect("a type"));
+        match kind {
+            "U" => asked.push(name),
+            "T" => offered.push(name),
+            // code, and data that is only read
+            "t" | "r" => {}
+            _ => panic!("{line}"),
+        }
+    }
+    asked.sort();
+    assert_eq!(asked, ["memmove", "memset"]);
+    assert!(offered.contains(&"shinglebar_receive"), "{offered:?}");
+    assert!(
+        offered.iter().all(|name| name.starts_with("shinglebar_")),
+        "{offered:?}"
+    );
 }
