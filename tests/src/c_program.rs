@@ -1,13 +1,27 @@
 //! C programs that use the header.
 
+use std::io::Write;
 use std::path::Path;
-use std::process::Command;
+use std::process::{Command, Stdio};
 
 /// Runs a program, which must end well; what it printed.
 pub fn run(program: &Path) -> String {
-    let output = Command::new(program)
-        .output()
+    run_on(program, "")
+}
+
+/// Runs a program on this input.
+pub fn run_on(program: &Path, input: &str) -> String {
+    let mut child = Command::new(program)
+        .stdin(Stdio::piped())
+        .stdout(Stdio::piped())
+        .stderr(Stdio::piped())
+        .spawn()
         .unwrap_or_else(|error| panic!("{} cannot be run: {error}", program.display()));
+    let mut to = child.stdin.take().expect("its input");
+    // A program may end without reading it.
+    let _ = to.write_all(input.as_bytes());
+    drop(to);
+    let output = child.wait_with_output().expect("its end");
     assert!(
         output.status.success(),
         "{} failed: {}\n{}{}",
@@ -51,4 +65,22 @@ pub fn compile_and_run(name: &str) -> [String; 2] {
         );
         run(&program)
     })
+}
+
+/// Compiles examples/port.c with these words before and behind its name.
+pub fn compile_example(program: &Path, before: &[String], behind: &[String]) {
+    let output = Command::new("cc")
+        .args(["-std=c99", "-pedantic", "-Wall", "-Wextra", "-Werror"])
+        .args(before)
+        .arg(Path::new(env!("CARGO_MANIFEST_DIR")).join("../examples/port.c"))
+        .args(behind)
+        .arg("-o")
+        .arg(program)
+        .output()
+        .unwrap_or_else(|error| panic!("cc cannot be run: {error}"));
+    assert!(
+        output.status.success(),
+        "cc cannot compile the example:\n{}",
+        String::from_utf8_lossy(&output.stderr)
+    );
 }
