@@ -48,11 +48,12 @@
 #define SHINGLEBAR_COMPACT_LENGTH_MAX 9204
 
 /* The bytes of stack that a call takes at most: any call (a long flush takes most, so a frame that
- * brings one does), and every call but receive and flush. Measured on x86-64: tests/c/stack.c paints the
- * stack of a thread, makes the calls that take most, and fails where one takes more. Of both about 3,000
- * are the dynamic loader's, when the archive first calls memmove or memset in a program linked lazily. */
+ * brings one does), and a call that carries out no flush, which is every call but receive and flush.
+ * Measured on x86-64: tests/c/stack.c paints the stack of a thread, makes the calls that take most, and
+ * fails where one takes more. What the dynamic loader takes when it binds memmove and memset, about
+ * 3,000 bytes, is counted. */
 #define SHINGLEBAR_STACK_MAX 135168
-#define SHINGLEBAR_STACK_SMALL_MAX 4096
+#define SHINGLEBAR_STACK_MAX_WITHOUT_FLUSH 4096
 
 /* The refusal numbers. shinglebar_refusal_string has the words. */
 enum shinglebar_refusal_number {

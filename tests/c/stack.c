@@ -280,7 +280,7 @@ static void flushes(void)
 
 static void others(void)
 {
-    size_t most = SHINGLEBAR_STACK_SMALL_MAX;
+    size_t most = SHINGLEBAR_STACK_MAX_WITHOUT_FLUSH;
     make_frame(0);
     within("receive without a flush", taken("receive", call_receive, SHINGLEBAR_RECEIVE_DELIVERED), most);
     within("compact", taken("compact", call_compact, SHINGLEBAR_COMPACT_WRITTEN), most);

@@ -12,6 +12,7 @@
 //! | tests/flush.rs | flush |
 //! | tests/receive.rs | receive |
 //! | tests/convert.rs | compact, expand, send |
+//! | tests/refusals.rs | all: the order of refusals in docs/FORMATS.md |
 //! | tests/formats.rs | receive, compact, flush, spoilt: the examples of docs/FORMATS.md |
 //! | tests/driver.rs | all, through the port driver |
 //! | tests/lists.rs | receive, compact, lookup, age, spoilt: whole call lists |
