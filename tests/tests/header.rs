@@ -7,6 +7,12 @@ use std::fs;
 use std::path::Path;
 use std::process::Command;
 
+/// A file of the repository.
+fn text(name: &str) -> String {
+    let file = Path::new(env!("CARGO_MANIFEST_DIR")).join("..").join(name);
+    fs::read_to_string(file).unwrap_or_else(|error| panic!("{name}: {error}"))
+}
+
 /// Runs a program that build.rs compiled.
 fn run(program: &str) {
     c_program::run(&Path::new(env!("OUT_DIR")).join(program));
@@ -52,8 +58,7 @@ fn the_refusal_strings_are_the_words_of_the_rust_package_and_of_the_readme() {
     for printed in c_program::compile_and_run("strings.c") {
         assert_eq!(printed, wanted);
     }
-    let readme = Path::new(env!("CARGO_MANIFEST_DIR")).join("../README.md");
-    let readme = fs::read_to_string(readme).expect("README.md");
+    let readme = text("README.md");
     for refusal in Refusal::ALL {
         let row = format!("| {} | {refusal} |", refusal.number());
         assert!(readme.lines().any(|line| line == row), "no row `{row}`");
@@ -65,6 +70,14 @@ fn no_call_takes_more_stack_than_the_header_says() {
     for printed in c_program::compile_and_run("stack.c") {
         eprint!("{printed}");
     }
+    let header = text("include/shinglebar.h");
+    let most = header
+        .lines()
+        .find_map(|line| line.strip_prefix("#define SHINGLEBAR_STACK_MAX "))
+        .and_then(|most| most.parse::<usize>().ok())
+        .expect("the bytes");
+    let words = format!("at most {} KiB of stack", most.div_ceil(1024));
+    assert!(text("README.md").contains(&words), "`{words}`");
 }
 
 /// "The archive has no state of its own", and calls "no C function but `memmove` and `memset`".
