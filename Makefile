@@ -1,5 +1,5 @@
 # Shinglebar. `make test` is the gate that every change passes.
-.PHONY: test run driver lab fuzz fuzzer bench archive vectors captures outside outside-write fmt
+.PHONY: test run driver install lab fuzz fuzzer bench archive vectors captures outside outside-write fmt
 
 # What `make run` says first: the minutes that `rt staticlib shinglebar` takes from nothing on two cores.
 PROVING_MINUTES = 6
@@ -8,7 +8,18 @@ GATE_MINUTES = 22
 
 ARCHIVE = target/staticlib/libshinglebar.a
 DRIVER = target/driver/shinglebar-port
+MADE = target/install
 CFLAGS = -O2 -g
+
+# The version stands in the header; everything else takes it from there.
+VERSION = $(shell sed -n 's/^.define SHINGLEBAR_VERSION "\(.*\)"$$/\1/p' include/shinglebar.h)
+
+# Where `make install` puts things: absolute paths. DESTDIR goes in front of them and into none of them, for whoever makes a package.
+PREFIX = /usr/local
+BINDIR = $(PREFIX)/bin
+LIBDIR = $(PREFIX)/lib
+INCLUDEDIR = $(PREFIX)/include
+MANDIR = $(PREFIX)/share/man
 
 # Proves every crate from nothing, tries every must-fail edit and runs the tests.
 test:
@@ -35,6 +46,23 @@ driver: $(DRIVER)
 $(DRIVER): $(wildcard driver/*.c driver/*.h) include/shinglebar.h $(ARCHIVE)
 	@mkdir -p $(@D)
 	$(CC) -std=c99 $(CFLAGS) -Wall -Wextra -Werror -pedantic -Iinclude driver/*.c $(ARCHIVE) -o $@
+
+# Installs header, archive, driver, pkg-config file and man page; proves the library only where there is no archive.
+install: $(DRIVER) $(MADE)/shinglebar-port.1
+	@case "$(PREFIX)" in /*) ;; *) echo "make install: PREFIX is no absolute path: $(PREFIX)" >&2; exit 1;; esac
+	install -d "$(DESTDIR)$(BINDIR)" "$(DESTDIR)$(LIBDIR)/pkgconfig" "$(DESTDIR)$(INCLUDEDIR)" "$(DESTDIR)$(MANDIR)/man1"
+	install -m 644 include/shinglebar.h "$(DESTDIR)$(INCLUDEDIR)/shinglebar.h"
+	install -m 644 $(ARCHIVE) "$(DESTDIR)$(LIBDIR)/libshinglebar.a"
+	install -m 755 $(DRIVER) "$(DESTDIR)$(BINDIR)/shinglebar-port"
+	install -m 644 $(MADE)/shinglebar-port.1 "$(DESTDIR)$(MANDIR)/man1/shinglebar-port.1"
+	sed -e 's|@PREFIX@|$(PREFIX)|' -e 's|@INCLUDEDIR@|$(INCLUDEDIR)|' -e 's|@LIBDIR@|$(LIBDIR)|' -e 's|@VERSION@|$(VERSION)|' \
+	    packaging/shinglebar.pc.in >$(MADE)/shinglebar.pc
+	install -m 644 $(MADE)/shinglebar.pc "$(DESTDIR)$(LIBDIR)/pkgconfig/shinglebar.pc"
+
+$(MADE)/shinglebar-port.1: packaging/man.sh packaging/shinglebar-port.1.in include/shinglebar.h $(DRIVER)
+	@mkdir -p $(@D)
+	packaging/man.sh $(DRIVER) $(VERSION) >$@.made
+	@mv $@.made $@
 
 # Two drivers on a link between two network namespaces. Needs root and iproute2; status 77 where namespaces are not permitted.
 lab: driver

@@ -3,22 +3,38 @@
  *
  * Rules for every call:
  *
- * - An area is a pointer and a length. The areas of one call (frame or payload, table, output or
- *   working area) may not overlap; in particular a native frame cannot be delivered in place, into
- *   the frame it came from.
- * - A length may not exceed the memory behind its pointer.
- * - A pointer given to a call of the archive is never NULL, also at length 0. The wrappers whose names
- *   end in _any take NULL with length 0 and pass the address of a static byte instead.
  * - Addresses are numbers below 2^48, the first byte on the wire most significant. 2^48 or more in a
  *   setting is refusal 1.
  * - `seconds` of shinglebar_age is 16 bits wide, 0 to 65,535: a larger number given to it loses its
  *   high bits in the conversion, so a caller with more seconds ages by 65,535.
- * - A refusal changes nothing. An output or working area keeps its bytes behind what is written.
+ * - A refusal changes nothing.
+ *
+ * Areas. An area is a pointer and a length, lent for the call: nothing of it is kept afterwards.
+ *
+ * - The areas of one call (frame or payload, table, output or working area) may not overlap; in
+ *   particular a native frame cannot be delivered in place, into the frame it came from.
+ * - A length may not exceed the memory behind its pointer. No alignment is needed.
+ * - A pointer given to a call of the archive is never NULL, also at length 0. The wrappers whose names
+ *   end in _any take NULL with length 0 and pass the address of a static byte instead.
+ * - An area that is lent as const is not written. An output or working area keeps its bytes behind
+ *   what is written.
+ *
+ * Threads. The archive has no state of its own, takes no lock and never waits: any number of threads
+ * may call it at once.
+ *
+ * - An area that a call writes (output, working area, and the table of receive, flush and age) may not
+ *   be used by another thread until the call has returned. A table that threads share needs a lock of
+ *   theirs: shared for lookup and spoilt, exclusive for receive, flush and age.
+ * - A thread needs SHINGLEBAR_STACK_MAX bytes of stack for a call, beside its own. There is no heap.
+ *
+ * docs/FORMATS.md has the layouts of records, frames and flush payloads, and the order of refusals.
+ * SHINGLEBAR_VERSION is the one version of archive, header, driver, pkg-config file and Rust package.
  *
  * Usable from C99 and from C++.
  */
 #ifndef SHINGLEBAR_H
 #define SHINGLEBAR_H
+#define SHINGLEBAR_VERSION "0.1.0"
 
 #include <stddef.h>
 #include <stdint.h>
@@ -31,7 +47,15 @@
 #define SHINGLEBAR_FRAME_LENGTH_MAX 9216
 #define SHINGLEBAR_COMPACT_LENGTH_MAX 9204
 
-/* The refusal numbers. */
+/* The bytes of stack that a call takes at most: any call (a long flush takes most, so a frame that
+ * brings one does), and a call that carries out no flush, which is every call but receive and flush.
+ * Measured on x86-64: tests/c/stack.c paints the stack of a thread, makes the calls that take most, and
+ * fails where one takes more. What the dynamic loader takes when it binds memmove and memset, about
+ * 3,000 bytes, is counted. */
+#define SHINGLEBAR_STACK_MAX 135168
+#define SHINGLEBAR_STACK_MAX_WITHOUT_FLUSH 4096
+
+/* The refusal numbers. shinglebar_refusal_string has the words. */
 enum shinglebar_refusal_number {
     /* settings outside their ranges */
     SHINGLEBAR_REFUSAL_SETTINGS = 1,
@@ -127,10 +151,45 @@ enum shinglebar_learning_outcome {
     SHINGLEBAR_LEARNING_FULL = 3
 };
 
-/* Of a frame delivered, and the first argument of a lookup. */
+/* Of a frame delivered and of a record, and the first argument of a lookup. */
 enum shinglebar_label_kind_number {
     SHINGLEBAR_LABEL_VLAN = 0,
     SHINGLEBAR_LABEL_FINE_GRAINED = 1
+};
+
+/*
+ * A record of the address table is 112 bits, the most significant first; bit 0 is the high bit of byte 0:
+ *
+ *   bits      width  field
+ *   0..1      2      state: 0 free, 1 learned, 2 configured
+ *   2         1      label kind: 0 VLAN, 1 fine-grained
+ *   3..26     24     label
+ *   27..74    48     MAC
+ *   75..90    16     nickname
+ *   91..98    8      confidence
+ *   99..111   13     seconds
+ *
+ * Free is 14 zero bytes. Any other record is spoilt that has state 0 or 3, a VLAN label outside 1 to FFE
+ * (all 24 bits count), a group MAC, or a nickname outside 0001 to FFBF. A spoilt record matches nothing
+ * and is never changed.
+ */
+enum shinglebar_record_state {
+    SHINGLEBAR_RECORD_FREE = 0,
+    SHINGLEBAR_RECORD_LEARNED = 1,
+    SHINGLEBAR_RECORD_CONFIGURED = 2,
+    /* no state of its own: state bits 3, or another rule broken */
+    SHINGLEBAR_RECORD_SPOILT = 3
+};
+
+/* What a record holds; shinglebar_unpack_record, shinglebar_pack_record. */
+struct shinglebar_record {
+    unsigned state;      /* one of enum shinglebar_record_state */
+    unsigned label_kind; /* one of enum shinglebar_label_kind_number */
+    uint32_t label;      /* VLAN 1 to FFE, or fine-grained 0 to FFFFFF */
+    uint64_t mac;        /* an individual address */
+    unsigned nickname;   /* 0001 to FFBF */
+    unsigned confidence; /* 0 to 255 */
+    unsigned seconds;    /* 0 to 8191 */
 };
 
 #ifdef __cplusplus
@@ -262,6 +321,93 @@ static inline uint16_t shinglebar_nickname(uint64_t result)
 static inline unsigned shinglebar_slot(uint64_t result)
 {
     return (unsigned)((result >> 8) & 0xFFFFu);
+}
+
+/* What a refusal means, in words, or "no refusal". Takes a result or a refusal number. */
+static inline const char *shinglebar_refusal_string(uint64_t result)
+{
+    static const char *const words[] = {
+        "no refusal",
+        "settings outside their ranges",
+        "table length 0, not a multiple of 14, or over 57,344",
+        "frame (or expanded result) outside 14 to 9,216 bytes",
+        "22F3 not at its place",
+        "destination in front not for this port",
+        "the frame ends inside a field it needs, or content under 2 bytes",
+        "V is not 0",
+        "Hop Count 0",
+        "a nickname outside 0001 to FFBF, or ingress nickname our own",
+        "label Ethertype or VLAN number not allowed",
+        "inner source is a group address",
+        "M and the General destination disagree",
+        "inner destination :40 to :4F, content not 8946",
+        "channel: version or ERR not 0, or destination neither own inner address nor 01-80-C2-00-00-42",
+        "flush payload corrupt",
+        "output area shorter than the result",
+        "frame may not be compacted",
+        "a General frame given where Compact is required"
+    };
+    return words[result < sizeof words / sizeof words[0] ? (size_t)result : 0];
+}
+
+/* Records. These three do not call the archive. */
+
+/* 1 if label, MAC and nickname are those of a good record, and every number fits its field; else 0. */
+static inline int shinglebar_is_good_entry(const struct shinglebar_record *record)
+{
+    int vlan = record->label_kind == SHINGLEBAR_LABEL_VLAN && record->label >= 1 && record->label <= 0xFFE;
+    int fine = record->label_kind == SHINGLEBAR_LABEL_FINE_GRAINED && record->label <= 0xFFFFFF;
+    int individual = record->mac >> 48 == 0 && (record->mac >> 40 & 1) == 0;
+    int nickname = record->nickname >= 1 && record->nickname <= 0xFFBF;
+    return (vlan || fine) && individual && nickname && record->confidence <= 255
+           && record->seconds <= 8191;
+}
+
+/* What the SHINGLEBAR_RECORD_LENGTH bytes of a slot hold. Of a spoilt record the fields are as they lie
+ * in their bits. */
+static inline struct shinglebar_record shinglebar_unpack_record(const uint8_t *slot)
+{
+    struct shinglebar_record record;
+    uint64_t high = 0; /* bits 0..63 */
+    uint64_t low = 0;  /* bits 64..111 */
+    int at;
+    for (at = 0; at < 8; at++)
+        high = high << 8 | slot[at];
+    for (at = 8; at < SHINGLEBAR_RECORD_LENGTH; at++)
+        low = low << 8 | slot[at];
+    record.state = (unsigned)(high >> 62);
+    record.label_kind = (unsigned)(high >> 61 & 0x1);
+    record.label = (uint32_t)(high >> 37 & 0xFFFFFF);
+    record.mac = (high << 11 | low >> 37) & (((uint64_t)1 << 48) - 1);
+    record.nickname = (unsigned)(low >> 21 & 0xFFFF);
+    record.confidence = (unsigned)(low >> 13 & 0xFF);
+    record.seconds = (unsigned)(low & 0x1FFF);
+    if (record.state == SHINGLEBAR_RECORD_FREE ? (high | low) != 0 : !shinglebar_is_good_entry(&record))
+        record.state = SHINGLEBAR_RECORD_SPOILT;
+    return record;
+}
+
+/* Writes a record to the SHINGLEBAR_RECORD_LENGTH bytes of a slot: 1. A free one is written as zeros,
+ * its other fields not read. Nothing is written for a record that would be spoilt or whose numbers do
+ * not fit: 0. */
+static inline int shinglebar_pack_record(const struct shinglebar_record *record, uint8_t *slot)
+{
+    uint64_t high = 0;
+    uint64_t low = 0;
+    int at;
+    if (record->state != SHINGLEBAR_RECORD_FREE) {
+        if (record->state >= SHINGLEBAR_RECORD_SPOILT || !shinglebar_is_good_entry(record))
+            return 0;
+        high = (uint64_t)record->state << 62 | (uint64_t)record->label_kind << 61
+               | (uint64_t)record->label << 37 | record->mac >> 11;
+        low = (record->mac & 0x7FF) << 37 | (uint64_t)record->nickname << 21
+              | (uint64_t)record->confidence << 13 | record->seconds;
+    }
+    for (at = 0; at < 8; at++)
+        slot[at] = (uint8_t)(high >> (56 - 8 * at) & 0xFF);
+    for (at = 8; at < SHINGLEBAR_RECORD_LENGTH; at++)
+        slot[at] = (uint8_t)(low >> (104 - 8 * at) & 0xFF);
+    return 1;
 }
 
 /*

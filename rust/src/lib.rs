@@ -67,6 +67,9 @@ pub use answer::{
 pub use refusal::Refusal;
 pub use values::{Label, Mac, Outer, Settings};
 
+/// The version of the package, which is that of the library's header.
+pub const VERSION: &str = env!("CARGO_PKG_VERSION");
+
 /// The bytes of a record of the address table.
 pub const RECORD_LENGTH: usize = 14;
 /// The bytes of the longest table.

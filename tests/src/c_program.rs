@@ -1,13 +1,27 @@
 //! C programs that use the header.
 
+use std::io::Write;
 use std::path::Path;
-use std::process::Command;
+use std::process::{Command, Stdio};
 
-/// Runs a program; it must end well.
-pub fn run(program: &Path) {
-    let output = Command::new(program)
-        .output()
+/// Runs a program, which must end well; what it printed.
+pub fn run(program: &Path) -> String {
+    run_on(program, "")
+}
+
+/// Runs a program on this input.
+pub fn run_on(program: &Path, input: &str) -> String {
+    let mut child = Command::new(program)
+        .stdin(Stdio::piped())
+        .stdout(Stdio::piped())
+        .stderr(Stdio::piped())
+        .spawn()
         .unwrap_or_else(|error| panic!("{} cannot be run: {error}", program.display()));
+    let mut to = child.stdin.take().expect("its input");
+    // A program may end without reading it.
+    let _ = to.write_all(input.as_bytes());
+    drop(to);
+    let output = child.wait_with_output().expect("its end");
     assert!(
         output.status.success(),
         "{} failed: {}\n{}{}",
@@ -16,10 +30,12 @@ pub fn run(program: &Path) {
         String::from_utf8_lossy(&output.stdout),
         String::from_utf8_lossy(&output.stderr)
     );
+    String::from_utf8(output.stdout).expect("UTF-8")
 }
 
-/// Compiles a program of the folder `c` as C and as C++, links it with the archive and runs it.
-pub fn compile_and_run(name: &str) {
+/// Compiles a program of the folder `c` as C and as C++, links it with the archive and runs it; what
+/// each of the two printed.
+pub fn compile_and_run(name: &str) -> [String; 2] {
     let package = Path::new(env!("CARGO_MANIFEST_DIR"));
     let source = package.join("c").join(name);
     let languages: [(&str, &[&str]); 2] = [
@@ -29,7 +45,7 @@ pub fn compile_and_run(name: &str) {
             &["-x", "c++", "-std=c++98", "-pedantic", "-Wno-long-long"],
         ),
     ];
-    for (compiler, options) in languages {
+    languages.map(|(compiler, options)| {
         let program = Path::new(env!("OUT_DIR")).join(format!("{name}-{compiler}"));
         let output = Command::new(compiler)
             .args(options)
@@ -47,6 +63,24 @@ pub fn compile_and_run(name: &str) {
             "{compiler} cannot compile {name}:\n{}",
             String::from_utf8_lossy(&output.stderr)
         );
-        run(&program);
-    }
+        run(&program)
+    })
+}
+
+/// Compiles examples/port.c with these words before and behind its name.
+pub fn compile_example(program: &Path, before: &[String], behind: &[String]) {
+    let output = Command::new("cc")
+        .args(["-std=c99", "-pedantic", "-Wall", "-Wextra", "-Werror"])
+        .args(before)
+        .arg(Path::new(env!("CARGO_MANIFEST_DIR")).join("../examples/port.c"))
+        .args(behind)
+        .arg("-o")
+        .arg(program)
+        .output()
+        .unwrap_or_else(|error| panic!("cc cannot be run: {error}"));
+    assert!(
+        output.status.success(),
+        "cc cannot compile the example:\n{}",
+        String::from_utf8_lossy(&output.stderr)
+    );
 }

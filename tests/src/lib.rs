@@ -5,10 +5,15 @@
 //! | file | calls |
 //! |---|---|
 //! | tests/paper.rs | none: the cases and readings of document 01 on the second implementation |
-//! | tests/table.rs, tests/header.rs | lookup, age, spoilt |
+//! | tests/table.rs | lookup, age, spoilt |
+//! | tests/header.rs | all, through the header, for the stack that they take; lookup, age and spoilt |
+//! | tests/example.rs | receive, age: examples/port.c |
+//! | tests/install.rs | none: `make install` and the version |
 //! | tests/flush.rs | flush |
 //! | tests/receive.rs | receive |
 //! | tests/convert.rs | compact, expand, send |
+//! | tests/refusals.rs | all: the order of refusals in docs/FORMATS.md |
+//! | tests/formats.rs | receive, compact, flush, spoilt: the examples of docs/FORMATS.md |
 //! | tests/driver.rs | all, through the port driver |
 //! | tests/lists.rs | receive, compact, lookup, age, spoilt: whole call lists |
 //! | tests/pages.rs | all, with areas against memory that cannot be accessed |

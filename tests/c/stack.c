@@ -1,0 +1,302 @@
+/*
+ * The stack that a call takes, measured: the call is made in a thread whose stack was filled with a
+ * pattern, and took what lies between the frame that made it and the lowest byte that has changed. Fails
+ * where a call took more than the header says; prints the most that each took. Compiled as C and as C++.
+ *
+ * Each call is made in a process of its own, and nothing here calls memset or memmove before it: what the
+ * dynamic loader takes when the archive first calls them counts too.
+ */
+#define _XOPEN_SOURCE 700
+#include <pthread.h>
+#include <stdio.h>
+#include <stdlib.h>
+#include <sys/wait.h>
+#include <unistd.h>
+
+#include "shinglebar.h"
+
+#define PATTERN 0xA5
+#define PAGE 4096
+#define STACK (2 * SHINGLEBAR_STACK_MAX)
+/* Below the frame that paints, and not painted. */
+#define OWN 512
+
+#define PORT ((uint64_t)0x0200000000A1)
+#define INNER ((uint64_t)0x0200000000B1)
+#define SOURCE ((uint64_t)0x0200000000B2)
+#define SETTINGS PORT, INNER, 0x0102, 1, 20, 0
+
+/* More than a frame has room for, so that a flush meets areas of its own that are full. */
+#define PAYLOAD_MAX 70000
+
+static uint8_t table[SHINGLEBAR_TABLE_LENGTH_MAX];
+static uint8_t out[SHINGLEBAR_FRAME_LENGTH_MAX];
+static uint8_t frame[SHINGLEBAR_FRAME_LENGTH_MAX];
+static uint8_t payload[PAYLOAD_MAX];
+static size_t frame_length;
+static size_t payload_length;
+
+/* ---- what the calls are made on */
+
+/* A number below n; every run has the same ones. */
+static unsigned below(unsigned n)
+{
+    static uint32_t state = 1;
+    state = state * 1664525u + 1013904223u;
+    return (unsigned)(((uint64_t)state * n) >> 32);
+}
+
+/* Every slot learned, behind three nicknames. */
+static void fill_table(void)
+{
+    size_t at;
+    for (at = 0; at < sizeof table; at += SHINGLEBAR_RECORD_LENGTH) {
+        struct shinglebar_record record;
+        record.state = SHINGLEBAR_RECORD_LEARNED;
+        record.label_kind = below(2);
+        record.label = record.label_kind == SHINGLEBAR_LABEL_VLAN ? 1 + below(0xFFE) : below(0x1000000);
+        record.mac = below(0x1000000);
+        record.nickname = 0x1234 + below(3);
+        record.confidence = 20;
+        record.seconds = 300;
+        if (!shinglebar_pack_record(&record, table + at))
+            exit(2);
+    }
+}
+
+/* A TLV with a value of random bytes; the blocks of types 3 and 8 are short, so that they stay apart. */
+static size_t put_tlv(size_t at, unsigned type, size_t length)
+{
+    size_t half = type == 3 ? 3 : 6, i;
+    payload[at++] = (uint8_t)type;
+    payload[at++] = (uint8_t)length;
+    for (i = 0; i < length; i++) {
+        int is_end = (type == 3 || type == 8) && i % (2 * half) >= half;
+        payload[at + i] = is_end ? payload[at + i - half] : (uint8_t)below(256);
+    }
+    return at + length;
+}
+
+/* A good payload of at most `room` bytes: nicknames, and TLVs of the types in a bit mask by turns, or
+ * VLAN blocks where the mask is 0. */
+static void make_payload(size_t room, unsigned nicknames, unsigned types)
+{
+    size_t at = 1, blocks;
+    unsigned i, type = 0;
+    payload[0] = (uint8_t)nicknames;
+    for (i = 0; i < nicknames; i++) {
+        payload[at++] = 0x12;
+        payload[at++] = (uint8_t)(0x34 + i);
+    }
+    blocks = types != 0 || room < at + 5 ? 0 : (room - at - 1) / 4;
+    payload[at++] = (uint8_t)(blocks < 255 ? blocks : 255);
+    for (i = 0; i < 4u * (blocks < 255 ? blocks : 255); i++)
+        payload[at++] = (uint8_t)below(256);
+    while (types != 0 && at + 2 + 12 <= room) {
+        /* 12 is a length that every type but 6 allows, and so are its multiples. */
+        size_t left = (room - at - 2) / 12 * 12;
+        do
+            type = type % 8 + 1;
+        while (!(types >> type & 1));
+        at = put_tlv(at, type, type == 6 ? 0 : left < 240 ? left : 240);
+    }
+    payload_length = at;
+}
+
+static size_t put(size_t at, const char *digits)
+{
+    unsigned value;
+    for (; *digits != '\0'; digits += 2) {
+        if (sscanf(digits, "%2x", &value) != 1)
+            exit(2);
+        frame[at++] = (uint8_t)value;
+    }
+    return at;
+}
+
+/* A General frame that brings the payload, as much of it as has room. */
+static void make_flush_frame(void)
+{
+    size_t at = put(0, "0180C2000040" "0200000000B2" "22F3" "080501031234" "0180C2000042" "020000000002"
+                       "81000001" "894600090000");
+    size_t i;
+    for (i = 0; i < payload_length && at < sizeof frame; i++)
+        frame[at++] = payload[i];
+    frame_length = at;
+}
+
+/* A frame with all options and a fine-grained label, of the most bytes that the call allows. */
+static void make_frame(int compact)
+{
+    if (compact) {
+        put(0, "02000000000D" "020000000001" "893B0123893B0456" "22F3" "07C501021234");
+        frame_length = SHINGLEBAR_FRAME_LENGTH_MAX - 16;
+    } else {
+        put(put(0, "0200000000A1" "0200000000B2" "22F3" "07C501021234") + 31 * 4,
+            "02000000000D" "020000000001" "893B0123893B0456");
+        frame_length = SHINGLEBAR_FRAME_LENGTH_MAX;
+    }
+}
+
+/* ---- the calls */
+
+static uint64_t call_receive(void)
+{
+    return shinglebar_receive(SETTINGS, frame, frame_length, table, sizeof table, out, sizeof out);
+}
+
+static uint64_t call_flush(void)
+{
+    return shinglebar_flush(0x1234, payload, payload_length, table, sizeof table);
+}
+
+static uint64_t call_compact(void)
+{
+    return shinglebar_compact(SETTINGS, frame, frame_length, out, sizeof out);
+}
+
+static uint64_t call_expand(void)
+{
+    return shinglebar_expand(SETTINGS, SOURCE, 1, 5, frame, frame_length, out, sizeof out);
+}
+
+static uint64_t call_send(void)
+{
+    return shinglebar_send(SETTINGS, frame, frame_length, out, sizeof out);
+}
+
+static uint64_t call_lookup(void)
+{
+    return shinglebar_lookup(SHINGLEBAR_LABEL_VLAN, 10, (uint64_t)1 << 40, table, sizeof table);
+}
+
+static uint64_t call_age(void)
+{
+    return shinglebar_age(299, table, sizeof table);
+}
+
+static uint64_t call_spoilt(void)
+{
+    return shinglebar_spoilt(table, sizeof table);
+}
+
+/* ---- the measurement */
+
+struct measured {
+    uint64_t (*call)(void);
+    uint8_t *stack;
+    uint64_t result;
+    size_t took;
+};
+
+/* Runs in the thread. What it takes of the stack itself, below its local, counts as the call's. */
+static void *measure(void *given)
+{
+    struct measured *measured = (struct measured *)given;
+    volatile uint8_t here = 0;
+    size_t top = (size_t)((uintptr_t)&here - (uintptr_t)measured->stack);
+    size_t at;
+    for (at = 0; at < top - OWN; at++)
+        measured->stack[at] = PATTERN;
+    measured->result = measured->call();
+    for (at = 0; measured->stack[at] == PATTERN; at++)
+        ;
+    measured->took = top - at;
+    return NULL;
+}
+
+/* In a process of its own, which hands back what was measured by way of a pipe. */
+static void measure_apart(struct measured *measured, int to)
+{
+    static uint8_t area[STACK + PAGE];
+    pthread_attr_t attributes;
+    pthread_t thread;
+    measured->stack = area + (PAGE - (uintptr_t)area % PAGE) % PAGE;
+    if (pthread_attr_init(&attributes) != 0 || pthread_attr_setstack(&attributes, measured->stack, STACK) != 0
+        || pthread_create(&thread, &attributes, measure, measured) != 0 || pthread_join(thread, NULL) != 0)
+        _exit(1);
+    _exit(write(to, measured, sizeof *measured) == (ssize_t)sizeof *measured ? 0 : 1);
+}
+
+/* The stack that the call took; it must give an answer of this kind. */
+static size_t taken(const char *name, uint64_t (*call)(void), unsigned kind)
+{
+    struct measured measured;
+    int ends[2], status = 1;
+    pid_t child;
+    measured.call = call;
+    if (pipe(ends) != 0 || (child = fork()) < 0)
+        exit(2);
+    if (child == 0)
+        measure_apart(&measured, ends[1]);
+    close(ends[1]);
+    if (read(ends[0], &measured, sizeof measured) != (ssize_t)sizeof measured || waitpid(child, &status, 0) != child
+        || status != 0) {
+        printf("%s was not measured\n", name);
+        exit(1);
+    }
+    close(ends[0]);
+    if (shinglebar_kind(measured.result) != kind) {
+        printf("%s answered %lx\n", name, (unsigned long)measured.result);
+        exit(1);
+    }
+    return measured.took;
+}
+
+static int failures = 0;
+
+static void within(const char *name, size_t took, size_t most)
+{
+    printf("%s: %lu bytes of stack\n", name, (unsigned long)took);
+    if (took > most) {
+        printf("%s may take %lu by the header\n", name, (unsigned long)most);
+        failures++;
+    }
+}
+
+/* Messages of every form, of lengths on both sides of those where the flush takes other areas. */
+static void flushes(void)
+{
+    static const unsigned TYPES[] = {0,        1u << 1, 1u << 2,           1u << 3,           1u << 4, 1u << 5,
+                                     1u << 6, 1u << 7, 1u << 7 | 1u << 6, 1u << 8 | 1u << 6, 0x1FE};
+    static const size_t ROOMS[] = {40, 144, 160, 768, 800, 3000, 9170, 9290, 9320, PAYLOAD_MAX};
+    static const unsigned NICKNAMES[] = {0, 1, 2, 255};
+    size_t flush = 0, receive = 0, took, t, r, n;
+    for (t = 0; t < sizeof TYPES / sizeof TYPES[0]; t++)
+        for (r = 0; r < sizeof ROOMS / sizeof ROOMS[0]; r++)
+            for (n = 0; n < sizeof NICKNAMES / sizeof NICKNAMES[0]; n++) {
+                make_payload(ROOMS[r], NICKNAMES[n], TYPES[t]);
+                took = taken("flush", call_flush, SHINGLEBAR_FLUSH_FLUSHED);
+                flush = took > flush ? took : flush;
+                if (payload_length > sizeof frame - 46)
+                    continue;
+                make_flush_frame();
+                took = taken("receive", call_receive, SHINGLEBAR_RECEIVE_FLUSHED);
+                receive = took > receive ? took : receive;
+            }
+    within("flush", flush, SHINGLEBAR_STACK_MAX);
+    within("receive with a flush", receive, SHINGLEBAR_STACK_MAX);
+}
+
+static void others(void)
+{
+    size_t most = SHINGLEBAR_STACK_MAX_WITHOUT_FLUSH;
+    make_frame(0);
+    within("receive without a flush", taken("receive", call_receive, SHINGLEBAR_RECEIVE_DELIVERED), most);
+    within("compact", taken("compact", call_compact, SHINGLEBAR_COMPACT_WRITTEN), most);
+    within("send", taken("send", call_send, SHINGLEBAR_SEND_COMPACTED), most);
+    make_frame(1);
+    within("receive without a flush, Compact", taken("receive", call_receive, SHINGLEBAR_RECEIVE_DELIVERED), most);
+    within("expand", taken("expand", call_expand, SHINGLEBAR_EXPAND_WRITTEN), most);
+    within("lookup", taken("lookup", call_lookup, SHINGLEBAR_LOOKUP_NONE), most);
+    within("age", taken("age", call_age, SHINGLEBAR_AGE_DONE), most);
+    within("spoilt", taken("spoilt", call_spoilt, SHINGLEBAR_SPOILT_NONE), most);
+}
+
+int main(void)
+{
+    fill_table();
+    flushes();
+    others();
+    return failures == 0 ? 0 : 1;
+}
