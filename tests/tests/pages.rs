@@ -2,7 +2,6 @@
 //! the other; what a call may only read cannot be written. An access outside the areas, reads included,
 //! ends the run by SIGSEGV.
 
-use std::env;
 use std::os::unix::process::ExitStatusExt;
 use std::process::{Command, ExitStatus};
 
@@ -199,27 +198,12 @@ fn lookup_age_and_spoilt_touch_only_what_they_are_lent() {
     );
 }
 
-/// Names the access that the test below is to make.
-const ACCESS: &str = "SHINGLEBAR_ACCESS";
-
-#[test]
-#[ignore = "run by `an_access_outside_the_areas_ends_the_run`: most of its accesses are faults"]
-fn makes_an_access() {
-    if let Ok(name) = env::var(ACCESS) {
-        let named = |access: &&Access| format!("{access:?}") == name;
-        let access = Access::ALL.iter().find(named).expect("an access");
-        access.make();
-    }
-}
-
-/// How this program ends if it makes an access.
+/// How a program ends that makes an access.
 fn end_of(access: Access) -> ExitStatus {
-    let program = env::current_exe().expect("this program");
-    Command::new(program)
-        .args(["--ignored", "--exact", "makes_an_access"])
-        .env(ACCESS, format!("{access:?}"))
+    Command::new(env!("CARGO_BIN_EXE_access"))
+        .arg(format!("{access:?}"))
         .output()
-        .expect("this program runs again")
+        .expect("the program runs")
         .status
 }
 
