@@ -5,6 +5,7 @@
 #include "commands.h"
 #include "frame.h"
 #include "message.h"
+#include "path.h"
 #include "process.h"
 #include "shinglebar.h"
 #include "words.h"

@@ -4,6 +4,7 @@
 #include "commands.h"
 #include "message.h"
 #include "process.h"
+#include "store.h"
 #include "table.h"
 #include "words.h"
 
@@ -24,27 +25,31 @@ int lookup_command(const struct options *options)
     return output_ready();
 }
 
-static unsigned learned(void)
+static unsigned learned(const struct table *table)
 {
     unsigned count = 0;
-    for (unsigned slot = 0; slot < table_slots(&table); slot++)
-        count += table_record(&table, slot).state == RECORD_LEARNED;
+    for (unsigned slot = 0; slot < table_slots(table); slot++)
+        count += table_record(table, slot).state == RECORD_LEARNED;
     return count;
+}
+
+static int age(struct store *store, const struct options *options)
+{
+    unsigned before = learned(&store->table);
+    shinglebar_age((uint16_t)options->by, store->table.bytes, store->table.length);
+    printf("%u seconds passed: %u of %u learned records became free\n", (unsigned)options->by,
+           before - learned(&store->table), before);
+    table_print(stdout, &store->table);
+    if (output_ready() == 0 && store_ready(store) == 0 && store_replace(store) == 0)
+        return 0;
+    return bad_data("%s stays as it was", options->table);
 }
 
 int age_command(const struct options *options)
 {
-    struct whole file = WHOLE_NONE;
-    if (table_read(&table, options->table, 0) != 0)
-        return 1;
-    unsigned before = learned();
-    shinglebar_age((uint16_t)options->by, table.bytes, table.length);
-    printf("%u seconds passed: %u of %u learned records became free\n", (unsigned)options->by, before - learned(), before);
-    table_print(stdout, &table);
-    int status = output_ready() != 0 || table_write(&table, options->table, &file) != 0 || whole_replace(&file) != 0;
-    if (status != 0)
-        bad_data("%s stays as it was", options->table);
-    whole_end(&file);
+    static struct store store;
+    int status = store_open(&store, options->table, 0) != 0 || age(&store, options) != 0;
+    store_close(&store);
     return status;
 }
 

@@ -8,6 +8,7 @@
 #include "commands.h"
 #include "interface.h"
 #include "message.h"
+#include "path.h"
 #include "process.h"
 #include "receiver.h"
 
@@ -38,12 +39,26 @@ static int listen_on(int file, struct receiver *receiver, const struct options *
     while (!stop_asked() && (options->frames == 0 || receiver->frames < options->frames)
            && (options->duration == 0 || seconds_now() - began < (time_t)options->duration)) {
         poll(&ready, 1, WAIT_MILLISECONDS);
-        age(&receiver->table, &aged);
+        age(&receiver->store.table, &aged);
         int got = interface_next(file, options->interface, &frame);
         if (got < 0 || (got > 0 && receiver_take(receiver, &frame) != 0))
             return 1;
     }
     return 0;
+}
+
+static int listen_and_keep(int file, struct receiver *receiver, const struct options *options)
+{
+    setvbuf(stdout, NULL, _IOLBF, 0);
+    printf("listening on %s\n", options->interface);
+    int status = listen_on(file, receiver, options);
+    unsigned lost = interface_lost(file);
+    if (lost != 0)
+        bad_data("interface %s: %u frames were lost before they were read", options->interface, lost);
+    /* What was learned is kept, also where the interface failed. */
+    if (receiver_finish(receiver) != 0)
+        status = bad_data("%s stays as it was", options->table);
+    return status;
 }
 
 int live_command(const struct options *options)
@@ -55,24 +70,14 @@ int live_command(const struct options *options)
     receiver.form = form;
     if (same_file(options->out, options->table))
         return bad_usage("--table and --out are different files");
-    if (table_read(&receiver.table, options->table, options->slots) != 0)
-        return 1;
-    int file = interface_to_listen(options->interface);
-    if (file < 0)
-        return 1;
-    int status = capture_create(&receiver.out, options->out, form);
-    if (status == 0) {
-        setvbuf(stdout, NULL, _IOLBF, 0);
-        printf("listening on %s\n", options->interface);
-        status = listen_on(file, &receiver, options);
-        unsigned lost = interface_lost(file);
-        if (lost != 0)
-            bad_data("interface %s: %u frames were lost before they were read", options->interface, lost);
-        /* What was learned is kept, also where the interface failed. */
-        if (receiver_finish(&receiver, options->table) != 0)
-            status = bad_data("%s stays as it was", options->table);
-    }
+    int file = -1;
+    int status = store_open(&receiver.store, options->table, options->slots) != 0
+                 || (file = interface_to_listen(options->interface)) < 0
+                 || capture_create(&receiver.out, options->out, form) != 0
+                 || listen_and_keep(file, &receiver, options) != 0;
     whole_end(&receiver.out);
-    close(file);
+    store_close(&receiver.store);
+    if (file >= 0)
+        close(file);
     return status;
 }

@@ -8,7 +8,11 @@
 
 #include "message.h"
 
+/* What would end the program where it stands, and can be caught, SIGHUP aside. */
+static const int STOPS[] = {SIGINT, SIGTERM, SIGQUIT, SIGALRM, SIGUSR2, SIGVTALRM, SIGPROF, SIGXCPU};
+
 static volatile sig_atomic_t stop = 0;
+static volatile sig_atomic_t save = 0;
 
 static void ask_stop(int signal_number)
 {
@@ -16,13 +20,25 @@ static void ask_stop(int signal_number)
     stop = 1;
 }
 
+static void ask_save(int signal_number)
+{
+    (void)signal_number;
+    save = 1;
+}
+
 void catch_signals(void)
 {
-    struct sigaction action;
+    struct sigaction action, inherited;
     memset(&action, 0, sizeof action);
     action.sa_handler = ask_stop;
-    sigaction(SIGINT, &action, NULL);
-    sigaction(SIGTERM, &action, NULL);
+    for (size_t i = 0; i < sizeof STOPS / sizeof STOPS[0]; i++)
+        sigaction(STOPS[i], &action, NULL);
+    /* nohup asks for a program that outlives its terminal. */
+    sigaction(SIGHUP, NULL, &inherited);
+    if (inherited.sa_handler != SIG_IGN)
+        sigaction(SIGHUP, &action, NULL);
+    action.sa_handler = ask_save;
+    sigaction(SIGUSR1, &action, NULL);
     action.sa_handler = SIG_IGN;
     sigaction(SIGPIPE, &action, NULL);
     sigaction(SIGXFSZ, &action, NULL);
@@ -31,6 +47,13 @@ void catch_signals(void)
 int stop_asked(void)
 {
     return stop;
+}
+
+int save_asked(void)
+{
+    int asked = save;
+    save = 0;
+    return asked;
 }
 
 int output_ready(void)

@@ -1,6 +1,7 @@
 /* The command `receive`: a capture through the receiver. */
 #include "commands.h"
 #include "message.h"
+#include "path.h"
 #include "receiver.h"
 
 static int run(struct receiver *receiver, struct capture_reader *reader, const struct options *options)
@@ -13,7 +14,7 @@ static int run(struct receiver *receiver, struct capture_reader *reader, const s
     while ((got = capture_next(reader, &frame)) > 0)
         if (receiver_take(receiver, &frame) != 0)
             return 1;
-    return got < 0 ? 1 : receiver_finish(receiver, options->table);
+    return got < 0 ? 1 : receiver_finish(receiver);
 }
 
 int receive_command(const struct options *options)
@@ -25,14 +26,18 @@ int receive_command(const struct options *options)
     if (same_file(options->out, options->table) || same_file(options->out, options->capture)
         || same_file(options->table, options->capture))
         return bad_usage("the capture, --table and --out are different files");
-    if (table_read(&receiver.table, options->table, options->slots) != 0 || capture_open(&reader, options->capture) != 0)
-        return 1;
-    int status = run(&receiver, &reader, options);
-    if (status != 0)
-        bad_data("%s stays as it was", options->table);
-    if (status != 0 && receiver.out.temporary != NULL)
-        bad_data("%s stays as it was", options->out);
+    /* The table first: whether it can be written is known before a long capture is read. */
+    int status = store_open(&receiver.store, options->table, options->slots) != 0
+                 || capture_open(&reader, options->capture) != 0;
+    if (status == 0) {
+        status = run(&receiver, &reader, options);
+        if (status != 0)
+            bad_data("%s stays as it was", options->table);
+        if (status != 0 && receiver.out.temporary != NULL)
+            bad_data("%s stays as it was", options->out);
+        capture_close(&reader);
+    }
     whole_end(&receiver.out);
-    capture_close(&reader);
+    store_close(&receiver.store);
     return status;
 }

@@ -97,10 +97,10 @@ static void line_print(const struct receiver *receiver, const struct captured *f
     printf(" | ");
     answer_print(answer);
     printf(" | ");
-    change_print(before, &receiver->table);
+    change_print(before, &receiver->store.table);
     if (shinglebar_kind(answer) == SHINGLEBAR_RECEIVE_DELIVERED
-        && memcmp(before->bytes, receiver->table.bytes, before->length) == 0)
-        record_print(&receiver->table, answer, native);
+        && memcmp(before->bytes, receiver->store.table.bytes, before->length) == 0)
+        record_print(&receiver->store.table, answer, native);
     printf("\n");
 }
 
@@ -108,7 +108,7 @@ int receiver_take(struct receiver *receiver, const struct captured *frame)
 {
     static struct table before;
     static uint8_t native[SHINGLEBAR_FRAME_LENGTH_MAX];
-    struct table *table = &receiver->table;
+    struct table *table = &receiver->store.table;
     before.length = table->length;
     memcpy(before.bytes, table->bytes, table->length);
     uint64_t answer = shinglebar_receive(SETTINGS(receiver->settings), frame->bytes, frame->length, table->bytes,
@@ -139,15 +139,11 @@ static void totals_print(const struct receiver *receiver)
             printf("  refused %u: %lu (%s)\n", i, receiver->refused[i], refusal_words(i));
 }
 
-int receiver_finish(struct receiver *receiver, const char *table_name)
+int receiver_finish(struct receiver *receiver)
 {
-    struct whole file = WHOLE_NONE;
     progress_clear();
     totals_print(receiver);
-    table_print(stdout, &receiver->table);
-    int status = output_ready() != 0 || whole_ready(&receiver->out) != 0
-                 || table_write(&receiver->table, table_name, &file) != 0 || whole_replace(&receiver->out) != 0
-                 || whole_replace(&file) != 0;
-    whole_end(&file);
-    return status;
+    table_print(stdout, &receiver->store.table);
+    return output_ready() != 0 || whole_ready(&receiver->out) != 0 || store_ready(&receiver->store) != 0
+           || whole_replace(&receiver->out) != 0 || store_replace(&receiver->store) != 0;
 }

@@ -4,7 +4,7 @@
 
 #include "capture.h"
 #include "settings.h"
-#include "table.h"
+#include "store.h"
 #include "words.h"
 
 struct receiver {
@@ -12,7 +12,7 @@ struct receiver {
     int quiet;
     struct capture_form form;
     struct whole out;
-    struct table table;
+    struct store store;
     unsigned long frames, learning[4], onward, other_channel, flushes, cleared, refused[REFUSALS + 1];
 };
 
@@ -20,6 +20,6 @@ struct receiver {
 int receiver_take(struct receiver *receiver, const struct captured *frame);
 
 /* Prints totals and table, then replaces the output capture and the table file. 0, or 1 and said. */
-int receiver_finish(struct receiver *receiver, const char *table_name);
+int receiver_finish(struct receiver *receiver);
 
 #endif

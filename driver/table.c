@@ -36,12 +36,6 @@ int table_read(struct table *table, const char *name, unsigned long slots)
     return 0;
 }
 
-int table_write(const struct table *table, const char *name, struct whole *whole)
-{
-    return whole_begin(whole, name) != 0 || whole_write(whole, table->bytes, table->length) != 0
-           || whole_ready(whole) != 0;
-}
-
 unsigned table_slots(const struct table *table)
 {
     return (unsigned)(table->length / SHINGLEBAR_RECORD_LENGTH);

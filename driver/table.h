@@ -6,7 +6,6 @@
 #include <stdio.h>
 
 #include "shinglebar.h"
-#include "whole.h"
 
 #define TABLE_SLOTS_MAX (SHINGLEBAR_TABLE_LENGTH_MAX / SHINGLEBAR_RECORD_LENGTH)
 
@@ -30,9 +29,6 @@ struct record {
 
 /* Reads a table file. Where it is missing and slots is not 0, the table is that many free slots. 0, or 1 and said. */
 int table_read(struct table *table, const char *name, unsigned long slots);
-
-/* Writes a table beside its file, ready to replace it. 0, or 1 and said. */
-int table_write(const struct table *table, const char *name, struct whole *whole);
 
 unsigned table_slots(const struct table *table);
 struct record table_record(const struct table *table, unsigned slot);

@@ -2,8 +2,9 @@
 
 use std::fs;
 use std::io::Write;
+use std::os::unix::fs::{chown, symlink, MetadataExt, PermissionsExt};
 use std::path::{Path, PathBuf};
-use std::process::{Command, Output, Stdio};
+use std::process::{Child, Command, Output, Stdio};
 use std::sync::OnceLock;
 use std::thread;
 use std::time::Duration;
@@ -101,6 +102,49 @@ fn shell_in(folder: &Path, line: &str, words: &[&str]) -> Output {
         .args(words)
         .output()
         .expect("sh")
+}
+
+/// Starts the program in a folder, with what it prints in pipes. SIGHUP is not ignored, also where nohup runs the tests.
+fn start_in(folder: &Path, words: &[&str]) -> Child {
+    Command::new("env")
+        .current_dir(folder)
+        .arg("--default-signal=HUP")
+        .arg(program())
+        .args(words)
+        .stdout(Stdio::piped())
+        .stderr(Stdio::piped())
+        .spawn()
+        .expect("the driver")
+}
+
+/// Makes a named pipe: a capture that has not come yet.
+fn make_pipe(pipe: &Path) {
+    let made = Command::new("mkfifo").arg(pipe).status();
+    assert!(made.expect("mkfifo").success());
+}
+
+/// Opens a named pipe that the driver reads.
+fn open_pipe(pipe: &Path) -> fs::File {
+    fs::OpenOptions::new()
+        .write(true)
+        .open(pipe)
+        .expect("the pipe")
+}
+
+/// Waits until something holds, at most five seconds.
+fn await_that(what: &str, holds: impl Fn() -> bool) {
+    let tries = (0..1_000).take_while(|_| {
+        thread::sleep(Duration::from_millis(5));
+        !holds()
+    });
+    assert!(tries.count() < 1_000, "{what}");
+}
+
+fn signal(driver: &Child, name: &str) {
+    let sent = Command::new("kill")
+        .args([&format!("-{name}"), &driver.id().to_string()])
+        .status();
+    assert!(sent.expect("kill").success());
 }
 
 fn good(output: &Output) -> String {
@@ -470,8 +514,7 @@ fn files_are_replaced_whole_or_not_at_all() {
     stay(&["in", "table"]);
     // The output's folder is missing; a pipe is not replaced. The pipe stands for a device and lies in the test's own folder: a driver
     // that did replace it would do so to /dev/null as well, were it named here and the test run by root.
-    let pipe = Command::new("mkfifo").arg(folder.join("pipe")).status();
-    assert!(pipe.expect("mkfifo").success());
+    make_pipe(&folder.join("pipe"));
     for (out, said) in [
         ("no/out", "no/out cannot be written: No such file"),
         ("pipe", "pipe is not a regular file"),
@@ -495,50 +538,187 @@ fn files_are_replaced_whole_or_not_at_all() {
 
 #[test]
 fn a_signal_leaves_no_temporary_file_and_the_old_table() {
-    let folder = folder("signal");
-    let old = vec![0; 16 * RECORD];
-    fs::write(folder.join("table"), &old).expect("a table");
-    fs::create_dir(folder.join("made")).expect("a folder");
-    let made = Command::new("mkfifo").arg(folder.join("in")).status();
-    assert!(made.expect("mkfifo").success());
-    let driver = Command::new(program())
-        .current_dir(&folder)
-        .args(["receive", "in", "--table", "table", "--out", "made/out"])
-        .args(SETTINGS)
-        .stdout(Stdio::piped())
-        .stderr(Stdio::piped())
-        .spawn()
-        .expect("the driver");
-    // a capture that does not end yet
-    let mut pipe = fs::OpenOptions::new()
-        .write(true)
-        .open(folder.join("in"))
-        .expect("the pipe");
-    pipe.write_all(&captures::capture(USUAL, &frames("hall")))
-        .expect("frames");
-    // it is written beside the file it is to replace, so that the renaming is one step
-    let temporary = || {
-        names(&folder.join("made"))
-            .iter()
-            .any(|name| name.starts_with("out."))
-    };
-    let tries = (0..1_000).take_while(|_| {
-        thread::sleep(Duration::from_millis(5));
-        !temporary()
+    for name in [
+        "INT", "TERM", "HUP", "QUIT", "ALRM", "USR2", "VTALRM", "PROF", "XCPU",
+    ] {
+        let folder = folder(&format!("signal_{name}"));
+        let old = vec![0; 16 * RECORD];
+        fs::write(folder.join("table"), &old).expect("a table");
+        fs::create_dir(folder.join("made")).expect("a folder");
+        make_pipe(&folder.join("in"));
+        let files = ["receive", "in", "--table", "table", "--out", "made/out"];
+        let driver = start_in(&folder, &[&files[..], &SETTINGS].concat());
+        // a capture that does not end yet
+        let mut pipe = open_pipe(&folder.join("in"));
+        pipe.write_all(&captures::capture(USUAL, &frames("hall")))
+            .expect("frames");
+        // it is written beside the file it is to replace, so that the renaming is one step
+        await_that("a temporary file in made/", || {
+            names(&folder.join("made"))
+                .iter()
+                .any(|name| name.starts_with("out."))
+        });
+        signal(&driver, name);
+        // where the signal came between two reads, the end of the capture comes next
+        drop(pipe);
+        let output = driver.wait_with_output().expect("the driver");
+        bad(&output, 1, "table stays as it was");
+        assert!(text(&output.stderr).contains("interrupted after "));
+        assert!(bytes(&folder.join("table")) == old);
+        assert_eq!(names(&folder), ["in", "made", "table"]);
+        assert_eq!(names(&folder.join("made")), [""; 0]);
+    }
+}
+
+#[test]
+fn what_a_killed_driver_leaves_is_taken_away_at_the_next_start() {
+    let folder = folder("killed");
+    fs::write(folder.join("table"), [0; 16 * RECORD]).expect("a table");
+    make_pipe(&folder.join("in"));
+    let mut driver = start_in(&folder, &receive_words("in"));
+    let mut pipe = open_pipe(&folder.join("in"));
+    pipe.write_all(&USUAL.header()).expect("a header");
+    let lock = "table.shinglebar-lock".to_string();
+    let left = "out.shinglebar-new".to_string();
+    await_that("the driver's files", || {
+        names(&folder).contains(&lock) && names(&folder).contains(&left)
     });
-    assert!(tries.count() < 1_000, "no temporary file in made/");
-    let killed = Command::new("kill")
-        .args(["-INT", &driver.id().to_string()])
-        .status();
-    assert!(killed.expect("kill").success());
-    // where the signal came between two reads, the end of the capture comes next
+    driver.kill().expect("kill");
+    driver.wait().expect("the driver");
     drop(pipe);
-    let output = driver.wait_with_output().expect("the driver");
-    bad(&output, 1, "table stays as it was");
-    assert!(text(&output.stderr).contains("interrupted after "));
+    assert_eq!(names(&folder).len(), 4);
+    // a save that was cut short
+    fs::write(folder.join("table.shinglebar-new"), "half").expect("a file");
+    fs::remove_file(folder.join("in")).expect("the pipe");
+    fs::write(folder.join("in"), captures::capture(USUAL, &frames("hall"))).expect("a capture");
+    good(&run_in(&folder, &receive_words("in")));
+    let mut table = vec![0; 16 * RECORD];
+    received(&frames("hall"), &mut table);
+    assert!(bytes(&folder.join("table")) == table);
+    assert_eq!(names(&folder), ["in", "out", "table"]);
+}
+
+#[test]
+fn the_second_of_two_processes_on_one_table_is_refused() {
+    let folder = folder("two");
+    let old = [&[0; 15 * RECORD][..], &record(true, vlan(9), 1, 1, 9)].concat();
+    fs::write(folder.join("table"), &old).expect("a table");
+    symlink("table", folder.join("link")).expect("a link");
+    make_pipe(&folder.join("in"));
+    let driver = start_in(&folder, &receive_words("in"));
+    let mut pipe = open_pipe(&folder.join("in"));
+    let said = format!("is in use by process {}", driver.id());
+    fs::write(folder.join("empty"), USUAL.header()).expect("a capture");
+    let other = ["receive", "empty", "--table", "table"];
+    for words in [
+        &[&other[..], &SETTINGS].concat()[..],
+        &["age", "--table", "table", "--by", "9"],
+        &["age", "--table", "link", "--by", "9"],
+    ] {
+        bad(&run_in(&folder, words), 1, &said);
+    }
+    // reading it is nobody's loss
+    good(&run_in(&folder, &["check", "--table", "table"]));
     assert!(bytes(&folder.join("table")) == old);
-    assert_eq!(names(&folder), ["in", "made", "table"]);
-    assert_eq!(names(&folder.join("made")), [""; 0]);
+    // the first has all it learned, and lets go
+    let frames = frames("hall");
+    pipe.write_all(&captures::capture(USUAL, &frames))
+        .expect("frames");
+    drop(pipe);
+    good(&driver.wait_with_output().expect("the driver"));
+    let mut table = old;
+    received(&frames, &mut table);
+    assert!(bytes(&folder.join("table")) == table);
+    good(&run_in(&folder, &["age", "--table", "link", "--by", "9"]));
+    assert_eq!(names(&folder), ["empty", "in", "link", "out", "table"]);
+}
+
+#[test]
+fn the_second_of_two_processes_on_a_table_to_be_made_is_refused() {
+    let folder = folder("two_new");
+    make_pipe(&folder.join("in"));
+    let driver = start_in(&folder, &receive_words("in"));
+    let pipe = open_pipe(&folder.join("in"));
+    let other = [
+        "receive", "in", "--table", "./table", "--slots", "16", "--quiet",
+    ];
+    let output = run_in(&folder, &[&other[..], &SETTINGS].concat());
+    bad(&output, 1, "./table is in use by process ");
+    // and so is one that would write the same capture
+    let mut pipe = pipe;
+    pipe.write_all(&USUAL.header()).expect("a header");
+    await_that("the driver's output", || {
+        names(&folder).contains(&"out.shinglebar-new".to_string())
+    });
+    fs::write(folder.join("empty"), USUAL.header()).expect("a capture");
+    let other = [
+        "receive", "empty", "--table", "t", "--slots", "1", "--out", "out",
+    ];
+    let output = run_in(&folder, &[&other[..], &SETTINGS].concat());
+    bad(&output, 1, "out is being written by another process");
+    drop(pipe);
+    good(&driver.wait_with_output().expect("the driver"));
+    assert_eq!(names(&folder), ["empty", "in", "out", "table"]);
+}
+
+#[test]
+fn a_table_that_is_replaced_keeps_owner_group_and_mode() {
+    let folder = folder("owner");
+    let table = folder.join("table");
+    fs::write(&table, record(true, vlan(10), 1, 1, 9)).expect("a table");
+    // only root gives a file away; the mode is anybody's to choose
+    let root = fs::metadata(&table).expect("the table").uid() == 0;
+    if root {
+        chown(&table, Some(12_345), Some(23_456)).expect("chown");
+    }
+    fs::set_permissions(&table, fs::Permissions::from_mode(0o2660)).expect("chmod");
+    let old = fs::metadata(&table).expect("the table");
+    good(&run_in(&folder, &["age", "--table", "table", "--by", "9"]));
+    let new = fs::metadata(&table).expect("the table");
+    assert_eq!(bytes(&table), [0; RECORD]);
+    assert_ne!(new.ino(), old.ino());
+    assert_eq!(
+        (new.uid(), new.gid(), new.mode()),
+        (old.uid(), old.gid(), old.mode())
+    );
+    assert_eq!(new.uid() == 12_345, root);
+}
+
+#[test]
+fn whether_the_table_can_be_written_is_known_before_the_capture_is_read() {
+    let folder = folder("writable");
+    make_pipe(&folder.join("in"));
+    make_pipe(&folder.join("pipe"));
+    for (table, said) in [
+        ("no/table", "no/table cannot be written: No such file"),
+        ("pipe", "pipe is not a regular file, and is not replaced"),
+    ] {
+        let files = ["receive", "in", "--table", table, "--slots", "16"];
+        let words = [&files[..], &SETTINGS].concat();
+        // a driver that opened the capture would wait for it
+        let output = shell_in(&folder, "exec timeout 5 \"$@\"", &words);
+        bad(&output, 1, said);
+    }
+    assert_eq!(names(&folder), ["in", "pipe"]);
+}
+
+#[test]
+fn a_link_to_a_table_that_is_not_there_is_followed() {
+    let folder = folder("dangling");
+    fs::create_dir(folder.join("there")).expect("a folder");
+    symlink("there/next", folder.join("table")).expect("a link");
+    symlink("real", folder.join("there/next")).expect("a link");
+    fs::write(folder.join("in"), captures::capture(USUAL, &frames("hall"))).expect("a capture");
+    good(&run_in(&folder, &receive_words("in")));
+    let mut table = vec![0; 16 * RECORD];
+    received(&frames("hall"), &mut table);
+    assert!(bytes(&folder.join("there/real")) == table);
+    for link in ["table", "there/next"] {
+        let found = fs::symlink_metadata(folder.join(link)).expect("the link");
+        assert!(found.is_symlink(), "{link}");
+    }
+    assert_eq!(names(&folder.join("there")), ["next", "real"]);
+    assert_eq!(names(&folder), ["in", "out", "table", "there"]);
 }
 
 #[test]
@@ -546,7 +726,7 @@ fn a_link_to_the_table_stays_a_link() {
     let folder = folder("link");
     fs::create_dir(folder.join("there")).expect("a folder");
     fs::write(folder.join("there/table"), record(true, vlan(10), 1, 1, 9)).expect("a table");
-    std::os::unix::fs::symlink("there/table", folder.join("table")).expect("a link");
+    symlink("there/table", folder.join("table")).expect("a link");
     good(&run_in(&folder, &["age", "--table", "table", "--by", "9"]));
     assert!(fs::symlink_metadata(folder.join("table"))
         .expect("the link")

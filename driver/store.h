@@ -1,0 +1,28 @@
+/* A table file that is in use: held against other processes from before it is read until it has been written. */
+#ifndef STORE_H
+#define STORE_H
+
+#include "table.h"
+#include "whole.h"
+
+/* What the name of the file ends with that a process holds while it uses a table file. */
+#define STORE_LOCK ".shinglebar-lock"
+
+struct store {
+    const char *name;
+    char *lock;
+    int lock_file;
+    struct whole file;
+    struct table table;
+};
+
+/* Each returns 0, or says what is wrong and returns 1. Opening makes sure that the file can be replaced, and reads it as
+ * `table_read` does. Saving is two steps: the table is written beside its file, and replaces it. */
+int store_open(struct store *store, const char *name, unsigned long slots);
+int store_ready(struct store *store);
+int store_replace(struct store *store);
+
+/* Lets go of the file. A store that was never opened is all zero. */
+void store_close(struct store *store);
+
+#endif
