@@ -31,15 +31,16 @@ static void line_print(const struct options *options, unsigned long number, cons
                shinglebar_written_length(answer));
 }
 
-static int run(const struct options *options, struct capture_reader *reader, struct whole *out)
+/* What came before a cut counts: `*written` tells whether the output has been replaced. */
+static int run(const struct options *options, struct capture_reader *reader, struct whole *out, int *written_out)
 {
     static struct captured frame;
     static uint8_t written[SHINGLEBAR_FRAME_LENGTH_MAX];
     unsigned long done = 0;
-    int got;
+    enum capture_step step;
     if (capture_create(out, options->out, reader->form) != 0)
         return 1;
-    while ((got = capture_next(reader, &frame)) > 0) {
+    while ((step = capture_next(reader, &frame)) == CAPTURE_FRAME) {
         uint64_t answer = convert(options, &frame, written, sizeof written);
         int kept = !shinglebar_is_refusal(answer);
         done += (unsigned long)kept;
@@ -48,12 +49,15 @@ static int run(const struct options *options, struct capture_reader *reader, str
         if (kept && capture_add(out, reader->form, &frame, written, shinglebar_written_length(answer)) != 0)
             return 1;
     }
-    if (got < 0)
+    if (step == CAPTURE_BAD)
         return 1;
     progress_clear();
     printf("%lu frames: %lu %s, %lu left out\n", reader->number, done,
            options->command == COMPACT ? "compacted" : "expanded", reader->number - done);
-    return output_ready() != 0 || whole_ready(out) != 0 || whole_replace(out) != 0;
+    if (output_ready() != 0 || whole_ready(out) != 0 || whole_replace(out) != 0)
+        return 1;
+    *written_out = 1;
+    return step == CAPTURE_CUT;
 }
 
 int convert_command(const struct options *options)
@@ -64,8 +68,9 @@ int convert_command(const struct options *options)
         return bad_usage("the capture and --out are different files");
     if (capture_open(&reader, options->capture) != 0)
         return 1;
-    int status = run(options, &reader, &out);
-    if (status != 0)
+    int written = 0;
+    int status = run(options, &reader, &out, &written);
+    if (!written)
         bad_data("%s stays as it was", options->out);
     whole_end(&out);
     capture_close(&reader);

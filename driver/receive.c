@@ -4,17 +4,21 @@
 #include "path.h"
 #include "receiver.h"
 
-static int run(struct receiver *receiver, struct capture_reader *reader, const struct options *options)
+/* What came before a cut counts: `*written` tells whether the files have been replaced. */
+static int run(struct receiver *receiver, struct capture_reader *reader, const struct options *options, int *written)
 {
     static struct captured frame;
-    int got;
+    enum capture_step step;
     receiver->form = reader->form;
     if (capture_create(&receiver->out, options->out, reader->form) != 0)
         return 1;
-    while ((got = capture_next(reader, &frame)) > 0)
+    while ((step = capture_next(reader, &frame)) == CAPTURE_FRAME)
         if (receiver_take(receiver, &frame) != 0)
             return 1;
-    return got < 0 ? 1 : receiver_finish(receiver);
+    if (step == CAPTURE_BAD || receiver_finish(receiver) != 0)
+        return 1;
+    *written = 1;
+    return step == CAPTURE_CUT;
 }
 
 int receive_command(const struct options *options)
@@ -30,10 +34,11 @@ int receive_command(const struct options *options)
     int status = store_open(&receiver.store, options->table, options->slots) != 0
                  || capture_open(&reader, options->capture) != 0;
     if (status == 0) {
-        status = run(&receiver, &reader, options);
-        if (status != 0)
+        int written = 0;
+        status = run(&receiver, &reader, options, &written);
+        if (!written)
             bad_data("%s stays as it was", options->table);
-        if (status != 0 && receiver.out.temporary != NULL)
+        if (!written && receiver.out.temporary != NULL)
             bad_data("%s stays as it was", options->out);
         capture_close(&reader);
     }

@@ -43,13 +43,13 @@ static int send_all(int file, const struct options *options, struct capture_read
 {
     static struct captured frame;
     unsigned long sent = 0;
-    int got;
-    while ((got = capture_next(reader, &frame)) > 0)
+    enum capture_step step;
+    while ((step = capture_next(reader, &frame)) == CAPTURE_FRAME)
         if (send_frame(file, options, &frame, reader->number, &sent) != 0)
             return 1;
     progress_clear();
     printf("%lu of %lu frames sent\n", sent, reader->number);
-    return got < 0 || output_ready() != 0;
+    return step != CAPTURE_END || output_ready() != 0;
 }
 
 int send_command(const struct options *options)

@@ -401,25 +401,69 @@ fn configured_records_and_a_full_table_are_said() {
 }
 
 #[test]
-fn a_capture_cut_at_any_byte_is_refused_and_changes_no_file() {
+fn of_a_capture_cut_at_any_byte_every_whole_frame_counts() {
     let folder = folder("cut");
     let frames = frames("hall");
     let whole = captures::capture(USUAL, &frames);
     let ends: Vec<usize> = (0..=frames.len())
         .map(|count| captures::capture(USUAL, &frames[..count]).len())
         .collect();
-    fs::write(folder.join("table"), vec![0; 16 * RECORD]).expect("a table");
-    fs::write(folder.join("out"), "old").expect("an output");
-    for length in (0..whole.len()).filter(|length| !ends.contains(length)) {
+    let old = vec![0; 16 * RECORD];
+    // every byte of the header and the first two records, every end, and a part of the rest
+    let tried = |length: &usize| *length < ends[2] || ends.contains(length) || length % 7 == 0;
+    for length in (0..whole.len()).filter(tried) {
         fs::write(folder.join("in"), &whole[..length]).expect("a capture");
+        fs::write(folder.join("table"), &old).expect("a table");
+        fs::write(folder.join("out"), "old").expect("an output");
         let output = run_in(&folder, &receive_words("in"));
-        bad(&output, 1, "ends inside");
-        assert!(bytes(&folder.join("table")) == vec![0; 16 * RECORD]);
-        assert_eq!(bytes(&folder.join("out")), b"old");
+        // the whole frames that the capture has; none where its header is cut
+        let Some(count) = ends.iter().rposition(|end| *end <= length) else {
+            bad(
+                &output,
+                1,
+                &format!("in ends inside its header: {length} of 24 bytes"),
+            );
+            assert!(bytes(&folder.join("table")) == old);
+            assert_eq!(bytes(&folder.join("out")), b"old");
+            continue;
+        };
+        if length == ends[count] {
+            good(&output);
+        } else {
+            let record = format!(
+                "in, record {}, at byte {}: the capture ends inside ",
+                count + 1,
+                ends[count]
+            );
+            bad(&output, 1, &record);
+        }
+        assert!(text(&output.stdout).contains(&format!("{count} frames: ")));
+        let mut table = old.clone();
+        let delivered = received(&frames[..count], &mut table);
+        assert!(bytes(&folder.join("table")) == table, "{length}");
+        assert!(
+            bytes(&folder.join("out")) == capture_of(USUAL, &delivered),
+            "{length}"
+        );
         assert_eq!(names(&folder), ["in", "out", "table"]);
     }
-    fs::write(folder.join("in"), &whole[..ends[5]]).expect("a capture");
-    assert!(good(&run_in(&folder, &receive_words("in"))).contains("5 frames: "));
+}
+
+#[test]
+fn conversions_keep_what_came_before_a_cut() {
+    let folder = folder("cut_convert");
+    let frames = frames("to_compact");
+    let whole = captures::capture(USUAL, &frames);
+    fs::write(folder.join("in"), &whole[..whole.len() - 1]).expect("a capture");
+    let words = [&["compact", "in", "--out", "out"][..], &SETTINGS].concat();
+    let output = run_in(&folder, &words);
+    bad(&output, 1, "in, record 7, at byte ");
+    assert!(text(&output.stdout).contains("6 frames: 3 compacted, 3 left out\n"));
+    let wanted = folder.join("wanted");
+    fs::write(folder.join("in"), captures::capture(USUAL, &frames[..6])).expect("a capture");
+    let words = [&["compact", "in", "--out", "wanted"][..], &SETTINGS].concat();
+    good(&run_in(&folder, &words));
+    assert!(bytes(&folder.join("out")) == bytes(&wanted));
 }
 
 #[test]
@@ -432,12 +476,13 @@ fn bad_captures_are_refused_with_a_message() {
         capture
     };
     // the first record begins at byte 24, and its two lengths, both 84, at 32
-    let cases: [(Vec<u8>, &str); 8] = [
+    let cases: [(Vec<u8>, &str); 9] = [
         (Vec::new(), "in ends inside its header: 0 of 24 bytes"),
-        (with(0, b"GIF8"), "in is no pcap capture: it begins 47 49 46 38"),
-        (with(0, &[0x0A, 0x0D, 0x0D, 0x0A]), "in is a pcapng capture"),
+        (with(0, b"GIF8"), "in is no pcap or pcapng capture: it begins 47 49 46 38"),
         (with(4, &[3]), "in has version 3.4 of the pcap format"),
-        (with(20, &[101]), "in has link type 0x65, not 1"),
+        (with(20, &[101]), "in has link type 101 (raw IP), not 1 (Ethernet without FCS)"),
+        (with(20, &[113]), "in has link type 113 (Linux cooked), not 1"),
+        (with(20, &[1, 0, 0, 0x24]), "in has link type 1 (Ethernet with an FCS), not 1"),
         (with(32, &[0, 0, 5]), "in, record 1, at byte 24: longer than any frame: 327680 of 262144 bytes"),
         (with(36, &[100]), "in, record 1, at byte 24: holds only a part of its frame (captured with a short snap length?): 84 of 100 bytes"),
         (with(36, &[80]), "in, record 1, at byte 24: holds more than its frame: 84 of 80 bytes"),
@@ -452,6 +497,241 @@ fn bad_captures_are_refused_with_a_message() {
         1,
         "none cannot be opened: No such file",
     );
+}
+
+/// A pcapng file in the making, in one byte order.
+struct Blocks {
+    big_endian: bool,
+    bytes: Vec<u8>,
+}
+
+impl Blocks {
+    fn number(&self, value: u32) -> Vec<u8> {
+        self.turned(&value.to_be_bytes())
+    }
+
+    fn short(&self, value: u16) -> Vec<u8> {
+        self.turned(&value.to_be_bytes())
+    }
+
+    /// The bytes of a number, first byte first, in the order of the section.
+    fn turned(&self, bytes: &[u8]) -> Vec<u8> {
+        let mut bytes = bytes.to_vec();
+        if !self.big_endian {
+            bytes.reverse();
+        }
+        bytes
+    }
+
+    fn block(&mut self, kind: u32, body: &[Vec<u8>]) {
+        let mut body = body.concat();
+        body.resize(body.len().next_multiple_of(4), 0);
+        let length = self.number(body.len() as u32 + 12);
+        let block = [self.number(kind), length.clone(), body, length].concat();
+        self.bytes.extend(block);
+    }
+
+    fn section(&mut self, big_endian: bool) {
+        self.big_endian = big_endian;
+        let length = self.turned(&u64::MAX.to_be_bytes());
+        let body = [
+            self.number(0x1A2B_3C4D),
+            self.short(1),
+            self.short(0),
+            length,
+        ];
+        self.block(0x0A0D_0D0A, &body);
+    }
+
+    /// An option of a block.
+    fn option(&self, code: u16, value: &[u8]) -> Vec<u8> {
+        let mut option = [self.short(code), self.short(value.len() as u16)].concat();
+        option.extend(value);
+        option.resize(option.len().next_multiple_of(4), 0);
+        option
+    }
+
+    fn interface(&mut self, link: u16, options: &[Vec<u8>]) {
+        let front = [self.short(link), self.short(0), self.number(0)].concat();
+        let end = self.option(0, &[]);
+        self.block(1, &[front, options.concat(), end]);
+    }
+
+    /// An enhanced packet, or with the kind 2 an old one; `units` is its time in the interface's units.
+    fn packet(&mut self, kind: u32, interface: u16, units: u64, frame: &[u8]) {
+        let index = if kind == 6 {
+            self.number(u32::from(interface))
+        } else {
+            [self.short(interface), self.short(0xFFFF)].concat()
+        };
+        let time = [self.number((units >> 32) as u32), self.number(units as u32)].concat();
+        let length = self.number(frame.len() as u32);
+        let mut held = frame.to_vec();
+        held.resize(frame.len().next_multiple_of(4), 0);
+        let options = [self.option(1, b"a comment"), self.option(0, &[])].concat();
+        self.block(kind, &[index, time, length.clone(), length, held, options]);
+    }
+}
+
+#[test]
+fn pcapng_with_sections_interfaces_and_resolutions_reads_as_the_same_classic_capture() {
+    let frames = frames("hall");
+    // seconds and nanoseconds of each frame; those of the coarser interfaces are multiples of what they can tell
+    let time = |place: usize| -> (u64, u64) {
+        let fraction = match place % 4 {
+            0 => 123_456_789,
+            1 => 123_456_000,
+            2 => 250_000_000,
+            _ => 500_000_000,
+        };
+        (1_763_280_000 + place as u64, fraction)
+    };
+    for first_order in [false, true] {
+        let mut file = Blocks {
+            big_endian: first_order,
+            bytes: Vec::new(),
+        };
+        file.section(first_order);
+        for (place, frame) in frames.iter().enumerate() {
+            if place == 7 {
+                // another section, in the other order, with interfaces of its own
+                file.section(!first_order);
+            }
+            if place == 0 || place == 7 {
+                let offset = file.turned(&1_000_000_000i64.to_be_bytes());
+                file.interface(1, &[file.option(9, &[9])]);
+                file.interface(1, &[file.option(2, b"eth1")]);
+                // quarters of a second from an offset on; tenths of nanoseconds; an interface that no packet is of
+                file.interface(1, &[file.option(9, &[0x82]), file.option(14, &offset)]);
+                file.interface(1, &[file.option(9, &[10])]);
+                file.interface(101, &[]);
+            }
+            // blocks that are not known: custom, name resolution, statistics
+            file.block(0x0BAD, &[vec![1, 2, 3, 4, 5]]);
+            file.block(4, &[vec![0; 4]]);
+            file.block(5, &[vec![0; 12]]);
+            let (seconds, fraction) = time(place);
+            let (kind, interface, units) = match place % 4 {
+                0 => (6, 0, seconds * 1_000_000_000 + fraction),
+                1 => (6, 1, seconds * 1_000_000 + fraction / 1_000),
+                2 => (2, 2, (seconds - 1_000_000_000) * 4 + fraction / 250_000_000),
+                _ => (6, 3, seconds * 10_000_000_000 + fraction * 10),
+            };
+            file.packet(kind, interface, units, frame);
+        }
+        // a simple packet has no time: it keeps the one before
+        let last = frames[0].clone();
+        let mut body = file.number(last.len() as u32);
+        body.extend(&last);
+        file.block(3, &[body]);
+
+        let folder = folder(&format!("pcapng_{first_order}"));
+        fs::write(folder.join("in"), &file.bytes).expect("a capture");
+        let form = Form {
+            big_endian: first_order,
+            nanoseconds: true,
+        };
+        let classic = frames
+            .iter()
+            .enumerate()
+            .chain([(frames.len() - 1, &last)])
+            .flat_map(|(place, frame)| {
+                let (seconds, fraction) = time(place);
+                form.record((seconds as u32, fraction as u32), frame)
+            });
+        let classic: Vec<u8> = form.header().into_iter().chain(classic).collect();
+        let printed = good(&run_in(&folder, &receive_words("in")));
+        let out = bytes(&folder.join("out"));
+        let table = bytes(&folder.join("table"));
+        for name in ["table", "out"] {
+            fs::remove_file(folder.join(name)).expect("a file");
+        }
+        fs::write(folder.join("in"), classic).expect("a capture");
+        assert_eq!(printed, good(&run_in(&folder, &receive_words("in"))));
+        assert!(out == bytes(&folder.join("out")));
+        assert!(table == bytes(&folder.join("table")));
+    }
+}
+
+#[test]
+fn bad_pcapng_captures_are_refused_with_a_message() {
+    let folder = folder("bad_pcapng");
+    let frame = frames("hall").swap_remove(0);
+    let make = |build: &dyn Fn(&mut Blocks)| {
+        let mut file = Blocks {
+            big_endian: false,
+            bytes: Vec::new(),
+        };
+        file.section(false);
+        build(&mut file);
+        file.bytes
+    };
+    let with = |link: u16, options: &dyn Fn(&Blocks) -> Vec<u8>| {
+        make(&|file| {
+            let options = options(file);
+            file.interface(link, &[options]);
+            file.packet(6, 0, 1, &frame);
+        })
+    };
+    let good_file = with(1, &|_| Vec::new());
+    let changed = |at: usize, byte: u8| {
+        let mut file = good_file.clone();
+        file[at] = byte;
+        file
+    };
+    // the section has 28 bytes, the interface 24; the packet's lengths are at 72 and 76
+    let cases: Vec<(Vec<u8>, &str)> = vec![
+        (
+            changed(8, 0),
+            "in, at byte 0: a section with the byte order 00 3C 2B 1A",
+        ),
+        (changed(12, 2), "in has version 2.0 of the pcapng format"),
+        (changed(24, 1), "a block with two lengths: 1 of 28 bytes"),
+        (changed(32, 25), "a block's length is no multiple of 4"),
+        (changed(32, 8), "a block that is too short: 8 of 20 bytes"),
+        (
+            changed(60, 1),
+            "in, record 1: its interface is 1, and there are 1",
+        ),
+        (changed(72, 83), "holds only a part of its frame"),
+        (changed(76, 83), "holds more than its frame"),
+        (
+            with(113, &|_| Vec::new()),
+            "in, record 1: interface 0 has link type 113 (Linux cooked), not 1",
+        ),
+        (
+            with(1, &|file| file.option(13, &[32])),
+            "(Ethernet with an FCS)",
+        ),
+        (
+            with(1, &|file| file.option(9, &[20])),
+            "a time resolution that is too fine",
+        ),
+        (
+            with(1, &|file| {
+                file.option(14, &file.turned(&(-1i64).to_be_bytes()))
+            }),
+            "in, record 1: a time stamp outside the years 1970 to 2106",
+        ),
+    ];
+    for (capture, words) in cases {
+        fs::write(folder.join("in"), capture).expect("a capture");
+        bad(&run_in(&folder, &receive_words("in")), 1, words);
+        assert_eq!(names(&folder), ["in"], "{words}");
+    }
+    // cut in its last block, it counts up to there; cut in the first one there is nothing to count
+    for length in 4..good_file.len() {
+        fs::write(folder.join("in"), &good_file[..length]).expect("a capture");
+        let output = run_in(&folder, &receive_words("in"));
+        if length == 28 || length == 52 {
+            good(&output);
+        } else {
+            bad(&output, 1, "in, record 1, at byte ");
+            assert!(text(&output.stderr).contains("the capture ends inside the "));
+        }
+        assert_eq!(text(&output.stdout).contains("0 frames: "), length >= 28);
+        let _ = fs::remove_file(folder.join("table"));
+    }
 }
 
 #[test]
