@@ -141,7 +141,7 @@ for compact in off on; do
     wanted=0
     [ $compact = off ] || wanted=4
     expect "$wanted frames came to each side in Compact Format" "$wanted $wanted" \
-        "$(count "left_$compact" '^frame .: Compact,') $(count "right_$compact" '^frame .: Compact,')"
+        "$(count "left_$compact" '^frame .: [^ ]* Compact,') $(count "right_$compact" '^frame .: [^ ]* Compact,')"
 done
 
 echo "--- a flush cut short"
@@ -149,7 +149,7 @@ listen left cut --frames 1
 transmit left lab_cut off
 ended "$started"
 grep '^frame' "$made/cut.log"
-expect "it is refused" 1 "$(count cut '| refused 15: flush payload corrupt | table unchanged')"
+expect "it is refused" 1 "$(count cut '| refused 15: flush payload corrupt: byte 2 of the payload: K-VLBs 1 means 4 bytes of VLAN blocks: 3 are left | table unchanged')"
 expect "left still has the four stations" "$(four 1 1234)" "$(records left)"
 
 echo "--- the flush whole, in Compact Format"
@@ -157,7 +157,7 @@ listen left flush --frames 1
 transmit left lab_flush on
 ended "$started"
 grep '^frame' "$made/flush.log"
-expect "it came in Compact Format and cleared 2 records" 1 "$(count flush '^frame 1: Compact,.*| flushed, 2 cleared |')"
+expect "it came in Compact Format and cleared 2 records" 1 "$(count flush '^frame 1: [^ ]* Compact,.*| flushed, 2 cleared; nicknames: 1234 (the sender.s); labels: VLAN 10; MACs: all |')"
 expect "left has the stations of other labels only" "$(four 1 1234 | sed -n 2,3p)" "$(records left)"
 expect "right has its four stations as before" "$(four 2 0102)" "$(records right)"
 

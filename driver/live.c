@@ -56,7 +56,8 @@ static int listen_and_keep(int file, struct receiver *receiver, const struct opt
     if (lost != 0)
         bad_data("interface %s: %u frames were lost before they were read", options->interface, lost);
     /* What was learned is kept, also where the interface failed. */
-    if (receiver_finish(receiver) != 0)
+    receiver_report(receiver);
+    if (output_ready() != 0 || receiver_keep(receiver) != 0)
         status = bad_data("%s stays as it was", options->table);
     return status;
 }
@@ -65,18 +66,15 @@ int live_command(const struct options *options)
 {
     static struct receiver receiver;
     const struct capture_form form = {0, 1};
-    receiver.settings = &options->settings;
-    receiver.quiet = options->quiet;
     receiver.form = form;
     if (same_file(options->out, options->table))
         return bad_usage("--table and --out are different files");
     int file = -1;
-    int status = store_open(&receiver.store, options->table, options->slots) != 0
+    int status = receiver_open(&receiver, options) != 0
                  || (file = interface_to_listen(options->interface)) < 0
                  || capture_create(&receiver.out, options->out, form) != 0
                  || listen_and_keep(file, &receiver, options) != 0;
-    whole_end(&receiver.out);
-    store_close(&receiver.store);
+    receiver_close(&receiver);
     if (file >= 0)
         close(file);
     return status;

@@ -1,10 +1,17 @@
 /* A port driver over the Shinglebar library. */
+#include <stdio.h>
+
 #include "commands.h"
 #include "process.h"
 
+#define LINES_ROOM 65536
+
 int main(int count, char **words)
 {
+    static char lines[LINES_ROOM];
     struct options options;
+    /* A line is written out with others; a message brings out what came before it. */
+    setvbuf(stdout, lines, _IOFBF, sizeof lines);
     int status = options_read(count, words, &options);
     if (status >= 0)
         return output_ready() != 0 ? 1 : status;

@@ -10,6 +10,7 @@
 #define WITH_SETTINGS (RECEIVE | COMPACT | EXPAND | LIVE | SEND)
 #define WITH_CAPTURE (RECEIVE | COMPACT | EXPAND | SEND)
 #define WITH_TABLE (RECEIVE | LOOKUP | AGE | CHECK | LIVE)
+#define WITH_ANY (WITH_SETTINGS | WITH_TABLE)
 #define RFC6325_CONFIDENCE 32
 
 /* How an option's value is written, and so where it goes. */
@@ -54,8 +55,12 @@ static const struct option OPTIONS[] = {
     {"--tag", "N", "writes an outer tag with this VLAN, 1 to 4094", NUMBER, EXPAND, 0, AT(tag), 1, 4094},
     {"--vlan", "N", "the label is this VLAN", NUMBER, LOOKUP, 0, AT(label), 0, 0xFFFF},
     {"--fgl", "N", "the label is this fine-grained label", NUMBER, LOOKUP, 0, AT(label), 0, 0xFFFFFF},
-    {"--mac", "ADDRESS", "the address to look up", ADDRESS, LOOKUP, LOOKUP, AT(mac), 0, 0},
+    {"--mac", "ADDRESS", "the address to look up", ADDRESS, LOOKUP, LOOKUP, AT(audience.mac), 0, 0},
+    {"--mac", "ADDRESS", "prints only the lines that concern this address", ADDRESS, RECEIVE | LIVE, 0,
+     AT(audience.mac), 0, 0},
     {"--by", "SECONDS", "the seconds that have passed, 0 to 65535", NUMBER, AGE, AGE, AT(by), 0, 65535},
+    {"--no-ageing", NULL, "no time passes for the table", FLAG, RECEIVE, 0, AT(no_ageing), 0, 0},
+    {"--json", NULL, "a JSON object for each line, with the same facts", FLAG, WITH_ANY, 0, AT(json), 0, 0},
     {"--quiet", NULL, "no line for each frame", FLAG, WITH_CAPTURE | LIVE, 0, AT(quiet), 0, 0},
 };
 #define OPTION_COUNT (sizeof OPTIONS / sizeof OPTIONS[0])
@@ -248,6 +253,7 @@ static int check_options(unsigned given, struct options *options)
         return bad_usage("one of --vlan and --fgl is needed");
     options->kind = given & fgl ? SHINGLEBAR_LABEL_FINE_GRAINED : SHINGLEBAR_LABEL_VLAN;
     options->tagged = options->tag != 0;
+    options->audience.is_one = options->command & (RECEIVE | LIVE) && given & 1u << find_option("--mac", RECEIVE);
     if (options->source >> 40 & 1)
         return bad_usage("--source is a group address");
     return options->command & WITH_SETTINGS ? check_settings(&options->settings) : 0;

@@ -5,6 +5,7 @@
 #include <stdint.h>
 
 #include "settings.h"
+#include "table.h"
 
 enum command {
     RECEIVE = 1,
@@ -33,9 +34,11 @@ struct options {
     uint32_t tag;
     uint32_t kind;
     uint32_t label;
-    uint64_t mac;
+    struct audience audience;
     uint32_t by;
     int quiet;
+    int json;
+    int no_ageing;
 };
 
 /* Reads the command line: -1 if the command is to be carried out, else the exit status (help, or bad usage, which is said). */

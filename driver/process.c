@@ -13,6 +13,9 @@ static const int STOPS[] = {SIGINT, SIGTERM, SIGQUIT, SIGALRM, SIGUSR2, SIGVTALR
 
 static volatile sig_atomic_t stop = 0;
 static volatile sig_atomic_t save = 0;
+static int to_error = 0;
+/* The first reason why lines could not be written. */
+static int failure = 0;
 
 static void ask_stop(int signal_number)
 {
@@ -56,9 +59,35 @@ int save_asked(void)
     return asked;
 }
 
+void lines_to_error(void)
+{
+    to_error = 1;
+}
+
+static FILE *lines(void)
+{
+    return to_error ? stderr : stdout;
+}
+
+void line_out(struct text *line)
+{
+    FILE *to = lines();
+    progress_clear();
+    if (line->json)
+        fputc('{', to);
+    if (fwrite(line->bytes, 1, line->length, to) != line->length && failure == 0)
+        failure = errno;
+    if (fputs(line->json ? "}\n" : "\n", to) < 0 && failure == 0)
+        failure = errno;
+    line->length = 0;
+}
+
 int output_ready(void)
 {
-    if (fflush(stdout) == 0 && !ferror(stdout))
+    int bad = fflush(lines()) != 0 || ferror(lines());
+    if (!bad)
         return 0;
-    return bad_data("standard output cannot be written: %s", strerror(errno));
+    if (failure == 0)
+        failure = errno;
+    return bad_data("standard %s cannot be written: %s", to_error ? "error" : "output", strerror(failure));
 }

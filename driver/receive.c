@@ -2,6 +2,7 @@
 #include "commands.h"
 #include "message.h"
 #include "path.h"
+#include "process.h"
 #include "receiver.h"
 
 /* What came before a cut counts: `*written` tells whether the files have been replaced. */
@@ -15,7 +16,10 @@ static int run(struct receiver *receiver, struct capture_reader *reader, const s
     while ((step = capture_next(reader, &frame)) == CAPTURE_FRAME)
         if (receiver_take(receiver, &frame) != 0)
             return 1;
-    if (step == CAPTURE_BAD || receiver_finish(receiver) != 0)
+    if (step == CAPTURE_BAD)
+        return 1;
+    receiver_report(receiver);
+    if (output_ready() != 0 || receiver_keep(receiver) != 0)
         return 1;
     *written = 1;
     return step == CAPTURE_CUT;
@@ -25,14 +29,11 @@ int receive_command(const struct options *options)
 {
     static struct receiver receiver;
     struct capture_reader reader;
-    receiver.settings = &options->settings;
-    receiver.quiet = options->quiet;
     if (same_file(options->out, options->table) || same_file(options->out, options->capture)
         || same_file(options->table, options->capture))
         return bad_usage("the capture, --table and --out are different files");
     /* The table first: whether it can be written is known before a long capture is read. */
-    int status = store_open(&receiver.store, options->table, options->slots) != 0
-                 || capture_open(&reader, options->capture) != 0;
+    int status = receiver_open(&receiver, options) != 0 || capture_open(&reader, options->capture) != 0;
     if (status == 0) {
         int written = 0;
         status = run(&receiver, &reader, options, &written);
@@ -42,7 +43,6 @@ int receive_command(const struct options *options)
             bad_data("%s stays as it was", options->out);
         capture_close(&reader);
     }
-    whole_end(&receiver.out);
-    store_close(&receiver.store);
+    receiver_close(&receiver);
     return status;
 }

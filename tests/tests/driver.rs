@@ -7,9 +7,11 @@ use std::path::{Path, PathBuf};
 use std::process::{Child, Command, Output, Stdio};
 use std::sync::OnceLock;
 use std::thread;
-use std::time::Duration;
+use std::time::{Duration, Instant};
 
 use shinglebar_tests::captures::{self, Form, PORT, USUAL};
+use shinglebar_tests::generate;
+use shinglebar_tests::random::Random;
 use shinglebar_tests::reference::{self, write, Entry, Label, RECORD};
 
 /// The options of the settings `captures::PORT`.
@@ -343,7 +345,14 @@ fn each_form_of_capture_gives_the_same_lines_and_keeps_its_form_and_times() {
         };
         let folder = folder(&format!("form_{big_endian}_{nanoseconds}"));
         fs::write(folder.join("in"), captures::capture(form, &frames)).expect("a capture");
-        let printed = good(&run_in(&folder, &receive_words("in")));
+        let mut printed = good(&run_in(&folder, &receive_words("in")));
+        // the same numbers are nanoseconds there
+        for place in (0..frames.len()).filter(|_| nanoseconds) {
+            let (_, fraction) = captures::time(place);
+            let nine = format!(".{fraction:09}Z");
+            assert!(printed.contains(&nine), "{nine}");
+            printed = printed.replace(&nine, &format!(".{fraction:06}Z"));
+        }
         expect_text(&printed, "hall.expected");
         let mut table = vec![0; 16 * RECORD];
         let delivered = received(&frames, &mut table);
@@ -376,6 +385,426 @@ fn the_table_is_kept_between_runs() {
         "refreshed | table unchanged (slot 1: learned VLAN 20 02-00-00-00-00-11 behind 1234, confidence 32, 300 s)";
     assert!(printed.contains(line), "{printed}");
     assert_eq!(names(&folder), ["in", "out", "table"]);
+}
+
+/// A frame of the worked example's first kind, from another station and VLAN.
+fn frame_from(mac: u64, vlan: u16, ingress: u16) -> Vec<u8> {
+    let mut frame = frames("hall").swap_remove(0);
+    frame[18..20].copy_from_slice(&ingress.to_be_bytes());
+    frame[26..32].copy_from_slice(&mac.to_be_bytes()[2..]);
+    frame[34..36].copy_from_slice(&vlan.to_be_bytes());
+    frame
+}
+
+/// A flush to the port of the worked example, from the nickname 1234.
+fn flush_frame(payload: &[u8]) -> Vec<u8> {
+    let mut frame = frames("lab_flush").swap_remove(0);
+    frame.truncate(frame.len() - 6);
+    frame.extend(payload);
+    frame
+}
+
+/// The parts of the line of a frame, between the bars.
+fn parts(printed: &str, number: usize) -> Vec<String> {
+    let begin = format!("frame {number}: ");
+    let line = printed.lines().find(|line| line.starts_with(&begin));
+    let line = line.unwrap_or_else(|| panic!("no line of frame {number} in {printed}"));
+    line.split(" | ").map(str::to_string).collect()
+}
+
+#[test]
+fn a_line_costs_about_what_the_call_costs() {
+    let folder = folder("cost");
+    let stations: Vec<Vec<u8>> = (0..4_000)
+        .map(|number| frame_from(0x0200_0100_0000 + number, 10, 0x1234))
+        .collect();
+    // each station in turn, in an order that leaps
+    let frames: Vec<Vec<u8>> = (0..200_000)
+        .map(|place| stations[place * 1_237 % 4_000].clone())
+        .collect();
+    let form = USUAL;
+    let records = frames
+        .iter()
+        .enumerate()
+        .flat_map(|(place, frame)| form.record((1_763_280_000 + place as u32 / 10_000, 0), frame));
+    let capture: Vec<u8> = form.header().into_iter().chain(records).collect();
+    fs::write(folder.join("in"), capture).expect("a capture");
+    let files = ["receive", "in", "--table", "table", "--slots", "4096"];
+    let time = |more: &[&str]| {
+        let words = [&files[..], &SETTINGS, more].concat();
+        let run = |_| {
+            let _ = fs::remove_file(folder.join("table"));
+            let began = Instant::now();
+            let printed = good(&run_in(&folder, &words));
+            assert!(
+                printed.contains("200000 frames: 200000 delivered (4000 learned, 196000 refreshed")
+            );
+            began.elapsed()
+        };
+        (0..3).map(run).min().expect("three runs")
+    };
+    let (quiet, lines) = (time(&["--quiet"]), time(&[]));
+    assert!(
+        lines <= 5 * quiet,
+        "{lines:?} with lines, {quiet:?} without"
+    );
+}
+
+#[test]
+fn a_line_tells_what_a_slot_held_before_and_after() {
+    let folder = folder("before_after");
+    let mac = 0x0200_0000_0001;
+    let mut table = [
+        record(true, vlan(10), mac, 20, 17),
+        record(false, vlan(11), mac, 1, 0),
+        record(true, vlan(12), mac, 200, 17),
+    ]
+    .concat();
+    table.extend([0; RECORD]);
+    fs::write(folder.join("table"), &table).expect("a table");
+    let frames = [
+        frame_from(mac, 10, 0x1235),
+        frame_from(mac, 10, 0x1235),
+        frame_from(mac, 11, 0x1235),
+        frame_from(mac, 12, 0x1235),
+        frame_from(mac, 13, 0x1235),
+        frame_from(mac, 13, 0x1236),
+        flush_frame(&[2, 0x12, 0x35, 0x12, 0x36, 0, 6, 0]),
+        frame_from(mac, 14, 0x1235),
+    ];
+    fs::write(folder.join("in"), captures::capture(USUAL, &frames)).expect("a capture");
+    let words = [
+        &["receive", "in", "--table", "table", "--no-ageing"][..],
+        &SETTINGS,
+    ]
+    .concat();
+    let printed = good(&run_in(&folder, &words));
+    let wanted = [
+        "slot 0: VLAN 10 02-00-00-00-00-01 behind 1234 -> 1235, confidence 20 -> 32, 17 -> 300 s",
+        "table unchanged (slot 0: learned VLAN 10 02-00-00-00-00-01 behind 1235, confidence 32, 300 s)",
+        "table unchanged (slot 1: configured VLAN 11 02-00-00-00-00-01 behind 1234, confidence 1, 0 s)",
+        "table unchanged (slot 2: learned VLAN 12 02-00-00-00-00-01 behind 1234, confidence 200, 17 s)",
+        "slot 3: free -> learned VLAN 13 02-00-00-00-00-01 behind 1235, confidence 32, 300 s",
+        "slot 3: VLAN 13 02-00-00-00-00-01 behind 1235 -> 1236",
+        "slot 0: VLAN 10 02-00-00-00-00-01 behind 1235 -> free; slot 3: VLAN 13 02-00-00-00-00-01 behind 1236 -> free",
+        "slot 0: free -> learned VLAN 14 02-00-00-00-00-01 behind 1235, confidence 32, 300 s",
+    ];
+    for (place, wanted) in wanted.iter().enumerate() {
+        assert_eq!(parts(&printed, place + 1)[2], *wanted);
+    }
+    received(&frames, &mut table);
+    assert!(bytes(&folder.join("table")) == table);
+}
+
+#[test]
+fn a_line_names_eight_cleared_slots_and_counts_the_others() {
+    let folder = folder("eight");
+    let mut frames: Vec<Vec<u8>> = (0..11)
+        .map(|number| frame_from(0x0200_0000_0010 + number, 10, 0x1234))
+        .collect();
+    frames.push(flush_frame(&[0, 0, 6, 0]));
+    fs::write(folder.join("in"), captures::capture(USUAL, &frames)).expect("a capture");
+    let printed = good(&run_in(&folder, &receive_words("in")));
+    let changes = &parts(&printed, 12)[2];
+    assert!(changes.starts_with("slot 0: VLAN 10 02-00-00-00-00-10 behind 1234 -> free; slot 1: "));
+    assert!(changes.ends_with("slot 7: VLAN 10 02-00-00-00-00-17 behind 1234 -> free; and 3 more"));
+    // of one address, its own slot is named, wherever it stands
+    fs::remove_file(folder.join("table")).expect("the table");
+    let words = [&receive_words("in")[..], &["--mac", "02-00-00-00-00-1A"]].concat();
+    let printed = good(&run_in(&folder, &words));
+    let lines: Vec<&str> = printed.lines().collect();
+    assert_eq!(lines.len(), 4, "{printed}");
+    assert!(lines[0].starts_with("frame 11: "));
+    assert!(lines[1].starts_with("frame 12: "));
+    assert!(lines[1]
+        .ends_with(" | slot 10: VLAN 10 02-00-00-00-00-1A behind 1234 -> free; and 10 more"));
+    assert!(lines[2].starts_with("12 frames: "));
+    assert!(lines[3].starts_with("table: "));
+}
+
+#[test]
+fn with_an_address_only_the_lines_that_concern_it_are_printed() {
+    let folder = folder("mac");
+    let hall = data("hall.pcap");
+    let words = receive_words(hall.to_str().expect("UTF-8"));
+    let all = good(&run_in(&folder, &words));
+    fs::remove_file(folder.join("table")).expect("the table");
+    let printed = good(&run_in(
+        &folder,
+        &[&words[..], &["--mac", "020000000001"]].concat(),
+    ));
+    let wanted: Vec<&str> = all
+        .lines()
+        .filter(|line| !line.starts_with("frame ") && !line.starts_with("  slot"))
+        .collect();
+    // station 1 is the source of frames 1, 2 and 6, and frame 12 clears one of its records
+    let lines: Vec<&str> = printed.lines().collect();
+    let numbers: Vec<&str> = lines
+        .iter()
+        .filter_map(|line| line.strip_prefix("frame "))
+        .map(|line| line.split(':').next().expect("a number"))
+        .collect();
+    assert_eq!(numbers, ["1", "2", "6", "12"]);
+    let rest: Vec<&str> = lines[4..].to_vec();
+    assert_eq!(rest[..wanted.len()], wanted);
+    assert_eq!(rest.len(), wanted.len() + 1);
+    assert!(
+        rest[wanted.len()].starts_with("  slot 1: learned FGL 10 02-00-00-00-00-01 behind 1234")
+    );
+    // a destination concerns it too
+    let printed = good(&run_in(
+        &folder,
+        &[&words[..], &["--mac", "02000000000D"]].concat(),
+    ));
+    assert_eq!(printed.matches("frame ").count(), 7, "{printed}");
+}
+
+#[test]
+fn a_flush_is_told_in_words() {
+    let folder = folder("flush_words");
+    let mac = [2, 0, 0, 0, 0, 9];
+    let tlv = |kind: u8, value: &[u8]| [&[kind, value.len() as u8], value].concat();
+    let tlvs = |tlvs: &[Vec<u8>]| [&[0, 0][..], &tlvs.concat()].concat();
+    let sender = "nicknames: 1234 (the sender's); labels: ";
+    let many: Vec<u8> = (1..=10).flat_map(|number| [0, 0, number * 2]).collect();
+    let cases: Vec<(Vec<u8>, String)> = vec![
+        (vec![2, 0x12, 0x35, 0, 0, 0], "nicknames: 1235, 0000; labels: none; MACs: all".into()),
+        (vec![0, 2, 0, 0, 0x0F, 0xFF, 0xF0, 7, 0xF0, 7, 99], format!("{sender}VLAN 1 to 4094, VLAN 7; MACs: all")),
+        (vec![0, 1, 0, 11, 0, 10], format!("{sender}none; MACs: all")),
+        (tlvs(&[tlv(1, &[0, 10, 0, 12]), tlv(7, &mac)]), format!("{sender}VLAN 10 to 12; MACs: 02-00-00-00-00-09")),
+        (tlvs(&[tlv(2, &[0, 0, 0xC0, 0x07])]), format!("{sender}VLAN 1, VLAN 13 to 15; MACs: all")),
+        (tlvs(&[tlv(2, &[0xFF, 0xFD, 0xF0])]), format!("{sender}VLAN 4093 to 4094; MACs: all")),
+        (tlvs(&[tlv(3, &[0, 0, 1, 0, 1, 0, 0, 0, 2, 0, 0, 1])]), format!("{sender}FGL 1 to 256; MACs: all")),
+        (tlvs(&[tlv(4, &[0, 0, 0, 0xFF, 0xFF, 0xFF])]), format!("{sender}FGL 0, FGL 16777215; MACs: all")),
+        (tlvs(&[tlv(5, &[0xFF, 0xFF, 0xFE, 0xFF])]), format!("{sender}FGL 16777214 to 16777215; MACs: all")),
+        (tlvs(&[tlv(1, &[0, 10, 0, 12]), tlv(6, &[])]), format!("{sender}all; MACs: all")),
+        (
+            tlvs(&[tlv(6, &[]), tlv(8, &[[2, 0, 0, 0, 0, 1], mac].concat()), tlv(8, &[mac, [2, 0, 0, 0, 0, 1]].concat())]),
+            format!("{sender}all; MACs: 02-00-00-00-00-01 to 02-00-00-00-00-09"),
+        ),
+        (tlvs(&[tlv(0, &[1]), tlv(9, &[1, 2]), tlv(255, &[])]), format!("{sender}none; MACs: all; TLVs of other types: 3")),
+        (
+            tlvs(&[tlv(4, &many)]),
+            format!("{sender}FGL 2, FGL 4, FGL 6, FGL 8, FGL 10, FGL 12, FGL 14, FGL 16, and 2 more; MACs: all"),
+        ),
+        (vec![], "byte 0 of the payload: K-nicks is missing".into()),
+        (vec![2, 0x12, 0x34, 0x12], "byte 1 of the payload: K-nicks 2 means 4 bytes of nicknames: 3 are left".into()),
+        (vec![1, 0x12, 0x34], "byte 3 of the payload: K-VLBs is missing".into()),
+        (vec![0, 2, 0, 1, 0, 2, 0], "byte 2 of the payload: K-VLBs 2 means 8 bytes of VLAN blocks: 5 are left".into()),
+        (tlvs(&[tlv(6, &[]), vec![7]]), "byte 4 of the payload: a lone last byte, where a TLV has type and length".into()),
+        (tlvs(&[vec![9, 1]]), "byte 2 of the payload: a TLV of type 9 and length 1 passes the end: 0 bytes are left".into()),
+        (tlvs(&[tlv(1, &[0; 3])]), "byte 2 of the payload: a TLV of type 1 has length 3, no multiple of 4".into()),
+        (tlvs(&[tlv(2, &[0])]), "byte 2 of the payload: a TLV of type 2 has length 1, under 2".into()),
+        (tlvs(&[tlv(3, &[0; 3])]), "byte 2 of the payload: a TLV of type 3 has length 3, no multiple of 6".into()),
+        (tlvs(&[tlv(4, &[0; 2])]), "byte 2 of the payload: a TLV of type 4 has length 2, no multiple of 3".into()),
+        (tlvs(&[tlv(5, &[0; 2])]), "byte 2 of the payload: a TLV of type 5 has length 2, under 3".into()),
+        (tlvs(&[tlv(6, &[0])]), "byte 2 of the payload: a TLV of type 6 has length 1, not 0".into()),
+        (tlvs(&[tlv(7, &[0; 7])]), "byte 2 of the payload: a TLV of type 7 has length 7, no multiple of 6".into()),
+        (tlvs(&[tlv(8, &[0; 6])]), "byte 2 of the payload: a TLV of type 8 has length 6, no multiple of 12".into()),
+    ];
+    let frames: Vec<Vec<u8>> = cases
+        .iter()
+        .map(|(payload, _)| flush_frame(payload))
+        .collect();
+    fs::write(folder.join("in"), captures::capture(USUAL, &frames)).expect("a capture");
+    let printed = good(&run_in(&folder, &receive_words("in")));
+    for (place, (payload, words)) in cases.iter().enumerate() {
+        let answer = if words.starts_with("byte") {
+            format!("refused 15: flush payload corrupt: {words}")
+        } else {
+            format!("flushed, 0 cleared; {words}")
+        };
+        assert_eq!(parts(&printed, place + 1)[1], answer, "{payload:?}");
+    }
+}
+
+#[test]
+fn the_driver_calls_a_payload_corrupt_exactly_where_the_library_refuses_it() {
+    let folder = folder("flush_reading");
+    let mut random = Random::new(16);
+    let pool = generate::Pool::new(&mut random);
+    let mut payloads: Vec<Vec<u8>> = Vec::new();
+    for _ in 0..3_000 {
+        let mut payload = generate::payload(&mut random, &pool);
+        payload.truncate(9_000);
+        let cut = random.length(0, payload.len());
+        payloads.push(payload[..cut].to_vec());
+        if !payload.is_empty() {
+            let mut changed = payload.clone();
+            generate::change_one_byte(&mut random, &mut changed);
+            payloads.push(changed);
+        }
+        payloads.push(payload);
+    }
+    let frames: Vec<Vec<u8>> = payloads
+        .iter()
+        .map(|payload| flush_frame(payload))
+        .collect();
+    fs::write(folder.join("in"), captures::capture(USUAL, &frames)).expect("a capture");
+    let printed = good(&run_in(&folder, &receive_words("in")));
+    let lines: Vec<&str> = printed.lines().collect();
+    let mut corrupt = 0;
+    for (place, payload) in payloads.iter().enumerate() {
+        let refused = reference::flush(0x1234, payload, &mut [0; RECORD]) == 15;
+        let begin = format!("frame {}: ", place + 1);
+        assert!(lines[place].starts_with(&begin));
+        let answer = lines[place].split(" | ").nth(1).expect("an answer");
+        let words = if refused {
+            "refused 15: flush payload corrupt: byte "
+        } else {
+            "flushed, 0 cleared; nicknames: "
+        };
+        assert!(answer.starts_with(words), "{payload:?}: {answer}");
+        corrupt += usize::from(refused);
+    }
+    assert!(
+        corrupt > 1_000 && corrupt < payloads.len() - 1_000,
+        "{corrupt} of {}",
+        payloads.len()
+    );
+}
+
+/// The values of a flat walk through one JSON object, as texts; it panics where the line is no JSON object.
+fn json_values(line: &str) -> Vec<String> {
+    fn value(rest: &mut &str, found: &mut Vec<String>) {
+        let first = rest.chars().next().expect("a value");
+        match first {
+            '{' | '[' => {
+                *rest = &rest[1..];
+                let close = if first == '{' { '}' } else { ']' };
+                if let Some(behind) = rest.strip_prefix(close) {
+                    *rest = behind;
+                    return;
+                }
+                loop {
+                    if first == '{' {
+                        text_value(rest);
+                        *rest = rest.strip_prefix(':').expect("a colon");
+                    }
+                    value(rest, found);
+                    let next = rest.chars().next().expect("a comma or the end");
+                    *rest = &rest[1..];
+                    if next == close {
+                        return;
+                    }
+                    assert_eq!(next, ',', "{rest}");
+                }
+            }
+            '"' => found.push(text_value(rest)),
+            _ => {
+                let end = rest.find([',', '}', ']']).expect("an end");
+                let (word, behind) = rest.split_at(end);
+                assert!(word == "null" || word.parse::<u64>().is_ok(), "{word}");
+                found.push(word.to_string());
+                *rest = behind;
+            }
+        }
+    }
+    fn text_value(rest: &mut &str) -> String {
+        let mut text = String::new();
+        let mut letters = rest.strip_prefix('"').expect("a text").chars();
+        loop {
+            match letters.next().expect("the end of a text") {
+                '"' => break,
+                '\\' => text.push(letters.next().expect("a letter")),
+                letter => {
+                    assert!(letter >= ' ');
+                    text.push(letter);
+                }
+            }
+        }
+        *rest = letters.as_str();
+        text
+    }
+    let mut rest = line;
+    let mut found = Vec::new();
+    assert!(rest.starts_with('{'), "{line}");
+    value(&mut rest, &mut found);
+    assert_eq!(rest, "", "{line}");
+    found
+}
+
+/// Every number, address and nickname of the lines is a part of a value of the object in its place.
+fn same_facts(lines: &str, objects: &str) {
+    assert_eq!(lines.lines().count(), objects.lines().count());
+    for (line, object) in lines.lines().zip(objects.lines()) {
+        let values = json_values(object).join(" ");
+        let tokens = line.split(|letter: char| !letter.is_ascii_hexdigit() && letter != '-');
+        for token in tokens.filter(|token| token.contains(|letter: char| letter.is_ascii_digit())) {
+            let token = token.trim_matches('-');
+            assert!(
+                values.contains(token),
+                "`{token}` of `{line}` is not in {object}"
+            );
+        }
+    }
+}
+
+#[test]
+fn json_has_an_object_for_each_line_with_the_same_facts() {
+    let folder = folder("json");
+    let both = |words: &[&str], clean: &[&str], status: i32| {
+        let run = |more: &[&str]| {
+            for name in clean {
+                let _ = fs::remove_file(folder.join(name));
+            }
+            let output = run_in(&folder, &[words, more].concat());
+            assert_eq!(
+                output.status.code(),
+                Some(status),
+                "{}",
+                text(&output.stderr)
+            );
+            text(&output.stdout)
+        };
+        let objects = run(&["--json"]);
+        same_facts(&run(&[]), &objects);
+        objects
+    };
+    for name in ["hall", "refusals"] {
+        let capture = data(&format!("{name}.pcap"));
+        let objects = both(
+            &receive_words(capture.to_str().expect("UTF-8")),
+            &["table"],
+            0,
+        );
+        assert!(
+            objects.contains("\"answer\":\"refused\",\"refusal\":15,"),
+            "{objects}"
+        );
+    }
+    let capture = data("to_compact.pcap");
+    let files = [
+        "compact",
+        capture.to_str().expect("UTF-8"),
+        "--out",
+        "small",
+    ];
+    both(&[&files[..], &SETTINGS].concat(), &[], 0);
+    let source = ["--source", "02-00-00-00-00-B2"];
+    both(
+        &[
+            &["expand", "small", "--out", "large"][..],
+            &source,
+            &SETTINGS,
+        ]
+        .concat(),
+        &[],
+        0,
+    );
+    let table = [
+        record(true, vlan(10), 0x0200_0000_0001, 32, 300),
+        [0xC0; RECORD],
+    ]
+    .concat();
+    fs::write(folder.join("table"), table).expect("a table");
+    both(&["check", "--table", "table"], &[], 1);
+    both(&["age", "--table", "table", "--by", "0"], &[], 0);
+    let lookup = ["lookup", "--table", "table", "--vlan", "10", "--mac"];
+    both(&[&lookup[..], &["02-00-00-00-00-01"]].concat(), &[], 0);
+    both(&[&lookup[..], &["02-00-00-00-00-02"]].concat(), &[], 1);
+    fs::write(folder.join("table"), [0; RECORD]).expect("a table");
+    both(&["check", "--table", "table"], &[], 0);
 }
 
 #[test]
@@ -1034,10 +1463,22 @@ fn lookup_age_and_check_answer_of_a_table_file() {
     assert_eq!(lookup("--fgl", "70000", "02-00-00-00-00-02"), found);
     assert_eq!(lookup("--fgl", "0x11170", "02:00:00:00:00:02"), found);
     assert_eq!(lookup("--fgl", "70000", "020000000002"), found);
+    let words = [
+        "lookup",
+        "--table",
+        "table",
+        "--fgl",
+        "10",
+        "--mac",
+        "020000000001",
+    ];
+    let output = run_in(&folder, &words);
+    assert_eq!(output.status.code(), Some(1));
     assert_eq!(
-        lookup("--fgl", "10", "02-00-00-00-00-01"),
+        text(&output.stdout),
         "FGL 10 02-00-00-00-00-01 is not known\n"
     );
+    assert_eq!(text(&output.stderr), "");
 
     let printed = good(&run_in(
         &folder,
@@ -1205,12 +1646,32 @@ fn each_command_has_help_on_each_of_its_options() {
         "--seconds",
     ];
     let commands: [(&str, &[&str], bool); 8] = [
-        ("receive", &["--table", "--slots", "--out", "--quiet"], true),
-        ("compact", &["--out", "--quiet"], true),
-        ("expand", &["--out", "--source", "--tag", "--quiet"], true),
-        ("lookup", &["--table", "--vlan", "--fgl", "--mac"], false),
-        ("age", &["--table", "--by"], false),
-        ("check", &["--table"], false),
+        (
+            "receive",
+            &[
+                "--table",
+                "--slots",
+                "--out",
+                "--no-ageing",
+                "--mac",
+                "--json",
+                "--quiet",
+            ],
+            true,
+        ),
+        ("compact", &["--out", "--json", "--quiet"], true),
+        (
+            "expand",
+            &["--out", "--source", "--tag", "--json", "--quiet"],
+            true,
+        ),
+        (
+            "lookup",
+            &["--table", "--vlan", "--fgl", "--mac", "--json"],
+            false,
+        ),
+        ("age", &["--table", "--by", "--json"], false),
+        ("check", &["--table", "--json"], false),
         (
             "live",
             &[
@@ -1220,11 +1681,13 @@ fn each_command_has_help_on_each_of_its_options() {
                 "--table",
                 "--slots",
                 "--out",
+                "--mac",
+                "--json",
                 "--quiet",
             ],
             true,
         ),
-        ("send", &["--interface", "--quiet"], true),
+        ("send", &["--interface", "--json", "--quiet"], true),
     ];
     let all = good(&run_in(&folder, &["--help"]));
     for (command, options, with_settings) in commands {
