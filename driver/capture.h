@@ -23,6 +23,8 @@ struct captured {
     uint32_t fraction;
     /* of the fraction: 6 or 9 */
     int digits;
+    /* 0 where the record has no time of its own, and keeps that of the one before */
+    int timed;
     size_t length;
     uint8_t bytes[CAPTURE_FRAME_MAX];
 };

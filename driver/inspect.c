@@ -71,6 +71,7 @@ static int age(struct store *store, const struct options *options)
 {
     unsigned before = learned(&store->table);
     shinglebar_age((uint16_t)options->by, store->table.bytes, store->table.length);
+    store->aged.second += options->by;
     aged_print(options->by, before - learned(&store->table), before);
     table_print(&line, &store->table, &options->audience);
     if (output_ready() == 0 && store_ready(store) == 0 && store_replace(store) == 0)
@@ -82,6 +83,7 @@ int age_command(const struct options *options)
 {
     static struct store store;
     line.json = options->json;
+    store.dry_run = options->dry_run;
     int status = store_open(&store, options->table, 0) != 0 || age(&store, options) != 0;
     store_close(&store);
     return status;

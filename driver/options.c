@@ -12,6 +12,7 @@
 #define WITH_TABLE (RECEIVE | LOOKUP | AGE | CHECK | LIVE)
 #define WITH_ANY (WITH_SETTINGS | WITH_TABLE)
 #define RFC6325_CONFIDENCE 32
+#define SAVE_SECONDS 30
 
 /* How an option's value is written, and so where it goes. */
 enum form { TEXT, ADDRESS, NICKNAME, SWITCH, NUMBER, FLAG };
@@ -40,6 +41,7 @@ static const struct option OPTIONS[] = {
     {"--interface", "NAME", "the Linux interface", TEXT, LIVE | SEND, LIVE | SEND, AT(interface), 0, 0},
     {"--frames", "N", "stops after N frames", NUMBER, LIVE, 0, AT(frames), 1, UINT32_MAX},
     {"--for", "SECONDS", "stops after so many seconds", NUMBER, LIVE, 0, AT(duration), 1, UINT32_MAX},
+    {"--save", "SECONDS", "writes the table file so often (30)", NUMBER, LIVE, 0, AT(save), 1, UINT32_MAX},
     {"--port", "ADDRESS", "the port's address", ADDRESS, WITH_SETTINGS, WITH_SETTINGS, AT(settings.port), 0, 0},
     {"--inner", "ADDRESS", "the port's own inner address", ADDRESS, WITH_SETTINGS, WITH_SETTINGS, AT(settings.inner), 0,
      0},
@@ -60,6 +62,7 @@ static const struct option OPTIONS[] = {
      AT(audience.mac), 0, 0},
     {"--by", "SECONDS", "the seconds that have passed, 0 to 65535", NUMBER, AGE, AGE, AT(by), 0, 65535},
     {"--no-ageing", NULL, "no time passes for the table", FLAG, RECEIVE, 0, AT(no_ageing), 0, 0},
+    {"--dry-run", NULL, "the table file is read and not written", FLAG, RECEIVE | AGE | LIVE, 0, AT(dry_run), 0, 0},
     {"--json", NULL, "a JSON object for each line, with the same facts", FLAG, WITH_ANY, 0, AT(json), 0, 0},
     {"--quiet", NULL, "no line for each frame", FLAG, WITH_CAPTURE | LIVE, 0, AT(quiet), 0, 0},
 };
@@ -266,6 +269,7 @@ int options_read(int count, char **words, struct options *options)
     size_t command = 0;
     *options = nothing;
     options->settings.confidence = RFC6325_CONFIDENCE;
+    options->save = SAVE_SECONDS;
     if (count < 2)
         return help_all(stderr), bad_usage("no command is given");
     if (strcmp(words[1], "--help") == 0 || strcmp(words[1], "help") == 0)

@@ -18,7 +18,8 @@ enum command {
     SEND = 128
 };
 
-/* An option that was not given is NULL or 0, settings aside: Compact off, confidence 32, seconds 0. */
+/* An option that was not given is NULL or 0, but for Compact off, confidence 32, seconds 0, saving every
+ * 30 seconds. */
 struct options {
     enum command command;
     struct settings settings;
@@ -39,6 +40,8 @@ struct options {
     int quiet;
     int json;
     int no_ageing;
+    int dry_run;
+    uint32_t save;
 };
 
 /* Reads the command line: -1 if the command is to be carried out, else the exit status (help, or bad usage, which is said). */

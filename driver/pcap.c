@@ -59,6 +59,7 @@ enum capture_step pcap_next(struct capture_reader *reader, struct captured *fram
     frame->seconds = capture_number(big_endian, header, 4);
     frame->fraction = capture_number(big_endian, header + 4, 4);
     frame->digits = reader->form.nanoseconds ? 9 : 6;
+    frame->timed = 1;
     frame->length = capture_number(big_endian, header + 8, 4);
     step = capture_check(reader, (uint32_t)frame->length, capture_number(big_endian, header + 12, 4));
     return step != CAPTURE_FRAME ? step : capture_take(reader, frame->bytes, frame->length, "the frame");

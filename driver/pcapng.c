@@ -189,6 +189,7 @@ static enum capture_step take_time(const struct capture_reader *reader, const st
         return CAPTURE_BAD;
     }
     uint64_t nanoseconds = rest * NANOSECONDS_A_SECOND / (interface->units / coarse);
+    frame->timed = 1;
     frame->seconds = (uint32_t)seconds;
     frame->fraction = (uint32_t)(nanoseconds < NANOSECONDS_A_SECOND ? nanoseconds : NANOSECONDS_A_SECOND - 1);
     return CAPTURE_FRAME;
@@ -230,6 +231,7 @@ static enum capture_step take_simple(const struct capture_reader *reader, struct
     const struct interface *interface = find_interface(reader, 0);
     if (interface == NULL)
         return CAPTURE_BAD;
+    frame->timed = 0;
     uint32_t original = number(pcapng, 0, 4);
     uint32_t held = interface->snap != 0 && interface->snap < original ? interface->snap : original;
     return take_frame(reader, SIMPLE_BYTES, held, original, frame);

@@ -84,10 +84,14 @@ void line_out(struct text *line)
 
 int output_ready(void)
 {
+    static int said = 0;
     int bad = fflush(lines()) != 0 || ferror(lines());
     if (!bad)
         return 0;
     if (failure == 0)
         failure = errno;
+    if (said)
+        return 1;
+    said = 1;
     return bad_data("standard %s cannot be written: %s", to_error ? "error" : "output", strerror(failure));
 }

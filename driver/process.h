@@ -19,7 +19,7 @@ void lines_to_error(void);
 /* Ends a line, writes it out and clears it for the next one. A JSON object gets its outer brackets. */
 void line_out(struct text *line);
 
-/* Brings the lines out that were written: 0, or 1 and said. */
+/* Brings the lines out that were written: 0, or 1 and said, once. */
 int output_ready(void);
 
 #endif

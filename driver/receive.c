@@ -13,9 +13,12 @@ static int run(struct receiver *receiver, struct capture_reader *reader, const s
     receiver->form = reader->form;
     if (capture_create(&receiver->out, options->out, reader->form) != 0)
         return 1;
-    while ((step = capture_next(reader, &frame)) == CAPTURE_FRAME)
+    while ((step = capture_next(reader, &frame)) == CAPTURE_FRAME) {
+        if (!options->no_ageing && frame.timed)
+            receiver_age(receiver, frame.seconds);
         if (receiver_take(receiver, &frame) != 0)
             return 1;
+    }
     if (step == CAPTURE_BAD)
         return 1;
     receiver_report(receiver);

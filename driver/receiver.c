@@ -97,10 +97,57 @@ int receiver_open(struct receiver *receiver, const struct options *options)
 {
     receiver->options = options;
     receiver->line.json = options->json;
+    receiver->store.dry_run = options->dry_run;
     if (store_open(&receiver->store, options->table, options->slots) != 0)
         return 1;
     shadow_copy(&receiver->shadow, &receiver->store.table);
     return 0;
+}
+
+static void aged_print(struct receiver *receiver, uint64_t seconds, uint64_t second)
+{
+    struct text *line = &receiver->line;
+    struct changes changes;
+    changes.count = changes.concerning = 0;
+    shadow_freed(&receiver->shadow, &receiver->store.table, &receiver->options->audience, &changes);
+    if (changes.concerning == 0)
+        return;
+    if (line->json) {
+        json_time(line, second, 0, 0);
+        json_number(line, "seconds_passed", seconds);
+        json_number(line, "became_free", changes.count);
+    } else {
+        text_put(line, "aged: ");
+        text_time(line, second, 0, 0);
+        text_put(line, " ");
+        text_number(line, seconds);
+        text_put(line, " seconds passed | ");
+        text_number(line, changes.count);
+        text_put(line, " became free | ");
+    }
+    changes_put(line, &changes);
+    line_out(line);
+}
+
+void receiver_pass(struct receiver *receiver, uint64_t seconds, uint64_t second)
+{
+    struct table *table = &receiver->store.table;
+    receiver->store.aged.known = 1;
+    receiver->store.aged.second = second;
+    if (seconds == 0)
+        return;
+    shinglebar_age((uint16_t)(seconds > UINT16_MAX ? UINT16_MAX : seconds), table->bytes, table->length);
+    if (!receiver->options->quiet)
+        aged_print(receiver, seconds, second);
+}
+
+void receiver_age(struct receiver *receiver, uint64_t second)
+{
+    const struct aged *aged = &receiver->store.aged;
+    if (!aged->known)
+        receiver_pass(receiver, 0, second);
+    else if (second > aged->second)
+        receiver_pass(receiver, second - aged->second, second);
 }
 
 int receiver_take(struct receiver *receiver, const struct captured *frame)
@@ -151,12 +198,15 @@ static void totals_put(struct text *to, const struct receiver *receiver)
         {" cleared), ", "cleared", receiver->cleared},
         {" other channel, ", "other_channel", receiver->other_channel},
         {" refused", "refused", sum(receiver->refused, REFUSALS + 1)},
+        {" lost", "lost", receiver->lost},
     };
-    for (size_t i = 0; i < sizeof totals / sizeof totals[0]; i++) {
+    size_t last = sizeof totals / sizeof totals[0] - 1;
+    for (size_t i = 0; i <= last - !receiver->is_live; i++) {
         if (to->json) {
             json_number(to, totals[i].name, totals[i].count);
             continue;
         }
+        text_put(to, i == last ? ", " : "");
         text_number(to, totals[i].count);
         text_put(to, totals[i].words);
     }

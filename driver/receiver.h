@@ -15,11 +15,20 @@ struct receiver {
     struct store store;
     struct shadow shadow;
     struct text line;
+    /* Only `live` can lose frames. */
+    int is_live;
+    unsigned long lost;
     unsigned long frames, learning[4], onward, other_channel, flushes, cleared, refused[REFUSALS + 1];
 };
 
 /* Opens the table of the options, for a receiver that is all zero. 0, or 1 and said. */
 int receiver_open(struct receiver *receiver, const struct options *options);
+
+/* Lets seconds pass for the table, which is then aged to a second of the wall clock, and prints a line where records became free. */
+void receiver_pass(struct receiver *receiver, uint64_t seconds, uint64_t second);
+
+/* Lets the whole seconds pass since the table was last aged, never backwards; a table that came without that second ages from now on. */
+void receiver_age(struct receiver *receiver, uint64_t second);
 
 /* Passes a frame to the library, prints its line, and adds a delivered native frame to the output. 0, or 1 and said. */
 int receiver_take(struct receiver *receiver, const struct captured *frame);

@@ -22,12 +22,8 @@ static int busy(const struct store *store)
 /* Holds the file that stands for the table file, which itself comes and goes. */
 static int hold(struct store *store)
 {
-    char *target = path_target(store->name);
-    char *lock = target == NULL ? NULL : path_with(target, STORE_LOCK);
-    int file = lock == NULL ? -1 : lock_create(lock);
-    free(target);
-    store->lock = lock;
-    if (file < 0 && lock != NULL && errno == EWOULDBLOCK)
+    int file = lock_create(store->lock);
+    if (file < 0 && errno == EWOULDBLOCK)
         return busy(store);
     if (file < 0)
         return bad_data("%s cannot be written: %s", store->name, strerror(errno));
@@ -46,28 +42,69 @@ static int try_file(const struct store *store)
     return status;
 }
 
+static int name_files(struct store *store)
+{
+    char *target = path_target(store->name);
+    store->lock = target == NULL ? NULL : path_with(target, STORE_LOCK);
+    store->aged_name = target == NULL ? NULL : path_with(target, AGED_ENDING);
+    free(target);
+    if (store->lock != NULL && store->aged_name != NULL)
+        return 0;
+    return bad_data("%s cannot be opened: %s", store->name, strerror(errno));
+}
+
 int store_open(struct store *store, const char *name, unsigned long slots)
 {
     store->name = name;
     store->lock_file = -1;
-    return hold(store) != 0 || try_file(store) != 0 || table_read(&store->table, name, slots) != 0;
+    if (name_files(store) != 0)
+        return 1;
+    if (!store->dry_run && (hold(store) != 0 || try_file(store) != 0))
+        return 1;
+    if (table_read(&store->table, name, slots) != 0)
+        return 1;
+    store->aged.sum = aged_sum(&store->table);
+    if (aged_read(&store->aged, store->aged_name) != 0)
+        return 1;
+    store->saved = store->aged;
+    return 0;
 }
 
 int store_ready(struct store *store)
 {
+    store->aged.sum = aged_sum(&store->table);
+    if (store->dry_run)
+        return 0;
     return whole_begin(&store->file, store->name) != 0
-           || whole_write(&store->file, store->table.bytes, store->table.length) != 0 || whole_ready(&store->file) != 0;
+           || whole_write(&store->file, store->table.bytes, store->table.length) != 0 || whole_ready(&store->file) != 0
+           || (store->aged.known
+               && aged_write(&store->aged_file, store->aged_name, store->name, &store->saved, &store->aged) != 0);
 }
 
 int store_replace(struct store *store)
 {
-    int status = whole_replace(&store->file);
+    /* The seconds first: they serve the table that is there and the one that comes. */
+    int status = whole_replace(&store->aged_file) != 0 || whole_replace(&store->file) != 0;
+    whole_end(&store->aged_file);
+    whole_end(&store->file);
+    if (status == 0)
+        store->saved = store->aged;
+    return status;
+}
+
+int store_save(struct store *store)
+{
+    if (aged_sum(&store->table) == store->saved.sum)
+        return 0;
+    int status = store_ready(store) != 0 || store_replace(store) != 0;
+    whole_end(&store->aged_file);
     whole_end(&store->file);
     return status;
 }
 
 void store_close(struct store *store)
 {
+    whole_end(&store->aged_file);
     whole_end(&store->file);
     if (store->lock != NULL && store->lock_file >= 0) {
         /* Held until it is gone. */
@@ -75,5 +112,7 @@ void store_close(struct store *store)
         close(store->lock_file);
     }
     free(store->lock);
+    free(store->aged_name);
     store->lock = NULL;
+    store->aged_name = NULL;
 }

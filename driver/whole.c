@@ -52,6 +52,11 @@ static int keep_owner(const struct whole *whole, const struct stat *old)
 
 int whole_begin(struct whole *whole, const char *name)
 {
+    return whole_begin_like(whole, name, name);
+}
+
+int whole_begin_like(struct whole *whole, const char *name, const char *other)
+{
     struct stat old;
     whole->name = name;
     if (is_standard(name)) {
@@ -68,7 +73,8 @@ int whole_begin(struct whole *whole, const char *name)
         return bad_data("%s is not a regular file, and is not replaced", name);
     if (there && access(whole->target, W_OK) != 0)
         return failed(whole);
-    return open_temporary(whole) != 0 || (there && keep_owner(whole, &old) != 0);
+    int known = there || stat(other, &old) == 0;
+    return open_temporary(whole) != 0 || (known && keep_owner(whole, &old) != 0);
 }
 
 int whole_write(struct whole *whole, const void *bytes, size_t length)

@@ -17,8 +17,10 @@ struct whole {
 
 #define WHOLE_NONE {NULL, NULL, NULL, NULL}
 
-/* Each returns 0, or says what is wrong and returns 1. A file that was never begun is ready and replaced at once. */
+/* Each returns 0, or says what is wrong and returns 1. A file that was never begun is ready and replaced at once. One
+ * that is begun like another has the other's owner, group and mode where it is new. */
 int whole_begin(struct whole *whole, const char *name);
+int whole_begin_like(struct whole *whole, const char *name, const char *other);
 int whole_write(struct whole *whole, const void *bytes, size_t length);
 int whole_ready(struct whole *whole);
 int whole_replace(struct whole *whole);

@@ -180,10 +180,23 @@ fn frames(name: &str) -> Vec<Vec<u8>> {
     frames
 }
 
-/// What the second implementation makes of frames: the table after them, and the native frames with their places.
+/// What the second implementation makes of the frames of a capture, a second apart: the table after them, and the native frames with
+/// their places.
 fn received(frames: &[Vec<u8>], table: &mut [u8]) -> Vec<(usize, Vec<u8>)> {
+    received_with(frames, table, 1)
+}
+
+/// The same where no time passes for the table.
+fn received_at_once(frames: &[Vec<u8>], table: &mut [u8]) -> Vec<(usize, Vec<u8>)> {
+    received_with(frames, table, 0)
+}
+
+fn received_with(frames: &[Vec<u8>], table: &mut [u8], seconds: u16) -> Vec<(usize, Vec<u8>)> {
     let mut delivered = Vec::new();
     for (place, frame) in frames.iter().enumerate() {
+        if place > 0 {
+            reference::age(seconds, table);
+        }
         let mut out = vec![0; 9_216];
         let word = reference::receive(&PORT, frame, table, &mut out);
         if word & 0xFF == 65 {
@@ -376,7 +389,12 @@ fn the_table_is_kept_between_runs() {
     for answer in ["4 learned, 0 refreshed", "0 learned, 4 refreshed"] {
         let printed = good(&run_in(&folder, &receive_words("in")));
         assert!(printed.contains(answer), "{printed}");
-        received(&frames("lab_to_left"), &mut table);
+        // the second time the capture is older than the table: no time passes
+        if answer.starts_with('4') {
+            received(&frames("lab_to_left"), &mut table);
+        } else {
+            received_at_once(&frames("lab_to_left"), &mut table);
+        }
         assert!(bytes(&folder.join("table")) == table);
     }
     // nothing changes in the second run, and the slot is shown all the same
@@ -384,7 +402,7 @@ fn the_table_is_kept_between_runs() {
     let line =
         "refreshed | table unchanged (slot 1: learned VLAN 20 02-00-00-00-00-11 behind 1234, confidence 32, 300 s)";
     assert!(printed.contains(line), "{printed}");
-    assert_eq!(names(&folder), ["in", "out", "table"]);
+    assert_eq!(names(&folder), ["in", "out", "table", "table.aged"]);
 }
 
 /// A frame of the worked example's first kind, from another station and VLAN.
@@ -492,8 +510,180 @@ fn a_line_tells_what_a_slot_held_before_and_after() {
     for (place, wanted) in wanted.iter().enumerate() {
         assert_eq!(parts(&printed, place + 1)[2], *wanted);
     }
-    received(&frames, &mut table);
+    received_at_once(&frames, &mut table);
     assert!(bytes(&folder.join("table")) == table);
+}
+
+/// A capture of frames with seconds of their own, counted from the first one of `captures::time`.
+fn capture_at(frames: &[(u32, Vec<u8>)]) -> Vec<u8> {
+    let (first, _) = captures::time(0);
+    let records = frames
+        .iter()
+        .flat_map(|(second, frame)| USUAL.record((first + second, 999_999), frame));
+    USUAL.header().into_iter().chain(records).collect()
+}
+
+#[test]
+fn the_table_ages_by_the_time_stamps_and_never_backwards() {
+    let folder = folder("ageing");
+    let from = |number: u64| frame_from(0x0200_0000_0000 + number, 10, 0x1234);
+    let frames = [
+        (0, from(1)),
+        (100, from(2)),
+        // a clock that was set back: no time passes until it has caught up
+        (40, from(3)),
+        (100, from(3)),
+        (299, from(4)),
+        // more than 16 bits of seconds, and all at once
+        (300, from(5)),
+        (300 + 70_000, from(6)),
+    ];
+    fs::write(folder.join("in"), capture_at(&frames)).expect("a capture");
+    let printed = good(&run_in(&folder, &receive_words("in")));
+    let aged: Vec<&str> = printed
+        .lines()
+        .filter(|line| line.starts_with("aged: "))
+        .collect();
+    let slot = |slot: u8, number: u8| {
+        format!("slot {slot}: VLAN 10 02-00-00-00-00-0{number} behind 1234 -> free")
+    };
+    assert_eq!(
+        aged,
+        [
+            format!(
+                "aged: 2025-11-16T08:05:00Z 1 seconds passed | 1 became free | {}",
+                slot(0, 1)
+            ),
+            format!(
+                "aged: 2025-11-17T03:31:40Z 70000 seconds passed | 4 became free | {}; {}; {}; {}",
+                slot(0, 5),
+                slot(1, 2),
+                slot(2, 3),
+                slot(3, 4)
+            ),
+        ]
+    );
+    // station 5 took the slot that station 1 left
+    assert!(parts(&printed, 6)[2].starts_with("slot 0: free -> learned VLAN 10 02-00-00-00-00-05"));
+    let mut table = vec![0; 16 * RECORD];
+    let mut clock = 0;
+    for (second, frame) in &frames {
+        let passed = second.saturating_sub(clock);
+        reference::age(passed.min(65_535) as u16, &mut table);
+        clock = clock.max(*second);
+        reference::receive(&PORT, frame, &mut table, &mut [0; 9_216]);
+    }
+    assert!(bytes(&folder.join("table")) == table);
+    // and without ageing no record goes, and no second is kept
+    for name in ["table", "table.aged"] {
+        fs::remove_file(folder.join(name)).expect("a file");
+    }
+    let words = [&receive_words("in")[..], &["--no-ageing"]].concat();
+    let printed = good(&run_in(&folder, &words));
+    assert!(!printed.contains("aged: "));
+    assert!(printed.contains("table: 16 slots, 6 learned, 0 configured, 0 spoilt, 10 free"));
+    assert_eq!(names(&folder), ["in", "out", "table"]);
+}
+
+#[test]
+fn the_second_that_a_table_was_aged_to_is_kept_beside_it() {
+    let folder = folder("second");
+    let from = |number: u64| frame_from(0x0200_0000_0000 + number, 10, 0x1234);
+    let (first, _) = captures::time(0);
+    let run = |frames: &[(u32, Vec<u8>)]| {
+        fs::write(folder.join("in"), capture_at(frames)).expect("a capture");
+        good(&run_in(&folder, &receive_words("in")))
+    };
+    let second = || {
+        let aged = text(&bytes(&folder.join("table.aged")));
+        let last = aged.lines().last().expect("a line").to_string();
+        last.split(' ')
+            .next()
+            .expect("a second")
+            .parse::<u32>()
+            .expect("a number")
+            - first
+    };
+    run(&[(10, from(1))]);
+    assert_eq!(second(), 10);
+    // the seconds between two runs pass too
+    let printed = run(&[(250, from(2))]);
+    assert!(printed
+        .contains("slot 0: learned VLAN 10 02-00-00-00-00-01 behind 1234, confidence 32, 60 s"));
+    assert_eq!(second(), 250);
+    // and those that pass by hand
+    good(&run_in(&folder, &["age", "--table", "table", "--by", "20"]));
+    assert_eq!(second(), 270);
+    let printed = run(&[(269, from(3)), (309, from(4))]);
+    assert!(printed
+        .contains("slot 0: learned VLAN 10 02-00-00-00-00-01 behind 1234, confidence 32, 1 s"));
+    // no time passes without ageing, and none is lost
+    let words = [&receive_words("in")[..], &["--no-ageing"]].concat();
+    good(&run_in(&folder, &words));
+    assert_eq!(second(), 309);
+    let printed = run(&[(310, from(4))]);
+    assert!(
+        printed.contains("| 1 became free | slot 0: VLAN 10 02-00-00-00-00-01 behind 1234 -> free")
+    );
+    // a table that comes without its second ages from the first frame on
+    let foreign = [record(true, vlan(10), 0x0200_0000_0009, 1, 5), [0; RECORD]].concat();
+    fs::write(
+        folder.join("table"),
+        [foreign, vec![0; 14 * RECORD]].concat(),
+    )
+    .expect("a table");
+    let printed = run(&[(9_000, from(1)), (9_004, from(1))]);
+    assert!(printed
+        .contains("slot 0: learned VLAN 10 02-00-00-00-00-09 behind 1234, confidence 1, 1 s"));
+    assert_eq!(second(), 9_004);
+    // a save that is cut between its two files leaves the old table with its own second
+    let old = bytes(&folder.join("table"));
+    run(&[(9_100, from(1))]);
+    fs::write(folder.join("table"), old).expect("a table");
+    let printed = run(&[(9_005, from(1))]);
+    assert!(
+        printed.contains("aged: 2025-11-16T10:30:05Z 1 seconds passed | 1 became free | slot 0: ")
+    );
+    // a file of that name that is not the driver's is not written over
+    fs::write(folder.join("table.aged"), "my notes\n").expect("a file");
+    bad(
+        &run_in(&folder, &receive_words("in")),
+        1,
+        "table.aged holds something other than the second",
+    );
+    assert_eq!(bytes(&folder.join("table.aged")), b"my notes\n");
+}
+
+#[test]
+fn a_dry_run_reads_the_table_and_writes_none() {
+    let folder = folder("dry");
+    let frames = frames("hall");
+    fs::write(folder.join("in"), captures::capture(USUAL, &frames)).expect("a capture");
+    let words = receive_words("in");
+    let printed = good(&run_in(&folder, &[&words[..], &["--dry-run"]].concat()));
+    expect_text(&printed, "hall.expected");
+    // the capture that was asked for is written all the same
+    assert_eq!(names(&folder), ["in", "out"]);
+    let delivered = received(&frames, &mut vec![0; 16 * RECORD]);
+    assert!(bytes(&folder.join("out")) == capture_of(USUAL, &delivered));
+    good(&run_in(&folder, &words));
+    let (table, aged) = (
+        bytes(&folder.join("table")),
+        bytes(&folder.join("table.aged")),
+    );
+    // it reads also where another process holds the table
+    make_pipe(&folder.join("pipe"));
+    let files = ["receive", "pipe", "--table", "table"];
+    let driver = start_in(&folder, &[&files[..], &SETTINGS].concat());
+    let pipe = open_pipe(&folder.join("pipe"));
+    good(&run_in(&folder, &[&words[..], &["--dry-run"]].concat()));
+    let by_hand = ["age", "--table", "table", "--by", "9999", "--dry-run"];
+    let printed = good(&run_in(&folder, &by_hand));
+    assert!(printed.contains("3 of 3 learned records became free"));
+    drop(pipe);
+    driver.wait_with_output().expect("the driver");
+    assert!(bytes(&folder.join("table")) == table);
+    assert!(bytes(&folder.join("table.aged")) == aged);
 }
 
 #[test]
@@ -844,6 +1034,7 @@ fn of_a_capture_cut_at_any_byte_every_whole_frame_counts() {
         fs::write(folder.join("in"), &whole[..length]).expect("a capture");
         fs::write(folder.join("table"), &old).expect("a table");
         fs::write(folder.join("out"), "old").expect("an output");
+        let _ = fs::remove_file(folder.join("table.aged"));
         let output = run_in(&folder, &receive_words("in"));
         // the whole frames that the capture has; none where its header is cut
         let Some(count) = ends.iter().rposition(|end| *end <= length) else {
@@ -874,7 +1065,8 @@ fn of_a_capture_cut_at_any_byte_every_whole_frame_counts() {
             bytes(&folder.join("out")) == capture_of(USUAL, &delivered),
             "{length}"
         );
-        assert_eq!(names(&folder), ["in", "out", "table"]);
+        let files = ["in", "out", "table", "table.aged"];
+        assert_eq!(names(&folder), files[..3 + usize::from(count > 0)]);
     }
 }
 
@@ -1242,7 +1434,7 @@ fn files_are_replaced_whole_or_not_at_all() {
     // and with nothing in the way it is replaced
     good(&run_in(&folder, &words));
     assert!(bytes(&folder.join("table")) != old);
-    assert_eq!(names(&folder), ["in", "out", "pipe", "table"]);
+    assert_eq!(names(&folder), ["in", "out", "pipe", "table", "table.aged"]);
 }
 
 #[test]
@@ -1304,7 +1496,7 @@ fn what_a_killed_driver_leaves_is_taken_away_at_the_next_start() {
     let mut table = vec![0; 16 * RECORD];
     received(&frames("hall"), &mut table);
     assert!(bytes(&folder.join("table")) == table);
-    assert_eq!(names(&folder), ["in", "out", "table"]);
+    assert_eq!(names(&folder), ["in", "out", "table", "table.aged"]);
 }
 
 #[test]
@@ -1339,7 +1531,10 @@ fn the_second_of_two_processes_on_one_table_is_refused() {
     received(&frames, &mut table);
     assert!(bytes(&folder.join("table")) == table);
     good(&run_in(&folder, &["age", "--table", "link", "--by", "9"]));
-    assert_eq!(names(&folder), ["empty", "in", "link", "out", "table"]);
+    assert_eq!(
+        names(&folder),
+        ["empty", "in", "link", "out", "table", "table.aged"]
+    );
 }
 
 #[test]
@@ -1426,7 +1621,7 @@ fn a_link_to_a_table_that_is_not_there_is_followed() {
         let found = fs::symlink_metadata(folder.join(link)).expect("the link");
         assert!(found.is_symlink(), "{link}");
     }
-    assert_eq!(names(&folder.join("there")), ["next", "real"]);
+    assert_eq!(names(&folder.join("there")), ["next", "real", "real.aged"]);
     assert_eq!(names(&folder), ["in", "out", "table", "there"]);
 }
 
@@ -1653,6 +1848,7 @@ fn each_command_has_help_on_each_of_its_options() {
                 "--slots",
                 "--out",
                 "--no-ageing",
+                "--dry-run",
                 "--mac",
                 "--json",
                 "--quiet",
@@ -1670,7 +1866,7 @@ fn each_command_has_help_on_each_of_its_options() {
             &["--table", "--vlan", "--fgl", "--mac", "--json"],
             false,
         ),
-        ("age", &["--table", "--by", "--json"], false),
+        ("age", &["--table", "--by", "--dry-run", "--json"], false),
         ("check", &["--table", "--json"], false),
         (
             "live",
@@ -1678,6 +1874,8 @@ fn each_command_has_help_on_each_of_its_options() {
                 "--interface",
                 "--frames",
                 "--for",
+                "--save",
+                "--dry-run",
                 "--table",
                 "--slots",
                 "--out",
