@@ -98,7 +98,7 @@ int convert_command(const struct options *options)
         return 1;
     int written = 0;
     int status = run(options, &reader, &out, &written);
-    if (!written)
+    if (!written && out.temporary != NULL)
         bad_data("%s stays as it was", options->out);
     whole_end(&out);
     capture_close(&reader);

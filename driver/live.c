@@ -140,7 +140,8 @@ static int listen_on(struct live *live)
     pass_night(&live->receiver);
     listening_print(live);
     while (!is_over(live)) {
-        if (output_ready() != 0)
+        /* Who reads the capture on standard output waits for it. */
+        if (output_ready() != 0 || (is_standard(live->options->out) && whole_ready(&live->receiver.out) != 0))
             return 1;
         interface_wait(&live->interface, WAIT_MILLISECONDS);
         pass_second(live);
@@ -166,7 +167,7 @@ static int keep(struct live *live)
     if (store_ready(&receiver->store) != 0 || store_replace(&receiver->store) != 0)
         status = bad_data("%s stays as it was last written", receiver->store.name);
     if (whole_ready(&receiver->out) != 0 || whole_replace(&receiver->out) != 0)
-        status = bad_data("%s stays as it was", live->options->out);
+        status = bad_data("%s is not written", live->options->out);
     return output_ready() != 0 ? 1 : status;
 }
 

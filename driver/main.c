@@ -2,6 +2,7 @@
 #include <stdio.h>
 
 #include "commands.h"
+#include "path.h"
 #include "process.h"
 
 #define LINES_ROOM 65536
@@ -16,6 +17,8 @@ int main(int count, char **words)
     if (status >= 0)
         return output_ready() != 0 ? 1 : status;
     catch_signals();
+    if (is_standard(options.out))
+        lines_to_error();
     switch (options.command) {
     case RECEIVE:
         return receive_command(&options);
@@ -32,6 +35,10 @@ int main(int count, char **words)
         return live_command(&options);
     case SEND:
         return send_command(&options);
+    case SET:
+        return set_command(&options);
+    case UNSET:
+        return unset_command(&options);
     }
     return 2;
 }

@@ -55,6 +55,7 @@ static void say(const char *form, va_list values)
     fputs(PROGRAM ": ", stderr);
     vfprintf(stderr, form, values);
     fputc('\n', stderr);
+    fflush(stderr);
 }
 
 int bad_data(const char *form, ...)

@@ -15,7 +15,9 @@ enum command {
     AGE = 16,
     CHECK = 32,
     LIVE = 64,
-    SEND = 128
+    SEND = 128,
+    SET = 256,
+    UNSET = 512
 };
 
 /* An option that was not given is NULL or 0, but for Compact off, confidence 32, seconds 0, saving every

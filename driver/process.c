@@ -8,6 +8,8 @@
 
 #include "message.h"
 
+#define LINES_ROOM 65536
+
 /* What would end the program where it stands, and can be caught, SIGHUP aside. */
 static const int STOPS[] = {SIGINT, SIGTERM, SIGQUIT, SIGALRM, SIGUSR2, SIGVTALRM, SIGPROF, SIGXCPU};
 
@@ -61,6 +63,8 @@ int save_asked(void)
 
 void lines_to_error(void)
 {
+    static char room[LINES_ROOM];
+    setvbuf(stderr, room, _IOFBF, sizeof room);
     to_error = 1;
 }
 

@@ -19,6 +19,7 @@
  */
 #ifndef SHINGLEBAR_H
 #define SHINGLEBAR_H
+#define SHINGLEBAR_VERSION "0.1.0"
 
 #include <stddef.h>
 #include <stdint.h>

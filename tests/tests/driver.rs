@@ -1710,6 +1710,228 @@ fn lookup_age_and_check_answer_of_a_table_file() {
 }
 
 #[test]
+fn a_dash_means_standard_input_and_output() {
+    let folder = folder("dash");
+    let frames = frames("hall");
+    fs::write(folder.join("in"), captures::capture(USUAL, &frames)).expect("a capture");
+    let files = [
+        "receive", "-", "--table", "table", "--slots", "16", "--out", "-",
+    ];
+    let words = [&files[..], &SETTINGS].concat();
+    let output = shell_in(&folder, "cat in | \"$@\"", &words);
+    assert!(output.status.success());
+    // the capture has standard output to itself
+    expect_text(&text(&output.stderr), "hall.expected");
+    let mut table = vec![0; 16 * RECORD];
+    let delivered = received(&frames, &mut table);
+    assert!(output.stdout == capture_of(USUAL, &delivered));
+    assert!(bytes(&folder.join("table")) == table);
+    assert_eq!(names(&folder), ["in", "table", "table.aged"]);
+    // what cannot be read is named, and what cannot be written
+    let output = shell_in(&folder, "head -c 30 in | \"$@\"", &words);
+    bad_line(
+        &output,
+        1,
+        "standard input, record 1, at byte 24: the capture ends inside",
+    );
+    let output = shell_in(&folder, "cat in | \"$@\" >/dev/full", &words);
+    bad_line(
+        &output,
+        1,
+        "standard output cannot be written: No space left",
+    );
+    let output = run_in(&folder, &["check", "--table", "-"]);
+    bad(
+        &output,
+        2,
+        "--table is a file, not standard input or output",
+    );
+    // a pipeline of both conversions
+    let small = data("to_compact.pcap");
+    let compact = ["compact", small.to_str().expect("UTF-8"), "--out", "small"];
+    good(&run_in(&folder, &[&compact[..], &SETTINGS].concat()));
+    let expand = [
+        "expand",
+        "small",
+        "--out",
+        "large",
+        "--source",
+        "02-00-00-00-00-B2",
+    ];
+    good(&run_in(&folder, &[&expand[..], &SETTINGS].concat()));
+    let line = format!(
+        "\"$1\" compact {} --out - --quiet {settings} | \"$1\" expand - --out - --quiet --source 0200000000B2 {settings}",
+        small.display(),
+        settings = SETTINGS.join(" ")
+    );
+    let output = shell_in(&folder, &line, &[]);
+    assert!(output.status.success(), "{}", text(&output.stderr));
+    assert!(output.stdout == bytes(&folder.join("large")));
+}
+
+/// The same as `bad`, where lines stand before the message.
+fn bad_line(output: &Output, status: i32, words: &str) {
+    let said = text(&output.stderr);
+    assert_eq!(output.status.code(), Some(status), "{said}");
+    let told = |line: &str| line.starts_with("shinglebar-port: ") && line.contains(words);
+    assert!(said.lines().any(told), "`{words}` is not in: {said}");
+}
+
+#[test]
+fn help_and_version_are_told_in_every_usual_way() {
+    let folder = folder("version");
+    let all = good(&run_in(&folder, &["--help"]));
+    for words in [&["-h"][..], &["help"], &["help", "--help"]] {
+        assert_eq!(good(&run_in(&folder, words)), all, "{words:?}");
+    }
+    let live = good(&run_in(&folder, &["live", "--help"]));
+    assert!(live.starts_with("shinglebar-port live "));
+    for words in [&["help", "live"][..], &["live", "-h"]] {
+        assert_eq!(good(&run_in(&folder, words)), live, "{words:?}");
+    }
+    bad(
+        &run_in(&folder, &["help", "remove"]),
+        2,
+        "`remove` is no command",
+    );
+    let header = text(&bytes(&package().join("../include/shinglebar.h")));
+    let version = header
+        .lines()
+        .find_map(|line| line.strip_prefix("#define SHINGLEBAR_VERSION \""))
+        .and_then(|line| line.strip_suffix('"'))
+        .expect("a version");
+    let told = good(&run_in(&folder, &["--version"]));
+    assert_eq!(told, format!("shinglebar-port {version}\n"));
+}
+
+#[test]
+fn configured_records_are_made_and_removed() {
+    let folder = folder("set");
+    let mut table = [
+        record(true, vlan(10), 0x0200_0000_0001, 32, 300),
+        [0; RECORD],
+        [0; RECORD],
+    ]
+    .concat();
+    fs::write(folder.join("table"), &table).expect("a table");
+    let set = |words: &[&str]| {
+        let words = [
+            &["set", "--table", "table", "--nickname", "1234"][..],
+            words,
+        ]
+        .concat();
+        run_in(&folder, &words)
+    };
+    let expect = |table: &[u8]| assert!(bytes(&folder.join("table")) == table);
+    // a fine-grained label takes the lowest free slot, with the highest confidence
+    let fine = Label::fine(70_000).expect("a label");
+    assert_eq!(
+        good(&set(&["--fgl", "70000", "--mac", "020000000002"])),
+        "slot 1: free -> configured FGL 70000 02-00-00-00-00-02 behind 1234, confidence 255, 0 s\n"
+    );
+    table[RECORD..2 * RECORD].copy_from_slice(&record(false, fine, 0x0200_0000_0002, 255, 0));
+    expect(&table);
+    // the pair's own slot is taken, also a learned one
+    assert_eq!(
+        good(&set(&["--vlan", "10", "--mac", "020000000001", "--confidence", "7"])),
+        "slot 0: learned -> configured VLAN 10 02-00-00-00-00-01 behind 1234, confidence 32 -> 7, 300 -> 0 s\n"
+    );
+    table[..RECORD].copy_from_slice(&record(false, vlan(10), 0x0200_0000_0001, 7, 0));
+    expect(&table);
+    let dry = ["--vlan", "11", "--mac", "020000000001", "--dry-run"];
+    assert!(good(&set(&dry)).starts_with("slot 2: free -> configured VLAN 11"));
+    expect(&table);
+    good(&set(&["--vlan", "4094", "--mac", "020000000001"]));
+    table[2 * RECORD..].copy_from_slice(&record(false, vlan(4094), 0x0200_0000_0001, 255, 0));
+    expect(&table);
+    bad(
+        &set(&["--vlan", "11", "--mac", "020000000001"]),
+        1,
+        "table is full",
+    );
+    // what a good record is, the library says
+    for words in [
+        ["--vlan", "0", "--mac", "020000000001"],
+        ["--vlan", "4095", "--mac", "020000000001"],
+        ["--vlan", "1", "--mac", "030000000001"],
+    ] {
+        bad(&set(&words), 2, "no good record");
+    }
+    let words = [
+        "set",
+        "--table",
+        "table",
+        "--vlan",
+        "1",
+        "--mac",
+        "020000000001",
+        "--nickname",
+    ];
+    for nickname in ["0", "FFC0", "FFFF"] {
+        bad(
+            &run_in(&folder, &[&words[..], &[nickname]].concat()),
+            2,
+            "no good record",
+        );
+    }
+    expect(&table);
+    // a learned record stays where a frame comes: so does a configured one
+    fs::write(
+        folder.join("in"),
+        captures::capture(USUAL, &[frame_from(0x0200_0000_0001, 10, 0x1235)]),
+    )
+    .expect("a capture");
+    let receive = [&["receive", "in", "--table", "table"][..], &SETTINGS].concat();
+    assert!(good(&run_in(&folder, &receive))
+        .contains("kept | table unchanged (slot 0: configured VLAN 10"));
+
+    let unset = |words: &[&str]| {
+        run_in(
+            &folder,
+            &[&["unset", "--table", "table"][..], words].concat(),
+        )
+    };
+    let pair = ["--vlan", "10", "--mac", "020000000001"];
+    assert_eq!(
+        good(&unset(&pair)),
+        "slot 0: VLAN 10 02-00-00-00-00-01 behind 1234 -> free\n"
+    );
+    table[..RECORD].fill(0);
+    expect(&table);
+    bad(
+        &unset(&pair),
+        1,
+        "table has no record of that label and address",
+    );
+    table[..RECORD].copy_from_slice(&record(true, vlan(10), 0x0200_0000_0001, 7, 9));
+    fs::write(folder.join("table"), &table).expect("a table");
+    bad(&unset(&pair), 1, "table: slot 0 is learned, not configured");
+    expect(&table);
+    // a table is made where there is none
+    let words = [
+        "set",
+        "--table",
+        "new",
+        "--slots",
+        "2",
+        "--vlan",
+        "5",
+        "--mac",
+        "020000000001",
+        "--nickname",
+        "1234",
+        "--json",
+    ];
+    json_values(good(&run_in(&folder, &words)).trim_end());
+    let new = [
+        record(false, vlan(5), 0x0200_0000_0001, 255, 0),
+        [0; RECORD],
+    ]
+    .concat();
+    assert!(bytes(&folder.join("new")) == new);
+}
+
+#[test]
 fn bad_command_lines_get_a_message_and_status_2() {
     let folder = folder("usage");
     let lookup = ["lookup", "--table", "t", "--mac", "020000000001"];
@@ -1840,7 +2062,7 @@ fn each_command_has_help_on_each_of_its_options() {
         "--confidence",
         "--seconds",
     ];
-    let commands: [(&str, &[&str], bool); 8] = [
+    let commands: [(&str, &[&str], bool); 10] = [
         (
             "receive",
             &[
@@ -1868,6 +2090,26 @@ fn each_command_has_help_on_each_of_its_options() {
         ),
         ("age", &["--table", "--by", "--dry-run", "--json"], false),
         ("check", &["--table", "--json"], false),
+        (
+            "set",
+            &[
+                "--table",
+                "--slots",
+                "--vlan",
+                "--fgl",
+                "--mac",
+                "--nickname",
+                "--confidence",
+                "--dry-run",
+                "--json",
+            ],
+            false,
+        ),
+        (
+            "unset",
+            &["--table", "--vlan", "--fgl", "--mac", "--dry-run", "--json"],
+            false,
+        ),
         (
             "live",
             &[
