@@ -314,7 +314,26 @@ lost=$(sed -n 's/^\([0-9]*\) frames: .*, \([0-9]*\) lost$/\2/p' "$made/flood.log
 expect "lost frames are counted, and each frame is taken or lost" "524288 yes" \
     "$((taken + lost)) $([ "$lost" -gt 0 ] && echo yes)"
 expect "what was learned is kept" "$(four 1 1234)" "$(records left)"
-rm -f "$made"/flood.*
+
+# rate NAME OPTION..: what a driver takes of all that can be sent; measured and not judged, since it says more of the machine
+rate() {
+    name=$1
+    shift
+    fresh
+    listen left "$name" "$@"
+    began=$(date +%s%N)
+    transmit left "$made/flood.pcap" off --quiet >/dev/null
+    spent=$((($(date +%s%N) - began) / 1000000))
+    sleep 3
+    kill -INT "$started"
+    wait "$started"
+    drivers=$(echo "$drivers" | sed "s/ $started\$//; s/ $started / /")
+    totals=$(grep '^[0-9]* frames: ' "$made/$name.log")
+    echo "$name: ${totals%%:*}, ${totals##*, }, sent in $spent ms"
+}
+rate quiet --quiet
+rate lines
+rm -f "$made"/flood.* "$made"/lines.log
 
 if [ "$failures" -eq 0 ]; then
     echo "lab: PASS"
