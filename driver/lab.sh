@@ -214,15 +214,15 @@ expect "SIGHUP ends in order" "$(four 1 1234 | sed -n 2,3p)" "$(records left)"
 expect "and nothing but the table is left" "left left.aged" "$(cd "$made" && echo left left.*)"
 
 fresh
-# the reader goes after two lines; what comes then cannot be printed
+# the reader goes after five lines, four of them of frames; what comes then cannot be printed
 {
     ip netns exec "$left" "$port" live --interface left0 --table "$made/left" --slots 8 --for 20 $left_settings 2>"$made/pipe.err"
     echo $? >"$made/pipe.status"
-} | sed -u 2q >"$made/pipe.log" &
+} | sed -u 5q >"$made/pipe.log" &
 reader=$!
 await "$made/pipe.log" "listening on"
 transmit left lab_to_left off --quiet
-await "$made/pipe.log" "^frame 1:"
+await "$made/pipe.log" "^frame 4:"
 transmit left lab_to_left off --quiet
 wait "$reader"
 tries=100
