@@ -255,7 +255,7 @@ static void nicknames_put(struct text *to, unsigned ingress, const uint8_t *payl
     }
     end(&list, "");
     if (to->json)
-        json_number(to, "sender", payload[0] == 0);
+        json_truth(to, "sender", payload[0] == 0);
 }
 
 static void others_put(struct text *to, unsigned others)

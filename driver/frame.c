@@ -146,7 +146,7 @@ static void put_json(struct text *to, unsigned long number, const struct capture
     if (frame->has_header) {
         json_hex(to, "ingress", frame_ingress(frame), 4);
         json_hex(to, "egress", egress(frame), 4);
-        json_number(to, "multicast", (uint64_t)is_multicast(frame));
+        json_truth(to, "multicast", is_multicast(frame));
     }
     if (frame->has_protocol)
         json_hex(to, "channel", frame->protocol & 0xFFF, 3);

@@ -2,6 +2,8 @@
 # Two drivers on a link between two network namespaces: learning, Compact Format and flush with real frames; what a driver keeps when it
 # is ended or its link goes; lost frames. `make lab` builds the driver first. Needs root and `ip` (Debian: apt-get install iproute2); status 77 where the lab cannot be built, 1 where it fails.
 # Makes and removes its own two namespaces only, and writes below target/lab only.
+# Settings are several words.
+# shellcheck disable=SC2086
 set -u
 cd "$(dirname "$0")/.." || exit 1
 port=$PWD/target/driver/shinglebar-port
@@ -54,9 +56,8 @@ listen() {
     side=$1 log=$made/$2.log
     shift 2
     eval "namespace=\$$side settings=\$${side}_settings"
-    # settings are several words
     # nohup around the lab must not keep SIGHUP from the driver
-    # shellcheck disable=SC2154,SC2086
+    # shellcheck disable=SC2154
     ip netns exec "$namespace" env --default-signal=HUP "$port" live --interface "${side}0" --table "$made/$side" --slots 8 --for 20 \
         --compact on $settings "$@" >"$log" 2>&1 &
     started=$!
@@ -90,7 +91,6 @@ transmit() {
     esac
     capture=$5
     [ -f "$capture" ] || capture=$data/$5.pcap
-    # shellcheck disable=SC2086
     ip netns exec "$1" "$port" send "$capture" --interface "$2" --compact "$6" $3 ${7:+"$7"}
 }
 
@@ -295,7 +295,7 @@ expect "an interface that is not Ethernet is refused" \
 
 echo "--- more frames than there is room for"
 tail -c +25 "$data/lab_to_left.pcap" >"$made/flood.body"
-for double in 1 2 3 4 5 6 7 8 9 10 11 12 13 14 15 16 17; do
+for _ in 1 2 3 4 5 6 7 8 9 10 11 12 13 14 15 16 17; do
     cat "$made/flood.body" "$made/flood.body" >"$made/flood.next"
     mv "$made/flood.next" "$made/flood.body"
 done
@@ -334,6 +334,14 @@ rate() {
 rate quiet --quiet
 rate lines
 rm -f "$made"/flood.* "$made"/lines.log
+
+if command -v script >/dev/null; then
+    fresh
+    line="ip netns exec $left $port live --interface left0 --table $made/left --slots 8 --for 3 --quiet $left_settings"
+    script -qec "$line" /dev/null >"$made/terminal.log" </dev/null
+    expect "on a terminal a line tells frames and losses" yes \
+        "$(tr '\r' '\n' <"$made/terminal.log" | grep -q '^0 frames, 0 lost' && echo yes)"
+fi
 
 if [ "$failures" -eq 0 ]; then
     echo "lab: PASS"

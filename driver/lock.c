@@ -27,7 +27,7 @@ int lock_create(const char *path)
         int file = open(path, O_RDWR | O_CREAT | O_EXCL | O_CLOEXEC, 0666);
         int left = file < 0 && errno == EEXIST;
         if (left)
-            file = open(path, O_RDWR | O_NOFOLLOW | O_CLOEXEC);
+            file = open(path, O_RDONLY | O_NOFOLLOW | O_CLOEXEC);
         if (file < 0 && left && errno == ENOENT)
             continue;
         if (file < 0)

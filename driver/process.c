@@ -1,3 +1,4 @@
+#define _DEFAULT_SOURCE
 #define _XOPEN_SOURCE 700
 #include "process.h"
 
@@ -10,8 +11,11 @@
 
 #define LINES_ROOM 65536
 
-/* What would end the program where it stands, and can be caught, SIGHUP aside. */
-static const int STOPS[] = {SIGINT, SIGTERM, SIGQUIT, SIGALRM, SIGUSR2, SIGVTALRM, SIGPROF, SIGXCPU};
+/* Signals that do not end the program, those that are dealt with on their own, and those of a fault in it: after these nothing it would
+ * do can be relied on, and what it leaves is taken away at the next start. */
+static const int OTHERS[] = {SIGKILL, SIGSTOP, SIGCHLD, SIGCONT, SIGTSTP, SIGTTIN, SIGTTOU, SIGURG, SIGWINCH,
+                             SIGHUP,  SIGUSR1, SIGPIPE, SIGXFSZ, SIGILL,  SIGTRAP, SIGABRT, SIGBUS, SIGFPE,
+                             SIGSEGV, SIGSYS};
 
 static volatile sig_atomic_t stop = 0;
 static volatile sig_atomic_t save = 0;
@@ -31,13 +35,23 @@ static void ask_save(int signal_number)
     save = 1;
 }
 
+/* Whether a signal would end the program where it stands. */
+static int is_stop(int number)
+{
+    for (size_t i = 0; i < sizeof OTHERS / sizeof OTHERS[0]; i++)
+        if (OTHERS[i] == number)
+            return 0;
+    return 1;
+}
+
 void catch_signals(void)
 {
     struct sigaction action, inherited;
     memset(&action, 0, sizeof action);
     action.sa_handler = ask_stop;
-    for (size_t i = 0; i < sizeof STOPS / sizeof STOPS[0]; i++)
-        sigaction(STOPS[i], &action, NULL);
+    for (int number = 1; number <= SIGRTMAX; number++)
+        if (is_stop(number))
+            sigaction(number, &action, NULL);
     /* nohup asks for a program that outlives its terminal. */
     sigaction(SIGHUP, NULL, &inherited);
     if (inherited.sa_handler != SIG_IGN)

@@ -33,11 +33,11 @@ static int hold(struct store *store)
     return 0;
 }
 
-/* Whether the file can be replaced, owner and all, is tried before any work is done. */
-static int try_file(const struct store *store)
+/* Whether a file can be replaced, owner and all, is tried before any work is done. */
+static int try_file(const char *name, const char *like)
 {
     struct whole trial = WHOLE_NONE;
-    int status = whole_begin(&trial, store->name);
+    int status = whole_begin_like(&trial, name, like);
     whole_end(&trial);
     return status;
 }
@@ -59,7 +59,8 @@ int store_open(struct store *store, const char *name, unsigned long slots)
     store->lock_file = -1;
     if (name_files(store) != 0)
         return 1;
-    if (!store->dry_run && (hold(store) != 0 || try_file(store) != 0))
+    if (!store->dry_run
+        && (hold(store) != 0 || try_file(name, name) != 0 || try_file(store->aged_name, name) != 0))
         return 1;
     if (table_read(&store->table, name, slots) != 0)
         return 1;

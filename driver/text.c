@@ -148,6 +148,12 @@ void json_number(struct text *to, const char *name, uint64_t number)
     text_number(to, number);
 }
 
+void json_truth(struct text *to, const char *name, int truth)
+{
+    name_put(to, name);
+    text_put(to, truth ? "true" : "false");
+}
+
 void json_hex(struct text *to, const char *name, uint64_t number, int digits)
 {
     json_quote(to, name);

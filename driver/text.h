@@ -30,6 +30,7 @@ void json_open(struct text *to, const char *name, const char *bracket);
 void json_close(struct text *to, const char *bracket);
 void json_words(struct text *to, const char *name, const char *words);
 void json_number(struct text *to, const char *name, uint64_t number);
+void json_truth(struct text *to, const char *name, int truth);
 void json_hex(struct text *to, const char *name, uint64_t number, int digits);
 void json_address(struct text *to, const char *name, uint64_t address);
 void json_label(struct text *to, unsigned kind, uint32_t label);
