@@ -1,7 +1,8 @@
 #!/bin/sh
 # Two drivers on a link between two network namespaces: learning, Compact Format and flush with real frames; what a driver keeps when it
-# is ended or its link goes; lost frames. `make lab` builds the driver first. Needs root and `ip` (Debian: apt-get install iproute2); status 77 where the lab cannot be built, 1 where it fails.
-# Makes and removes its own two namespaces only, and writes below target/lab only.
+# is ended or its link goes; lost frames. `make lab` builds the driver first. Needs root and `ip` (Debian: apt-get install iproute2);
+# status 77 where the lab cannot be built, 1 where it fails. Makes and removes its own two namespaces only, and writes below target/lab
+# only.
 # Settings are several words.
 # shellcheck disable=SC2086
 set -u

@@ -29,8 +29,8 @@ static void count(struct receiver *receiver, uint64_t answer)
     }
 }
 
-/* What an answer changed in the table. `slot` is the one that a delivered frame's source is in, or -1. Every other answer changes
- * nothing, by the library's contract. */
+/* What an answer changed in the table. Returns the slot that a delivered frame's source is in, or -1. Answers other than these two change
+ * nothing, by the library's contract, and are not searched for. */
 static int find_changes(struct receiver *receiver, uint64_t answer, uint64_t source, struct changes *changes)
 {
     const struct table *now = &receiver->store.table;
@@ -198,17 +198,21 @@ static void totals_put(struct text *to, const struct receiver *receiver)
         {" cleared), ", "cleared", receiver->cleared},
         {" other channel, ", "other_channel", receiver->other_channel},
         {" refused", "refused", sum(receiver->refused, REFUSALS + 1)},
-        {" lost", "lost", receiver->lost},
     };
-    size_t last = sizeof totals / sizeof totals[0] - 1;
-    for (size_t i = 0; i <= last - !receiver->is_live; i++) {
+    for (size_t i = 0; i < sizeof totals / sizeof totals[0]; i++) {
         if (to->json) {
             json_number(to, totals[i].name, totals[i].count);
             continue;
         }
-        text_put(to, i == last ? ", " : "");
         text_number(to, totals[i].count);
         text_put(to, totals[i].words);
+    }
+    if (receiver->is_live && to->json) {
+        json_number(to, "lost", receiver->lost);
+    } else if (receiver->is_live) {
+        text_put(to, ", ");
+        text_number(to, receiver->lost);
+        text_put(to, " lost");
     }
 }
 

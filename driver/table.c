@@ -17,7 +17,7 @@ int table_read(struct table *table, const char *name, unsigned long slots)
         return 0;
     }
     if (file == NULL && errno == ENOENT)
-        return bad_data("%s is not there; `receive` and `live` make it if --slots N is given", name);
+        return bad_data("%s is not there; `receive`, `live` and `set` make it if --slots N is given", name);
     if (file == NULL)
         return bad_data("%s cannot be opened: %s", name, strerror(errno));
     table->length = fread(table->bytes, 1, sizeof table->bytes, file);
