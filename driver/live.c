@@ -140,8 +140,7 @@ static int listen_on(struct live *live)
     pass_night(&live->receiver);
     listening_print(live);
     while (!is_over(live)) {
-        /* Who reads the capture on standard output waits for it. */
-        if (output_ready() != 0 || (is_standard(live->options->out) && whole_ready(&live->receiver.out) != 0))
+        if (receiver_flush(&live->receiver) != 0)
             return 1;
         interface_wait(&live->interface, WAIT_MILLISECONDS);
         pass_second(live);

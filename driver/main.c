@@ -1,5 +1,7 @@
 /* A port driver over the Shinglebar library. */
+#define _POSIX_C_SOURCE 200809L
 #include <stdio.h>
+#include <unistd.h>
 
 #include "commands.h"
 #include "path.h"
@@ -11,8 +13,8 @@ int main(int count, char **words)
 {
     static char lines[LINES_ROOM];
     struct options options;
-    /* A line is written out with others; a message brings out what came before it. */
-    setvbuf(stdout, lines, _IOFBF, sizeof lines);
+    /* A line is written out with others, but on a terminal; a message brings out what came before it. */
+    setvbuf(stdout, lines, isatty(STDOUT_FILENO) ? _IOLBF : _IOFBF, sizeof lines);
     int status = options_read(count, words, &options);
     if (status >= 0)
         return output_ready() != 0 ? 1 : status;

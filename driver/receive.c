@@ -18,6 +18,9 @@ static int run(struct receiver *receiver, struct capture_reader *reader, const s
             receiver_age(receiver, frame.seconds);
         if (receiver_take(receiver, &frame) != 0)
             return 1;
+        /* The next frame of a pipe may take its time. */
+        if (reader->size < 0 && receiver_flush(receiver) != 0)
+            return 1;
     }
     if (step == CAPTURE_BAD)
         return 1;

@@ -4,7 +4,7 @@
 
 #include "answer.h"
 #include "frame.h"
-#include "message.h"
+#include "path.h"
 #include "process.h"
 
 static void count(struct receiver *receiver, uint64_t answer)
@@ -239,6 +239,11 @@ void receiver_report(struct receiver *receiver)
         line_out(line);
     }
     table_print(line, &receiver->store.table, &receiver->options->audience);
+}
+
+int receiver_flush(struct receiver *receiver)
+{
+    return output_ready() != 0 || (is_standard(receiver->options->out) && whole_ready(&receiver->out) != 0);
 }
 
 int receiver_keep(struct receiver *receiver)

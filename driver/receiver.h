@@ -33,6 +33,9 @@ void receiver_age(struct receiver *receiver, uint64_t second);
 /* Passes a frame to the library, prints its line, and adds a delivered native frame to the output. 0, or 1 and said. */
 int receiver_take(struct receiver *receiver, const struct captured *frame);
 
+/* Brings out what has been printed, and a capture on standard output, for whoever waits for it. 0, or 1 and said. */
+int receiver_flush(struct receiver *receiver);
+
 /* Prints totals and table. */
 void receiver_report(struct receiver *receiver);
 

@@ -1,7 +1,7 @@
 //! The port driver (driver/*.c), compiled with the archive and run as a user runs it.
 
 use std::fs;
-use std::io::Write;
+use std::io::{BufRead, BufReader, Read, Write};
 use std::os::unix::fs::{chown, symlink, MetadataExt, PermissionsExt};
 use std::path::{Path, PathBuf};
 use std::process::{Child, Command, Output, Stdio};
@@ -1769,6 +1769,30 @@ fn a_dash_means_standard_input_and_output() {
     let output = shell_in(&folder, &line, &[]);
     assert!(output.status.success(), "{}", text(&output.stderr));
     assert!(output.stdout == bytes(&folder.join("large")));
+}
+
+#[test]
+fn the_line_of_a_frame_from_a_pipe_comes_before_the_next_frame() {
+    let folder = folder("prompt");
+    make_pipe(&folder.join("in"));
+    let mut driver = start_in(&folder, &receive_words("in"));
+    let mut pipe = open_pipe(&folder.join("in"));
+    let whole = captures::capture(USUAL, &frames("hall"));
+    let ends: Vec<usize> = (0..=2)
+        .map(|count| captures::capture(USUAL, &frames("hall")[..count]).len())
+        .collect();
+    let mut printed = BufReader::new(driver.stdout.take().expect("the lines"));
+    for (number, part) in [(1, &whole[..ends[1]]), (2, &whole[ends[1]..ends[2]])] {
+        pipe.write_all(part).expect("a frame");
+        let mut line = String::new();
+        printed.read_line(&mut line).expect("a line");
+        assert!(line.starts_with(&format!("frame {number}: ")), "{line}");
+    }
+    drop(pipe);
+    let mut rest = String::new();
+    printed.read_to_string(&mut rest).expect("the totals");
+    assert!(rest.starts_with("2 frames: 2 delivered "), "{rest}");
+    assert!(driver.wait().expect("the driver").success());
 }
 
 /// The same as `bad`, where lines stand before the message.
