@@ -46,7 +46,7 @@ static int change(struct store *store, unsigned slot, const uint8_t *bytes)
     struct change changed = {slot, record_read(old), record_read(at)};
     change_put(&line, &changed);
     line_out(&line);
-    if (output_ready() == 0 && store_ready(store) == 0 && store_replace(store) == 0)
+    if (output_ready() == 0 && store_save(store) == 0)
         return 0;
     return bad_data("%s stays as it was", store->name);
 }

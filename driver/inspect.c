@@ -74,7 +74,7 @@ static int age(struct store *store, const struct options *options)
     store->aged.second += options->by;
     aged_print(options->by, before - learned(&store->table), before);
     table_print(&line, &store->table, &options->audience);
-    if (output_ready() == 0 && store_ready(store) == 0 && store_replace(store) == 0)
+    if (output_ready() == 0 && store_save(store) == 0)
         return 0;
     return bad_data("%s stays as it was", options->table);
 }

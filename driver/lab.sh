@@ -201,11 +201,14 @@ expect "and what the driver held lies there" "$made/left.shinglebar-lock" "$(ls 
 
 fresh
 listen left asked --save 1000
-transmit left lab_to_left off --quiet
-await "$made/asked.log" "^frame 4:"
-expect "before it is asked nothing is written" "" "$(ls "$made"/left 2>/dev/null)"
 kill -USR1 "$started"
 await "$made/asked.log" "table saved"
+expect "SIGUSR1 writes a table in which nothing is learned yet" "112" "$(wc -c <"$made/left")"
+transmit left lab_to_left off --quiet
+await "$made/asked.log" "^frame 4:"
+expect "before it is asked again nothing is written" "" "$(records left)"
+kill -USR1 "$started"
+await_records left "$(four 1 1234)"
 expect "SIGUSR1 writes the table" "$(four 1 1234)" "$(records left)"
 transmit left lab_flush off --quiet
 await "$made/asked.log" "^frame 5:"
@@ -290,6 +293,16 @@ ended "$started"
 grep '^interface' "$made/link.log"
 expect "down twice, and up twice" "2 2" "$(count link ' down$') $(count link ' up again$')"
 expect "frames before, between and after counted" 1 "$(count link '^12 frames: 12 delivered (4 learned, 8 refreshed')"
+ip -n "$left" link set left0 down
+listen left late
+await "$made/late.log" "interface left0: .* down"
+ip -n "$left" link set left0 up
+await "$made/late.log" "interface left0: .* up again"
+transmit left lab_to_left off --quiet
+await "$made/late.log" "^frame 4:"
+kill -INT "$started"
+ended "$started"
+expect "a driver that starts before its link waits for it" 1 "$(count late '^4 frames: ')"
 said=$(ip netns exec "$left" "$port" live --interface lo --table "$made/left" --for 1 $left_settings 2>&1)
 expect "an interface that is not Ethernet is refused" \
     "1 shinglebar-port: interface lo is not Ethernet: its hardware type is 772 (loopback)" "$? $said"

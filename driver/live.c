@@ -110,6 +110,8 @@ static void save(struct live *live)
     if (!asked && now - live->saved < live->options->save)
         return;
     live->saved = now;
+    if (!asked && !store_is_changed(&live->receiver.store))
+        return;
     if (store_save(&live->receiver.store) == 0 && asked && !live->options->dry_run)
         state_print(live, "table saved");
 }
@@ -163,7 +165,7 @@ static int keep(struct live *live)
         bad_data("interface %s: %lu frames were lost before they were read", live->interface.name, receiver->lost);
         status = LOST_STATUS;
     }
-    if (store_ready(&receiver->store) != 0 || store_replace(&receiver->store) != 0)
+    if (store_save(&receiver->store) != 0)
         status = bad_data("%s stays as it was last written", receiver->store.name);
     if (whole_ready(&receiver->out) != 0 || whole_replace(&receiver->out) != 0)
         status = bad_data("%s is not written", live->options->out);

@@ -56,7 +56,9 @@ void catch_signals(void)
     sigaction(SIGHUP, NULL, &inherited);
     if (inherited.sa_handler != SIG_IGN)
         sigaction(SIGHUP, &action, NULL);
+    /* It asks nothing of a command that reads a capture, and must not break its reading off. */
     action.sa_handler = ask_save;
+    action.sa_flags = SA_RESTART;
     sigaction(SIGUSR1, &action, NULL);
     action.sa_handler = SIG_IGN;
     sigaction(SIGPIPE, &action, NULL);

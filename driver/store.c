@@ -93,10 +93,13 @@ int store_replace(struct store *store)
     return status;
 }
 
+int store_is_changed(const struct store *store)
+{
+    return aged_sum(&store->table) != store->saved.sum;
+}
+
 int store_save(struct store *store)
 {
-    if (aged_sum(&store->table) == store->saved.sum)
-        return 0;
     int status = store_ready(store) != 0 || store_replace(store) != 0;
     whole_end(&store->aged_file);
     whole_end(&store->file);

@@ -29,8 +29,11 @@ int store_open(struct store *store, const char *name, unsigned long slots);
 int store_ready(struct store *store);
 int store_replace(struct store *store);
 
-/* Both steps, if the table differs from the file. */
+/* Both steps. */
 int store_save(struct store *store);
+
+/* Whether the table differs from what was read or last saved. */
+int store_is_changed(const struct store *store);
 
 /* Lets go of the file. A store that was never opened is all zero. */
 void store_close(struct store *store);

@@ -1787,6 +1787,9 @@ fn the_line_of_a_frame_from_a_pipe_comes_before_the_next_frame() {
         let mut line = String::new();
         printed.read_line(&mut line).expect("a line");
         assert!(line.starts_with(&format!("frame {number}: ")), "{line}");
+        // a signal that asks `live` for a save breaks nothing off here
+        thread::sleep(Duration::from_millis(50));
+        signal(&driver, "USR1");
     }
     drop(pipe);
     let mut rest = String::new();
