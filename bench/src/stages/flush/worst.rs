@@ -65,8 +65,12 @@ const WORST: [Worst; 8] = [
     TYPE_4_LABELS,
     Worst {
         name: NONE_MEANT,
-        number: |random| any_fine(random) & !1,
-        record: |random, _| any_fine(random) | 1,
+        record: |random, numbers| loop {
+            let label = any_fine(random);
+            if !numbers.contains(&label) {
+                break label;
+            }
+        },
         ..TYPE_4_LABELS
     },
     Worst {

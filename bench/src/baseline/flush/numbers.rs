@@ -1,0 +1,120 @@
+//! Fine-grained labels and MACs as numbers: which records have one that a message names. The records are
+//! sorted, not the message; before that a filter drops those that cannot be meant.
+
+use super::bits::Bits;
+use super::left::Left;
+use super::sorted::Areas;
+use crate::baseline::record::Slot;
+
+/// What a message names, number by number.
+pub trait Named {
+    fn tell(&self, taker: &mut impl Taker);
+
+    /// Whether blocks are named.
+    fn has_blocks(&self) -> bool;
+
+    fn number_of(&self, slot: &Slot) -> u64;
+}
+
+/// Takes what a message names.
+pub trait Taker {
+    fn add(&mut self, number: u64);
+
+    /// From the first to the last; none if the last is below it.
+    fn add_block(&mut self, first: u64, last: u64);
+
+    /// A bit map whose highest bit is its start.
+    fn add_map(&mut self, start: u64, map: &[u8]);
+}
+
+/// Numbers that share a bit where blocks are named, by their width.
+pub const BLOCK_SHIFT: u32 = 8;
+/// A block that covers more bits than these fills the filter: it would take long to mark.
+const LONGEST_MARKED: u64 = 4096;
+
+/// A number whose bit is not set is not named. The bits are counted round.
+pub struct Filter {
+    bits: Bits,
+    /// Whether numbers share a bit; else each has one of its own.
+    blocks: bool,
+}
+
+impl Filter {
+    /// VLANs lie behind the numbers.
+    #[inline(always)]
+    pub fn of(named: &impl Named, vlans: &[u64]) -> Filter {
+        let mut filter = Filter {
+            bits: Bits::new(),
+            blocks: named.has_blocks(),
+        };
+        filter.bits.put_behind(vlans);
+        named.tell(&mut filter);
+        filter
+    }
+
+    /// The place of a number's bit.
+    #[inline(always)]
+    fn place(&self, number: u64) -> u64 {
+        if self.blocks {
+            number >> BLOCK_SHIFT
+        } else {
+            number
+        }
+    }
+
+    /// Whether a number with these low bits may be named.
+    #[inline(always)]
+    pub fn may_have(&self, low_bits: u32) -> bool {
+        self.bits.has(self.place(u64::from(low_bits)))
+    }
+
+    /// Whether a label with its kind may be named.
+    #[inline(always)]
+    pub fn may_have_label(&self, label: u32) -> bool {
+        let fine = Bits::round(self.place(u64::from(label)));
+        let vlan = Bits::COUNT + u64::from(label);
+        self.bits.has_at(if label < 0x1000 { vlan } else { fine })
+    }
+}
+
+impl Taker for Filter {
+    #[inline(always)]
+    fn add(&mut self, number: u64) {
+        self.bits.add(self.place(number));
+    }
+
+    #[inline(always)]
+    fn add_block(&mut self, first: u64, last: u64) {
+        if first > last {
+            return;
+        }
+        let (first, last) = (self.place(first), self.place(last));
+        if last - first < LONGEST_MARKED {
+            for place in first..=last {
+                self.bits.add(place);
+            }
+        } else {
+            self.bits.fill();
+        }
+    }
+
+    #[inline(always)]
+    fn add_map(&mut self, start: u64, map: &[u8]) {
+        if self.blocks {
+            self.add_block(start, start + 8 * map.len() as u64);
+        } else {
+            self.bits.add_map(start, map);
+        }
+    }
+}
+
+/// Keeps the slots whose number is named.
+#[inline(always)]
+pub fn keep(left: &mut Left, slots: &[Slot], named: &impl Named) {
+    if left.count() > 0 {
+        let mut areas = Areas::new();
+        let mut sorted = areas.sort(left, slots, |slot| named.number_of(slot));
+        named.tell(&mut sorted);
+        sorted.list_named(left);
+    }
+}
