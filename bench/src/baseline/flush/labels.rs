@@ -1,8 +1,9 @@
 //! The labels that a message names.
 
 use super::left::Left;
+use super::nicknames::Nicknames;
 use super::numbers::{self, Filter, Named, Taker};
-use super::payload::{Payload, FINE_BLOCKS, FINE_LIST, FINE_MAP};
+use super::payload::{Payload, FINE_BLOCKS, FINE_LIST, FINE_MAP, VLAN_BLOCKS, VLAN_MAP};
 use super::vlans::Vlans;
 use super::{learned, FEW};
 use crate::baseline::record::{Bits, Slot, FINE};
@@ -12,26 +13,58 @@ fn is_fine(label: u32) -> bool {
     label & !(FINE - 1) == FINE
 }
 
+/// Lists the slots from one on that have a nickname and whose record is learned and good, its label
+/// named.
+#[inline(always)]
+pub fn list(
+    nicknames: &impl Nicknames,
+    payload: &Payload,
+    slots: &[Slot],
+    first: usize,
+    left: &mut Left,
+) {
+    let vlans = Vlans::of(payload);
+    let label = |slot: &Slot| Bits::of(slot).learned_label();
+    if nicknames.are_over(FEW, slots, first) {
+        let filter = Filter::of(&Fine(payload), vlans.words());
+        let test = |slot: &Slot| filter.may_have_label(label(slot));
+        nicknames.list(slots, first, left, test);
+    } else {
+        nicknames.list(slots, first, left, |_| true);
+    }
+    keep_named(payload, &vlans, slots, left);
+}
+
 /// Keeps the slots whose record is learned and good, and its label named.
 #[inline(never)]
-pub fn keep(payload: &Payload, slots: &[Slot], left: &mut Left) {
-    let labels = Fine(payload);
-    let vlans = Vlans::of(payload);
-    if left.count() > FEW {
-        let filter = Filter::of(&labels, vlans.words());
-        left.keep(slots, |slot| {
-            filter.may_have_label(Bits::of(slot).learned_label())
-        });
-    }
-    let mut fine = Left::new();
-    fine.copy(left);
-    fine.keep(slots, |slot| learned(slot, is_fine));
-    left.keep(slots, |slot| learned(slot, |label| vlans.has(label)));
-    numbers::keep(&mut fine, slots, &labels);
-    for number in fine.slots() {
-        left.add_if(*number, true);
+fn keep_named(payload: &Payload, vlans: &Vlans, slots: &[Slot], left: &mut Left) {
+    if payload.has(&[VLAN_BLOCKS, VLAN_MAP]) {
+        let mut fine = Left::new();
+        fine.copy(left);
+        keep_fine(payload, slots, &mut fine);
+        left.keep(slots, |slot| learned(slot, |label| vlans.has(label)));
+        for number in fine.slots() {
+            left.add_if(*number, true);
+        }
+    } else {
+        keep_fine(payload, slots, left);
     }
 }
+
+/// Keeps the slots whose record is learned and good, and its label a fine-grained one that is named.
+fn keep_fine(payload: &Payload, slots: &[Slot], left: &mut Left) {
+    let labels = Fine(payload);
+    left.keep(slots, |slot| learned(slot, is_fine));
+    if left.count() > MANY && payload.has(&[FINE_MAP]) && !labels.has_blocks() {
+        let near = Filter::near(&labels);
+        left.keep(slots, |slot| near.may_have(Bits::of(slot).label()));
+    }
+    numbers::keep(left, slots, &labels);
+}
+
+/// More records than these are worth another filter: long maps set many bits of one that has a bit for
+/// each number.
+const MANY: usize = 1024;
 
 /// Fine-grained labels.
 struct Fine<'a>(&'a Payload<'a>);

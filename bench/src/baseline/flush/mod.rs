@@ -70,8 +70,7 @@ fn clear_of(nicknames: &impl Nicknames, payload: &Payload, slots: &mut [Slot]) -
         let test = |slot: &Slot| learned(slot, label_good);
         nicknames.list(slots, first, &mut left, test);
     } else if payload.has(&[FINE_BLOCKS, FINE_LIST, FINE_MAP]) {
-        nicknames.list(slots, first, &mut left, |_| true);
-        labels::keep(payload, slots, &mut left);
+        labels::list(nicknames, payload, slots, first, &mut left);
     } else {
         let vlans = Vlans::of(payload);
         let test = |slot: &Slot| learned(slot, |label| vlans.has(label));

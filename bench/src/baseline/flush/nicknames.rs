@@ -14,6 +14,13 @@ pub trait Nicknames {
         lowest(slots, |slot| self.has(slot), |_| true)
     }
 
+    /// Whether more slots than so many have, of those from one on.
+    #[inline(always)]
+    fn are_over(&self, most: usize, slots: &[Slot], from: usize) -> bool {
+        let mut having = slots[from..].iter().filter(|slot| self.has(slot));
+        having.nth(most).is_some()
+    }
+
     /// Lists the slots from one on that have, and pass a test.
     fn list(&self, slots: &[Slot], from: usize, left: &mut Left, test: impl Fn(&Slot) -> bool);
 }

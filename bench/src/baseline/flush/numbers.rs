@@ -52,6 +52,16 @@ impl Filter {
         filter
     }
 
+    /// A filter in which numbers share a bit, whatever is named.
+    pub fn near(named: &impl Named) -> Filter {
+        let mut filter = Filter {
+            bits: Bits::new(),
+            blocks: true,
+        };
+        named.tell(&mut filter);
+        filter
+    }
+
     /// The place of a number's bit.
     #[inline(always)]
     fn place(&self, number: u64) -> u64 {

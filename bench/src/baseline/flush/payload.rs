@@ -63,32 +63,42 @@ impl<'a> Payload<'a> {
     }
 }
 
+/// What an empty TLV of each type adds to the types.
+const EMPTY: [u16; 256] = {
+    let mut types = [0; 256];
+    types[ALL_LABELS as usize] = 1 << ALL_LABELS;
+    types[VLAN_MAP as usize] = CORRUPT;
+    types[FINE_MAP as usize] = CORRUPT;
+    types
+};
+
+/// A bit that is no type's: a map has no start.
+const CORRUPT: u16 = 1 << 15;
+
 /// The types of TLVs that name something. None if a TLV breaks the rule of its type.
 #[inline(never)]
-fn types(tlvs: &[u8]) -> Option<u16> {
+fn types(mut tlvs: &[u8]) -> Option<u16> {
     let mut types = 0;
-    let mut at = 0;
-    while at < tlvs.len() {
-        let [kind, length] = *tlvs.get(at..)?.first_chunk()?;
-        at += 2;
-        if length == 0 {
-            match kind {
-                VLAN_MAP | FINE_MAP => return None,
-                ALL_LABELS => types |= 1 << ALL_LABELS,
-                _ => {}
-            }
-            continue;
+    loop {
+        // The lengths of empty TLVs need not be known to find the next.
+        while let [kind, 0, rest @ ..] = tlvs {
+            types |= EMPTY[usize::from(*kind)];
+            tlvs = rest;
         }
-        at += usize::from(length);
-        if at > tlvs.len() || !length_good(kind, length) {
+        let [kind, length, rest @ ..] = tlvs else {
+            break;
+        };
+        tlvs = rest.get(usize::from(*length)..)?;
+        if !length_good(*kind, *length) {
             return None;
         }
-        if kind <= MAC_BLOCKS {
-            types |= 1 << kind;
-        }
+        types |= 1_u16.checked_shl(u32::from(*kind)).unwrap_or(0) & NAMING;
     }
-    Some(types)
+    (tlvs.is_empty() && types & CORRUPT == 0).then_some(types)
 }
+
+/// The types that name something, a bit each.
+const NAMING: u16 = (1 << (MAC_BLOCKS + 1)) - (1 << VLAN_BLOCKS);
 
 /// Whether a length other than 0 keeps the rule of the type.
 fn length_good(kind: u8, length: u8) -> bool {
