@@ -24,7 +24,7 @@ struct Pool {
 impl Pool {
     fn new(random: &mut Random, count: u64) -> Pool {
         let mask = random.pick(&[0xFF, 0xFFF, 0xF_F0FF, 0xFF_FFFF, u64::MAX]);
-        let mut numbers = |edges: &[u64], last: u64| -> Vec<u64> {
+        let mut numbers = |edges: &[u64], last: u64, count: u64| -> Vec<u64> {
             let count = random.between(1, count);
             let number = |random: &mut Random| match random.one_in(8) {
                 true => random.pick(edges),
@@ -33,10 +33,10 @@ impl Pool {
             (0..count).map(|_| number(random)).collect()
         };
         Pool {
-            vlans: numbers(&[0, 1, 0xFFE, 0xFFF], 0xFFF),
-            labels: numbers(&[0, 1, 0xFFF, 0x1_0000, 0xFF_FFFE, 0xFF_FFFF], 0xFF_FFFF),
-            macs: numbers(&[0, 0xFEFF_FFFF_FFFF], (1 << 48) - 1),
-            nicknames: numbers(&[0, 1, 0xFFBF, 0xFFC0, 0xFFFF], 0xFFFF),
+            vlans: numbers(&[0, 1, 0xFFE, 0xFFF], 0xFFF, count),
+            labels: numbers(&FINE_EDGES, 0xFF_FFFF, count),
+            macs: numbers(&[0, 0xFEFF_FFFF_FFFF], (1 << 48) - 1, count),
+            nicknames: numbers(&[0, 1, 0xFFBF, 0xFFC0, 0xFFFF], 0xFFFF, NICKNAMES),
         }
     }
 
@@ -54,6 +54,9 @@ impl Pool {
 }
 
 const GROUP: u64 = 1 << 40;
+const FINE_EDGES: [u64; 6] = [0, 1, 0xFFF, 0x1_0000, 0xFF_FFFE, 0xFF_FFFF];
+/// The nicknames of a case are few, so that many records have one that is meant.
+const NICKNAMES: u64 = 4;
 
 /// One of the numbers, or one some way before or behind it.
 fn near(random: &mut Random, numbers: &[u64], last: u64) -> u64 {
@@ -155,7 +158,10 @@ fn payload(random: &mut Random, pool: &Pool, length: u64) -> Vec<u8> {
         } else {
             random.pick(&kinds)
         };
-        let value = value(random, pool, kind);
+        let value = match random.one_in(500) {
+            true => Vec::new(),
+            false => value(random, pool, kind),
+        };
         bytes.extend([kind, value.len() as u8]);
         bytes.extend(value);
     }
