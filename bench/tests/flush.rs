@@ -58,7 +58,7 @@ const FINE_EDGES: [u64; 6] = [0, 1, 0xFFF, 0x1_0000, 0xFF_FFFE, 0xFF_FFFF];
 /// The nicknames of a case are few, so that many records have one that is meant.
 const NICKNAMES: u64 = 4;
 
-/// One of the numbers, or one some way before or behind it.
+/// One of the numbers, or one some way before or after it.
 fn near(random: &mut Random, numbers: &[u64], last: u64) -> u64 {
     let number = random.pick(numbers);
     let reach = random.pick(&[1, 16, 300, 70_000]);

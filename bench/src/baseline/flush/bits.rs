@@ -1,10 +1,10 @@
-//! Sets of bits. A word's highest bit is its lowest place, as in the bit maps of a message.
+//! Sets of bits. A word's highest bit has its lowest index, as in the bit maps of a message.
 
 use super::vlans::VLAN_WORDS;
 
 const WORDS: usize = 1024;
 
-/// 65,536 bits, counted round, and behind them as many as there are VLANs.
+/// 65,536 bits, counted round, and after them one for each VLAN.
 pub struct Bits([u64; WORDS + VLAN_WORDS]);
 
 impl Bits {
@@ -15,7 +15,7 @@ impl Bits {
         Bits([0; WORDS + VLAN_WORDS])
     }
 
-    pub fn put_behind(&mut self, words: &[u64]) {
+    pub fn put_after(&mut self, words: &[u64]) {
         self.0[WORDS..][..words.len()].copy_from_slice(words);
     }
 
@@ -23,26 +23,26 @@ impl Bits {
         self.0[..WORDS].fill(!0);
     }
 
-    pub fn round(place: u64) -> u64 {
-        place % Bits::COUNT
+    pub fn round(index: u64) -> u64 {
+        index % Bits::COUNT
     }
 
     #[inline(always)]
-    pub fn add(&mut self, place: u64) {
-        self.0[(place >> 6) as usize % WORDS] |= 1 << (!place & 63);
+    pub fn add(&mut self, index: u64) {
+        self.0[(index >> 6) as usize % WORDS] |= 1 << (!index & 63);
     }
 
     #[inline(always)]
-    pub fn has(&self, place: u64) -> bool {
-        self.has_at(Bits::round(place))
+    pub fn has(&self, index: u64) -> bool {
+        self.has_index(Bits::round(index))
     }
 
-    /// Whether the bit at a place is set; it may be one behind.
+    /// Whether the bit of an index is set, which may be that of a VLAN.
     #[inline(always)]
-    pub fn has_at(&self, place: u64) -> bool {
-        // SAFETY: no place is behind the last.
-        let word = unsafe { self.0.get_unchecked((place >> 6) as usize) };
-        word >> (!place & 63) & 1 != 0
+    pub fn has_index(&self, index: u64) -> bool {
+        // SAFETY: no index is past the last.
+        let word = unsafe { self.0.get_unchecked((index >> 6) as usize) };
+        word >> (!index & 63) & 1 != 0
     }
 
     pub fn add_map(&mut self, start: u64, map: &[u8]) {
@@ -55,12 +55,12 @@ impl Bits {
 pub fn add_map(start: u64, map: &[u8], mut add: impl FnMut(usize, u64)) {
     let (word, shift) = ((start >> 6) as usize, start & 63);
     let (eights, rest) = map.as_chunks::<8>();
-    let mut put = |place: usize, bits: u64| {
-        add(word + place, bits >> shift);
-        add(word + place + 1, bits << 1 << (63 - shift));
+    let mut put = |offset: usize, bits: u64| {
+        add(word + offset, bits >> shift);
+        add(word + offset + 1, bits << 1 << (63 - shift));
     };
-    for (place, bytes) in eights.iter().enumerate() {
-        put(place, u64::from_be_bytes(*bytes));
+    for (offset, bytes) in eights.iter().enumerate() {
+        put(offset, u64::from_be_bytes(*bytes));
     }
     if !rest.is_empty() {
         let bytes = rest.iter().rev();

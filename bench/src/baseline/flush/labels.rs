@@ -2,7 +2,7 @@
 
 use super::left::Left;
 use super::nicknames::Nicknames;
-use super::numbers::{self, Filter, Named, Taker};
+use super::numbers::{self, Filter, Numbers, Visitor};
 use super::payload::{Payload, FINE_BLOCKS, FINE_LIST, FINE_MAP, VLAN_BLOCKS, VLAN_MAP};
 use super::vlans::Vlans;
 use super::{learned, FEW};
@@ -69,24 +69,24 @@ const MANY: usize = 1024;
 /// Fine-grained labels.
 struct Fine<'a>(&'a Payload<'a>);
 
-impl Named for Fine<'_> {
+impl Numbers for Fine<'_> {
     #[inline(always)]
-    fn tell(&self, taker: &mut impl Taker) {
+    fn visit(&self, visitor: &mut impl Visitor) {
         for (kind, value) in self.0.tlvs() {
             match kind {
                 FINE_BLOCKS => {
                     for [start, end] in value.as_chunks().0.as_chunks().0 {
-                        taker.add_block(three(start), three(end));
+                        visitor.add_block(three(start), three(end));
                     }
                 }
                 FINE_LIST => {
                     for label in value.as_chunks().0 {
-                        taker.add(three(label));
+                        visitor.add(three(label));
                     }
                 }
                 FINE_MAP => {
                     if let Some((start, map)) = value.split_first_chunk() {
-                        taker.add_map(three(start), map);
+                        visitor.add_map(three(start), map);
                     }
                 }
                 _ => {}

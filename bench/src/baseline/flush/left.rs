@@ -8,7 +8,7 @@ type Numbers = [MaybeUninit<u16>; MOST_SLOTS];
 
 /// Slot numbers, as many as a table has at most. Whether one stays is added to the count, not branched
 /// on: no mix of records makes it hard to predict. What stays goes into another area, since a store to
-/// the one that is read holds up the loads behind it.
+/// the one that is read holds up the loads after it.
 pub struct Left {
     areas: [Numbers; 2],
     /// The area of the list.

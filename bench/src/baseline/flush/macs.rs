@@ -1,7 +1,7 @@
 //! The MACs that a message names.
 
 use super::left::Left;
-use super::numbers::{self, Filter, Named, Taker};
+use super::numbers::{self, Filter, Numbers, Visitor};
 use super::payload::{Payload, MAC_BLOCKS, MAC_LIST};
 use super::FEW;
 use crate::baseline::record::{Bits, Slot};
@@ -36,19 +36,19 @@ fn keep_named(payload: &Payload, slots: &[Slot], left: &mut Left) {
 
 struct Macs<'a>(&'a Payload<'a>);
 
-impl Named for Macs<'_> {
+impl Numbers for Macs<'_> {
     #[inline(always)]
-    fn tell(&self, taker: &mut impl Taker) {
+    fn visit(&self, visitor: &mut impl Visitor) {
         for (kind, value) in self.0.tlvs() {
             match kind {
                 MAC_LIST => {
                     for mac in value.as_chunks().0 {
-                        taker.add(six(mac));
+                        visitor.add(six(mac));
                     }
                 }
                 MAC_BLOCKS => {
                     for [start, end] in value.as_chunks().0.as_chunks().0 {
-                        taker.add_block(six(start), six(end));
+                        visitor.add_block(six(start), six(end));
                     }
                 }
                 _ => {}

@@ -6,9 +6,9 @@ use super::left::Left;
 use super::sorted::Areas;
 use crate::baseline::record::Slot;
 
-/// What a message names, number by number.
-pub trait Named {
-    fn tell(&self, taker: &mut impl Taker);
+/// The numbers that a message names.
+pub trait Numbers {
+    fn visit(&self, visitor: &mut impl Visitor);
 
     /// Whether blocks are named.
     fn has_blocks(&self) -> bool;
@@ -16,8 +16,8 @@ pub trait Named {
     fn number_of(&self, slot: &Slot) -> u64;
 }
 
-/// Takes what a message names.
-pub trait Taker {
+/// Takes the numbers one after the other.
+pub trait Visitor {
     fn add(&mut self, number: u64);
 
     /// From the first to the last; none if the last is below it.
@@ -40,31 +40,31 @@ pub struct Filter {
 }
 
 impl Filter {
-    /// VLANs lie behind the numbers.
+    /// The words of VLANs lie after those of the numbers.
     #[inline(always)]
-    pub fn of(named: &impl Named, vlans: &[u64]) -> Filter {
+    pub fn of(numbers: &impl Numbers, vlans: &[u64]) -> Filter {
         let mut filter = Filter {
             bits: Bits::new(),
-            blocks: named.has_blocks(),
+            blocks: numbers.has_blocks(),
         };
-        filter.bits.put_behind(vlans);
-        named.tell(&mut filter);
+        filter.bits.put_after(vlans);
+        numbers.visit(&mut filter);
         filter
     }
 
     /// A filter in which numbers share a bit, whatever is named.
-    pub fn near(named: &impl Named) -> Filter {
+    pub fn near(numbers: &impl Numbers) -> Filter {
         let mut filter = Filter {
             bits: Bits::new(),
             blocks: true,
         };
-        named.tell(&mut filter);
+        numbers.visit(&mut filter);
         filter
     }
 
-    /// The place of a number's bit.
+    /// The index of a number's bit.
     #[inline(always)]
-    fn place(&self, number: u64) -> u64 {
+    fn index(&self, number: u64) -> u64 {
         if self.blocks {
             number >> BLOCK_SHIFT
         } else {
@@ -75,22 +75,23 @@ impl Filter {
     /// Whether a number with these low bits may be named.
     #[inline(always)]
     pub fn may_have(&self, low_bits: u32) -> bool {
-        self.bits.has(self.place(u64::from(low_bits)))
+        self.bits.has(self.index(u64::from(low_bits)))
     }
 
     /// Whether a label with its kind may be named.
     #[inline(always)]
     pub fn may_have_label(&self, label: u32) -> bool {
-        let fine = Bits::round(self.place(u64::from(label)));
+        let fine = Bits::round(self.index(u64::from(label)));
         let vlan = Bits::COUNT + u64::from(label);
-        self.bits.has_at(if label < 0x1000 { vlan } else { fine })
+        self.bits
+            .has_index(if label < 0x1000 { vlan } else { fine })
     }
 }
 
-impl Taker for Filter {
+impl Visitor for Filter {
     #[inline(always)]
     fn add(&mut self, number: u64) {
-        self.bits.add(self.place(number));
+        self.bits.add(self.index(number));
     }
 
     #[inline(always)]
@@ -98,10 +99,10 @@ impl Taker for Filter {
         if first > last {
             return;
         }
-        let (first, last) = (self.place(first), self.place(last));
+        let (first, last) = (self.index(first), self.index(last));
         if last - first < LONGEST_MARKED {
-            for place in first..=last {
-                self.bits.add(place);
+            for index in first..=last {
+                self.bits.add(index);
             }
         } else {
             self.bits.fill();
@@ -120,11 +121,11 @@ impl Taker for Filter {
 
 /// Keeps the slots whose number is named.
 #[inline(always)]
-pub fn keep(left: &mut Left, slots: &[Slot], named: &impl Named) {
+pub fn keep(left: &mut Left, slots: &[Slot], numbers: &impl Numbers) {
     if left.count() > 0 {
         let mut areas = Areas::new();
-        let mut sorted = areas.sort(left, slots, |slot| named.number_of(slot));
-        named.tell(&mut sorted);
+        let mut sorted = areas.sort(left, slots, |slot| numbers.number_of(slot));
+        numbers.visit(&mut sorted);
         sorted.list_named(left);
     }
 }

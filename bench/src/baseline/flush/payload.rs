@@ -55,9 +55,9 @@ impl<'a> Payload<'a> {
     pub fn tlvs(&self) -> impl Iterator<Item = (u8, &'a [u8])> {
         let mut rest = self.tlvs;
         std::iter::from_fn(move || {
-            let ([kind, length], behind) = rest.split_first_chunk()?;
-            let (value, behind) = behind.split_at_checked(usize::from(*length))?;
-            rest = behind;
+            let ([kind, length], after) = rest.split_first_chunk()?;
+            let (value, after) = after.split_at_checked(usize::from(*length))?;
+            rest = after;
             Some((*kind, value))
         })
     }

@@ -5,7 +5,7 @@ use super::payload::{Payload, VLAN_BLOCKS, VLAN_MAP};
 
 /// The words of 4,096 VLANs.
 pub const VLAN_WORDS: usize = 64;
-/// And those that the longest map from the highest reaches behind them.
+/// And those that the longest map from the highest reaches after them.
 const WORDS: usize = VLAN_WORDS + 33;
 
 /// A set of good VLANs.

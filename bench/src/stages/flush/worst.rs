@@ -14,7 +14,7 @@ const LENGTH: usize = 9_000;
 /// The lengths of the messages along a curve.
 const LENGTHS: [usize; 5] = [100, 300, 1_000, 3_000, LENGTH];
 
-/// The bytes of the longest bit map of type 5, behind its start.
+/// The bytes of the longest bit map of type 5, after its start.
 const LONGEST_MAP: usize = 252;
 
 const EMPTY_TLVS: &str = "flush, worst: 9,000 bytes of empty unknown TLVs, type 6";
@@ -33,7 +33,7 @@ struct Worst {
     /// The number of a record, given those of the message.
     record: fn(&mut Random, &[u64]) -> u64,
     /// Gives a number to an entry, as its label or its address.
-    place: fn(&mut Entry, u64),
+    set: fn(&mut Entry, u64),
 }
 
 const NONE_MEANT: &str = "flush, worst: 9,000 bytes of type 4 labels, none meant";
@@ -45,7 +45,7 @@ const TYPE_4_LABELS: Worst = Worst {
     element: |number| fine(number as u32).to_vec(),
     elements: 85,
     record: |random, numbers| one_in_eight(random, numbers, any_fine),
-    place: place_fine,
+    set: set_fine,
 };
 
 /// VLANs of the upper half; most records are of the lower.
@@ -56,7 +56,7 @@ const TYPE_1_BLOCKS: Worst = Worst {
     element: |number| vlan_blocks(&[(number as u16, number as u16 + 3)]),
     elements: 63,
     record: |random, numbers| one_in_eight(random, numbers, |random| random.between(0x001, 0x7FF)),
-    place: |entry, number| entry.label = Label::Vlan(number as u16),
+    set: |entry, number| entry.label = Label::Vlan(number as u16),
 };
 
 /// But for type 4 labels of which none is meant, each means one record in eight or so by what its type
@@ -80,7 +80,7 @@ const WORST: [Worst; 8] = [
         element: |number| [fine(number as u32), fine(number as u32 + 0xF)].concat(),
         elements: 42,
         record: |random, numbers| one_in_eight(random, numbers, low_fine),
-        place: place_fine,
+        set: set_fine,
     },
     Worst {
         name: "flush, worst: 9,000 bytes of type 7 MACs with type 6",
@@ -89,7 +89,7 @@ const WORST: [Worst; 8] = [
         element: |number| address(number).to_vec(),
         elements: 42,
         record: |random, numbers| one_in_eight(random, numbers, mac),
-        place: place_mac,
+        set: set_mac,
     },
     Worst {
         name: "flush, worst: 9,000 bytes of type 8 blocks with type 6",
@@ -98,7 +98,7 @@ const WORST: [Worst; 8] = [
         element: |number| [address(number), address(number | 0xFF)].concat(),
         elements: 21,
         record: |random, numbers| one_in_eight(random, numbers, mac),
-        place: place_mac,
+        set: set_mac,
     },
     Worst {
         name: "flush, worst: 9,000 bytes of one-byte type 5 maps",
@@ -107,7 +107,7 @@ const WORST: [Worst; 8] = [
         element: |number| [&fine(number as u32)[..], &[0xA5]].concat(),
         elements: 1,
         record: |random, numbers| one_in_eight(random, numbers, low_fine),
-        place: place_fine,
+        set: set_fine,
     },
     // Half of the bits are set, and one record in four is under a map.
     Worst {
@@ -121,7 +121,7 @@ const WORST: [Worst; 8] = [
             let start = one_in(random, 4, numbers, any_fine);
             (start + random.between(0, bits - 1)).min(0xFF_FFFF)
         },
-        place: place_fine,
+        set: set_fine,
     },
     TYPE_1_BLOCKS,
 ];
@@ -130,7 +130,7 @@ fn any_fine(random: &mut Random) -> u64 {
     random.between(0, 0xFF_FFFF)
 }
 
-/// A label with room for a block or map behind it.
+/// A label with room for a block or map after it.
 fn low_fine(random: &mut Random) -> u64 {
     random.between(0, 0xFF_0000)
 }
@@ -153,11 +153,11 @@ fn one_in(random: &mut Random, count: u64, numbers: &[u64], other: fn(&mut Rando
     }
 }
 
-fn place_fine(entry: &mut Entry, number: u64) {
+fn set_fine(entry: &mut Entry, number: u64) {
     entry.label = Label::Fine(number as u32);
 }
 
-fn place_mac(entry: &mut Entry, number: u64) {
+fn set_mac(entry: &mut Entry, number: u64) {
     entry.mac = number;
 }
 
@@ -197,7 +197,7 @@ impl Worst {
         let mut entries = entries(&mut random);
         for entry in &mut entries {
             entry.nickname = INGRESS;
-            (self.place)(entry, (self.record)(&mut random, &numbers));
+            (self.set)(entry, (self.record)(&mut random, &numbers));
         }
         (tlvs, entries)
     }
@@ -222,7 +222,7 @@ impl Worst {
     }
 }
 
-/// Empty TLVs of unknown types and a type 6 behind them, which means every label; and the records, every
+/// Empty TLVs of unknown types and a type 6 after them, which means every label; and the records, every
 /// one meant by its nickname.
 fn empty_tlvs() -> (Vec<Tlv>, Vec<Entry>) {
     let mut random = Random::new(8);
