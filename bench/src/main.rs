@@ -33,5 +33,6 @@ fn main() {
             fs::write(&file, text).unwrap_or_else(|error| panic!("{}: {error}", file.display()));
             println!("written: docs/{name}");
         }
+        println!("\nThe rows of README.md:\n\n{}", report.readme_table());
     }
 }

@@ -9,6 +9,18 @@ use crate::measure::{time, Areas, Lent, Pair, Samples, LONG};
 /// What the ratio of an ordinary row should not exceed.
 pub const TARGET: f64 = 1.2;
 
+/// The rows that README.md shows.
+const README_ROWS: [&str; 8] = [
+    "lookup: hit at the last of 4,096",
+    "age: 4,096 learned, seconds left",
+    "flush: one VLAN block",
+    "flush: 8 nicknames, 20 mixed TLVs",
+    "receive: General, 64 bytes, source at the last slot",
+    "receive: General, 1,500 bytes, source at slot 0",
+    "compact: from 1,500 bytes",
+    "expand: to 1,500 bytes",
+];
+
 /// What grows along a curve.
 #[derive(Clone, Copy, PartialEq, Eq, PartialOrd, Ord)]
 pub enum Axis {
@@ -207,6 +219,24 @@ impl Report {
             ordinary().count(),
             ordinary().filter(|row| row.meets()).count()
         );
+        text
+    }
+
+    /// The table of README.md, of the rows that there are.
+    pub fn readme_table(&self) -> String {
+        let mut text = String::from(
+            "| case | ours, ns a call | hand-written | ratio |\n|---|---:|---:|---:|\n",
+        );
+        let rows = self.rows();
+        for row in rows
+            .iter()
+            .filter(|row| README_ROWS.contains(&&row.name[..]))
+        {
+            let Times { ours, baseline } = row.times;
+            let [ours, baseline] = [ours, baseline].map(nanoseconds);
+            let (name, ratio) = (&row.name, row.times.ratio());
+            let _ = writeln!(text, "| {name} | {ours} | {baseline} | {ratio:.2} |");
+        }
         text
     }
 
