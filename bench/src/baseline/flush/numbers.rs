@@ -30,13 +30,14 @@ pub trait Visitor {
 /// Numbers that share a bit where blocks are named, by their width.
 pub const BLOCK_SHIFT: u32 = 8;
 /// A block that covers more bits than these fills the filter: it would take long to mark.
-const LONGEST_MARKED: u64 = 4096;
+const LONGEST_MARKED: u64 = 64;
 
 /// A number whose bit is not set is not named. The bits are counted round.
 pub struct Filter {
     bits: Bits,
     /// Whether numbers share a bit; else each has one of its own.
     blocks: bool,
+    full: bool,
 }
 
 impl Filter {
@@ -46,6 +47,7 @@ impl Filter {
         let mut filter = Filter {
             bits: Bits::new(),
             blocks: numbers.has_blocks(),
+            full: false,
         };
         filter.bits.put_after(vlans);
         numbers.visit(&mut filter);
@@ -57,6 +59,7 @@ impl Filter {
         let mut filter = Filter {
             bits: Bits::new(),
             blocks: true,
+            full: false,
         };
         numbers.visit(&mut filter);
         filter
@@ -96,7 +99,7 @@ impl Visitor for Filter {
 
     #[inline(always)]
     fn add_block(&mut self, first: u64, last: u64) {
-        if first > last {
+        if self.full || first > last {
             return;
         }
         let (first, last) = (self.index(first), self.index(last));
@@ -106,6 +109,7 @@ impl Visitor for Filter {
             }
         } else {
             self.bits.fill();
+            self.full = true;
         }
     }
 
