@@ -40,8 +40,7 @@ impl Bits {
     /// Whether the bit of an index is set, which may be that of a VLAN.
     #[inline(always)]
     pub fn has_index(&self, index: u64) -> bool {
-        // SAFETY: no index is past the last.
-        let word = unsafe { self.0.get_unchecked((index >> 6) as usize) };
+        let word = self.0[(index >> 6) as usize];
         word >> (!index & 63) & 1 != 0
     }
 
