@@ -1,23 +1,24 @@
 -- What a record holds, by its number: the laws by which code decides from some of the bits, and by which crates above speak of a slot
 -- without its layout.
 -- Assumes nothing.
-use Prim.Native.Nat.{ℕ, _^_, _<_, _≤_}
+use Prim.Native.Nat.{ℕ, _-_, _%_, _^_, _<_, _≤_}
 use mathlib.Core.Bool.{Bool, true, false, not, _&&_, _||_}
 use mathlib.Core.List.{List}
 use mathlib.Core.Path.{_≡_, refl, sym, ap, _∙_}
 use native.Mathlib.Decide.{ℕ-discrete, decLt}
 use native.Mathlib.Omega.{arith}
 use lib.Dec.{eqb}
-use lib.ListN.{take}
-use lib.Seq.{take-take}
+use lib.ListN.{take, drop}
+use lib.Seq.{take-take, take-at}
 use borrow.Author.Tests.{le-leb, ne-eqb, eqb-true}
 use Rattle.numbers.specs.Tests.{pick, both, between}
 use Rattle.numbers.specs.Ranges.{individual, groupBit, vlanGood, lastAddress, lastFine}
-use Rattle.numbers.specs.Bytes.{num}
-use Rattle.numbers.proofs.Truth.{and-both, not-true-false, both-true, both-left, both-right, pick-false, between-is, between-below, between-above}
-use Rattle.table.specs.Record.{recordBytes, recordOf, stateOf, kindOf, labelOf, macOf, learnedState, configuredState, labelFrom, labelGood, entryOf, entryGood, held, slotOf, unpacked, isFree, isSpoilt, isLearned, sameLabel, entryMatches, slotMatches}
-use Rattle.table.specs.Slots.{slotBytes}
-use Rattle.table.specs.Table.{holds, spoiltSlot}
+use Rattle.numbers.specs.Bytes.{num, bytesOf}
+use Rattle.numbers.proofs.Bytes.{length-bytesOf, num-bytesOf}
+use Rattle.numbers.proofs.Truth.{both-pass, and-both, not-true-false, both-true, both-left, both-right, pick-false, between-is, between-below, between-above}
+use Rattle.table.specs.Record.{recordBytes, recordOf, stateOf, kindOf, labelOf, macOf, secondsOf, learnedState, configuredState, labelFrom, labelGood, entryOf, entryGood, held, slotOf, unpacked, isFree, isSpoilt, isLearned, sameLabel, entryMatches, slotMatches}
+use Rattle.table.specs.Slots.{slotBytes, freed}
+use Rattle.table.specs.Table.{holds, lessSeconds, spoiltSlot}
 use Rattle.table.specs.Learning.{freeSlot}
 use Rattle.table.specs.declared.Label.{Label}
 use Rattle.table.specs.declared.Label.the-variants.{Vlan, Fine}
@@ -233,3 +234,43 @@ holds-fits k x m r hk h =
     let label = p .label in
     let mac = p .mac in
     omega arith
+
+-- a slot that is freed holds none
+pub unpacked-freed : unpacked freed ≡ Free
+unfolding unpacked slotOf num bytesOf pick
+unpacked-freed = refl
+
+pub freed-holds : (l : Label) (m : ℕ) → holds l m freed ≡ false
+unfolding holds
+freed-holds l m = ap (slotMatches l m) unpacked-freed
+
+-- ---- fewer seconds: the label and the MAC lie above them
+
+module _ (l : Label) (m : ℕ) where
+  matches-entry : (n : ℕ) → slotMatches l m (slotOf n) ≡ true → entryMatches l m (entryOf n) ≡ true
+  matches-entry n h = both-true _ _ (sym (matches-is l m n) ∙ h) .1
+
+  learned-matches : (n : ℕ) → isLearned (slotOf n) ≡ true → entryMatches l m (entryOf n) ≡ true → slotMatches l m (slotOf n) ≡ true
+  learned-matches n h k =
+      let p = both-true _ _ (sym (learned-is n) ∙ h) in
+      matches-is l m n ∙ both-pass _ _ (both-pass _ _ (state-decides n (p .0) .1) (p .1)) k
+
+  entry-less : (n s : ℕ) → s < secondsOf n → entryMatches l m (entryOf ((n - s) % 256 ^ recordBytes)) ≡ entryMatches l m (entryOf n)
+  unfolding entryMatches entryOf
+  entry-less n s h =
+      let w : ℕ = (n - s) % 256 ^ recordBytes in
+      let kind : kindOf w ≡ kindOf n = omega arith in
+      let label : labelOf w ≡ labelOf n = omega arith in
+      let mac : macOf w ≡ macOf n = omega arith in
+      rw (kind, label, mac)
+
+record-less : (s : ℕ) (r : List ℕ) → recordOf (lessSeconds s r) ≡ (recordOf r - s) % 256 ^ recordBytes
+record-less s r =
+    ap num (take-at (bytesOf recordBytes (recordOf r - s)) (drop recordBytes r) recordBytes (length-bytesOf recordBytes (recordOf r - s)))
+    ∙ num-bytesOf recordBytes (recordOf r - s)
+
+pub less-holds : (l : Label) (m s : ℕ) (r : List ℕ) → isLearned (unpacked r) ≡ true → s < secondsOf (recordOf r) → holds l m (lessSeconds s r) ≡ true → holds l m r ≡ true
+unfolding holds unpacked
+less-holds l m s r learned more h =
+    let e = matches-entry l m ((recordOf r - s) % 256 ^ recordBytes) (rw (record-less s r) at h) in
+    learned-matches l m (recordOf r) learned (sym (entry-less l m (recordOf r) s more) ∙ e)
