@@ -2,7 +2,8 @@
 ghost use Prim.Native.Nat.{_+_, _^_, _<_, _≤_};
 ghost use mathlib.Core.Path.{_≡_};
 ghost use lib.ListN.{length, drop};
-ghost use Rattle.table.specs.Record.{recordBytes, recordOf, macOf, labelFrom};
+ghost use Rattle.table.specs.Record.{recordOf, macOf, labelFrom};
+ghost use Rattle.table.specs.Slots.{slotBytes};
 ghost use Rattle.table.specs.Table.{holds};
 ghost use Rattle.table_fields.specs.Keys.{keyOf};
 ghost use Rattle.table_pairs.specs.Pairs.{pairGood, Pair};
@@ -31,7 +32,7 @@ pub fn pair_good(kind: u64, label: u64, mac: u64) -> bool
 // Whether the record at an offset of the table holds a label and an address, where their key is the record's: what is left to compare is
 // its first eight bytes, learned or configured, and three bits of the address.
 fn holds_keyed(t: &[u8], at: usize, kind: u64, label: u64, mac: u64) -> bool
-    requires { ⌜ (at + recordBytes ≤ length (now t)) × ((keyOf (macOf (recordOf (drop at (now t)))) ≡ keyOf mac) × Pair kind label mac) ⌝ }
+    requires { ⌜ (at + slotBytes ≤ length (now t)) × ((keyOf (macOf (recordOf (drop at (now t)))) ≡ keyOf mac) × Pair kind label mac) ⌝ }
     ensures { λ r. ⌜ r ≡ holds (labelFrom kind label) mac (drop at (now (t .entry))) ⌝ }
 {
     let rest = (kind * LABELS + label) * HEAD_LABEL + mac / TAIL_MACS;
@@ -48,7 +49,7 @@ fn holds_keyed(t: &[u8], at: usize, kind: u64, label: u64, mac: u64) -> bool
 
 // Whether the record holds a label and an address, whose key is given.
 pub fn holds_at(t: &[u8], at: usize, key: u64, kind: u64, label: u64, mac: u64) -> bool
-    requires { ⌜ (at + recordBytes ≤ length (now t)) × ((key ≡ keyOf mac) × Pair kind label mac) ⌝ }
+    requires { ⌜ (at + slotBytes ≤ length (now t)) × ((key ≡ keyOf mac) × Pair kind label mac) ⌝ }
     ensures { λ r. ⌜ r ≡ holds (labelFrom kind label) mac (drop at (now (t .entry))) ⌝ }
 {
     if table_fields::key_at(t, at) != key {

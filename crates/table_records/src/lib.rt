@@ -123,7 +123,7 @@ fn held_or_spoilt(b: RecordBits) -> Slot
 
 // What the record at an offset of the table holds.
 pub fn unpack(t: &[u8], at: usize) -> Slot
-    requires { ⌜ at + recordBytes ≤ length (now t) ⌝ }
+    requires { ⌜ at + slotBytes ≤ length (now t) ⌝ }
     ensures { λ r. ⌜ r ≡ unpacked (drop at (now (t .entry))) ⌝ }
 {
     let b = bits_at(t, at);
@@ -135,7 +135,7 @@ pub fn unpack(t: &[u8], at: usize) -> Slot
 
 // The same of a record that is known to be learned or configured: only its state is tested.
 pub fn unpack_held(t: &[u8], at: usize) -> Slot
-    requires { ⌜ (at + recordBytes ≤ length (now t)) × IsHeld (drop at (now t)) ⌝ }
+    requires { ⌜ (at + slotBytes ≤ length (now t)) × IsHeld (drop at (now t)) ⌝ }
     ensures { λ r. ⌜ r ≡ unpacked (drop at (now (t .entry))) ⌝ }
 {
     let b = bits_at(t, at);

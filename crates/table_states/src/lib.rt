@@ -5,6 +5,7 @@ ghost use lib.ListN.{length, drop};
 ghost use Rattle.numbers.specs.Ranges.{nicknameGood};
 ghost use Rattle.table.specs.Learning.{freeSlot};
 ghost use Rattle.table.specs.Record.{recordBytes, recordOf, nicknameOf, entryOf, entryGood, unpacked, isLearned};
+ghost use Rattle.table.specs.Slots.{slotBytes};
 ghost use Rattle.table.specs.Table.{spoiltSlot};
 use numbers::FIRST_VLAN;
 use numbers::LAST_NICKNAME;
@@ -74,7 +75,7 @@ pub fn good_at(t: &[u8], at: usize) -> bool
 
 // Whether the record is learned. The test of the state excludes VLAN 0 as well.
 pub fn learned_at(t: &[u8], at: usize) -> bool
-    requires { ⌜ at + recordBytes ≤ length (now t) ⌝ }
+    requires { ⌜ at + slotBytes ≤ length (now t) ⌝ }
     ensures { λ r. ⌜ r ≡ isLearned (unpacked (drop at (now (t .entry)))) ⌝ }
 {
     let front = table_fields::front_at(t, at);
@@ -86,7 +87,7 @@ pub fn learned_at(t: &[u8], at: usize) -> bool
 
 // Whether the record is spoilt. The same test excludes the learned VLAN 0, which is spoilt.
 pub fn spoilt_at(t: &[u8], at: usize) -> bool
-    requires { ⌜ at + recordBytes ≤ length (now t) ⌝ }
+    requires { ⌜ at + slotBytes ≤ length (now t) ⌝ }
     ensures { λ r. ⌜ r ≡ spoiltSlot (drop at (now (t .entry))) ⌝ }
 {
     let front = table_fields::front_at(t, at);
@@ -101,7 +102,7 @@ pub fn spoilt_at(t: &[u8], at: usize) -> bool
 
 // Whether the record is free.
 pub fn free_at(t: &[u8], at: usize) -> bool
-    requires { ⌜ at + recordBytes ≤ length (now t) ⌝ }
+    requires { ⌜ at + slotBytes ≤ length (now t) ⌝ }
     ensures { λ r. ⌜ r ≡ freeSlot (drop at (now (t .entry))) ⌝ }
 {
     if table_fields::front_at(t, at) != 0 {
