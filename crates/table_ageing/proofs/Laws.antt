@@ -8,16 +8,15 @@ use native.Mathlib.Decide.{ℕ-discrete}
 use native.Mathlib.Nat.{zero-add, add-sub-cancel-left}
 use native.Mathlib.Omega.{arith}
 use lib.ListN.{length, take, drop, length-take, length-drop, take-append-drop}
-use borrow.Author.Tests.{le-leb, lt-leb}
+use lib.Dec.{leb}
 use Rattle.numbers.specs.Tests.{pick}
 use Rattle.numbers.specs.Result.{check, settled}
 use Rattle.numbers.specs.After.{onTable}
-use Rattle.numbers.proofs.Lists.{part-suffix}
 use Rattle.table.specs.Record.{recordOf, stateOf, learnedState, secondsOf, unpacked, isLearned}
 use Rattle.table.specs.Slots.{slotBytes, tableGood, slotsOf, slotAt, freed, onSlots}
 use Rattle.table.specs.Table.{agedSlot, lessSeconds, aged}
 use Rattle.table.specs.declared.AgeAnswer.the-variants as age
-use Rattle.table.proofs.Slots.{drop-onSlots, on-step}
+use Rattle.table.proofs.Slots.{on-step}
 use Rattle.table.proofs.Unique.{aged-keeps}
 use Rattle.table_rounds.specs.Rounds.{InState, Passed}
 use Rattle.table.proofs.Contents.{record-near, unpacked-near, other-than-learned}
@@ -30,14 +29,14 @@ module _ (s : ℕ) (r : List ℕ) where
   age-other : (stateOf (recordOf r) ≡ learnedState → ⊥) → r ≡ agedSlot s r
   age-other h = age-kept false (other-than-learned r h) refl
 
-  module _ (learned : isLearned (unpacked r) ≡ true) (w : ℕ) (is : w ≡ secondsOf (recordOf r)) where
-    pub age-freed : w ≤ s → freed ≡ agedSlot s r
+  module _ (learned : isLearned (unpacked r) ≡ true) (out : Bool) (is : out ≡ leb (secondsOf (recordOf r)) s) where
+    pub age-freed : out ≡ true → freed ≡ agedSlot s r
     unfolding agedSlot pick
-    age-freed few = rw (learned, le-leb (secondsOf (recordOf r)) s (omega arith))
+    age-freed h = rw (learned, ← is, h)
 
-    pub age-less : s < w → lessSeconds s r ≡ agedSlot s r
+    pub age-less : out ≡ false → (u : List ℕ) → u ≡ pick (leb (secondsOf (recordOf r)) s) r (lessSeconds s r) → u ≡ agedSlot s r
     unfolding agedSlot pick
-    age-less more = rw (learned, lt-leb (secondsOf (recordOf r)) s (omega arith))
+    age-less h u e = e ∙ rw (learned, ← is, h)
 
 -- ---- slot after slot, with slot i lent as `&mut t[a..e]`, a = slotBytes * i, e = a + slotBytes
 
@@ -53,13 +52,6 @@ module _ (s : ℕ) (t u : List ℕ) (i : ℕ) (so-far : u ≡ onSlots (agedSlot 
   aged-at a e h r f =
       let g : r ≡ agedSlot s (take (slotBytes * i + slotBytes - slotBytes * i) (drop (slotBytes * i) u)) = rw e at f in
       rw e (on-step (agedSlot s) (aged-keeps s) t 0 i i (omega arith) (omega arith) u so-far r g)
-
-  -- the slots that are not reached are as they were
-  unreached : (k : ℕ) → i ≤ k → slotBytes * i ≤ length t → drop (slotBytes * k) u ≡ drop (slotBytes * k) t
-  unreached k h l =
-      part-suffix u (slotBytes * k) (slotBytes * i) (omega arith)
-      ∙ ap (drop (slotBytes * k - slotBytes * i)) (rw so-far (rw (zero-add i) at (drop-onSlots (agedSlot s) (aged-keeps s) t 0 i (omega arith))))
-      ∙ sym (part-suffix t (slotBytes * k) (slotBytes * i) (omega arith))
 
   -- slots that stay as they are
   kept : (j : ℕ) → i ≤ j → slotBytes * j ≤ length t → ((k : ℕ) → i ≤ k → k < j → slotAt k u ≡ agedSlot s (slotAt k u)) → u ≡ onSlots (agedSlot s) 0 j t

@@ -19,16 +19,13 @@ fn age_slot(slot: &mut [u8], s: u16)
     requires { ⌜ (length (now slot) ≡ slotBytes) × (isLearned (unpacked (now slot)) ≡ true) ⌝ }
     ensures { λ _. ⌜ now (slot .exit) ≡ agedSlot s (now (slot .entry)) ⌝ }
 {
-    let by = s as u64;
-    if table_fields::seconds_at(slot, 0) <= by {
+    if table_fields::subtract_seconds(slot, s as u64) {
         table_records::clear(slot);
-        return;
     }
-    table_fields::subtract_seconds(slot, by);
 }
 
 // The lowest offset of a slot from an offset on in whose round of four some slot has the state of a learned one, or that is one of the
-// last three. Offsets and short rounds, where `table_rounds::next_sought` has slots and long ones: learned slots are many.
+// last three. Offsets and short rounds, where `table_rounds` has slots and long ones: learned slots are many.
 fn next_learned(t: &[u8], from: usize) -> usize
     requires { ⌜ (from % slotBytes ≡ 0) × (from ≤ length (now t)) ⌝ }
     ensures { λ r. ⌜ (r % slotBytes ≡ 0) × ((from ≤ r) × ((r ≤ length (now (t .entry))) × Passed (InState learnedState) (from / slotBytes) (r / slotBytes) (now (t .entry)))) ⌝ }

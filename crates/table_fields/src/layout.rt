@@ -81,4 +81,6 @@ pub const KEY_OFFSET: usize = 8;
 
 pub const NEXT_KEY_OFFSET: usize = 7;
 
+pub const KEYS: u64 = 0x100;
+
 pub const NICKNAME_MIDDLE_OFFSET: usize = 10;

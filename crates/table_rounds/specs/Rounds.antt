@@ -7,8 +7,6 @@ use lib.ListN.{drop}
 use Rattle.table.specs.Record.{recordOf, stateOf, macOf}
 use Rattle.table.specs.Slots.{slotBytes}
 use Rattle.table_fields.specs.Keys.{roundKeyOf}
-use Rattle.table_rounds.specs.declared.Sought.{Sought}
-use Rattle.table_rounds.specs.declared.Sought.the-variants.{Key, State}
 
 -- a slot with this key of a round; a slot with these state bits, good or not
 abbrev pub Keyed : ℕ → List ℕ → Type 0
@@ -16,10 +14,6 @@ Keyed key r = roundKeyOf (macOf (recordOf r)) ≡ key
 
 abbrev pub InState : ℕ → List ℕ → Type 0
 InState state r = stateOf (recordOf r) ≡ state
-
-abbrev pub IsSought : Sought → List ℕ → Type 0
-IsSought (Key key) r = Keyed key r
-IsSought (State state) r = InState state r
 
 -- the bytes of four slots
 abbrev pub fourSlots : ℕ

@@ -4,7 +4,7 @@ ghost use mathlib.Core.Path.{_≡_};
 ghost use mathlib.Core.Bool.{true};
 ghost use lib.ListN.{length};
 ghost use Rattle.table.specs.Slots.{slotsOf};
-ghost use Rattle.table_rounds.specs.Rounds.{Keyed, InState, IsSought, fourSlots, NoneOfFour, Passed};
+ghost use Rattle.table_rounds.specs.Rounds.{Keyed, InState, fourSlots, NoneOfFour, Passed};
 use table::SLOT_BYTES;
 
 // The bytes of several slots, and the slots of a round.
@@ -15,12 +15,6 @@ const THREE_SLOTS: usize = 3 * SLOT_BYTES;
 pub const FOUR_SLOTS: usize = 4 * SLOT_BYTES;
 
 const ROUND: usize = 8;
-
-// What a round looks for: a key of two bytes, or state bits.
-pub enum Sought {
-    Key(u64),
-    State(u64),
-}
 
 // Whether none of the four slots at an offset has a key.
 fn none_keyed(t: &[u8], at: usize, key: u64) -> bool
@@ -47,30 +41,39 @@ pub fn none_in_state(t: &[u8], at: usize, state: u64) -> bool
     (d & c) & (b & a)
 }
 
-fn none_of_four(t: &[u8], at: usize, sought: Sought) -> bool
-    requires { ⌜ at + fourSlots ≤ length (now t) ⌝ }
-    ensures { λ r. ⌜ (r ≡ true → NoneOfFour (IsSought sought) at (now (t .entry))) ⌝ }
-{
-    match sought {
-        Sought::Key(key) => none_keyed(t, at, key),
-        Sought::State(state) => none_in_state(t, at, state),
-    }
-}
-
-// The lowest slot from a slot on in whose round some slot is sought, or that is one of those after the last whole round.
-pub fn next_sought(t: &[u8], from: usize, sought: Sought) -> usize
+// The lowest slot from a slot on in whose round some slot has a key, or that is one of those after the last whole round.
+pub fn next_keyed(t: &[u8], from: usize, key: u64) -> usize
     requires { ⌜ from ≤ slotsOf (now t) ⌝ }
-    ensures { λ r. ⌜ (from ≤ r) × ((r ≤ slotsOf (now (t .entry))) × Passed (IsSought sought) from r (now (t .entry))) ⌝ }
+    ensures { λ r. ⌜ (from ≤ r) × ((r ≤ slotsOf (now (t .entry))) × Passed (Keyed key) from r (now (t .entry))) ⌝ }
 {
     let n = t.len() / SLOT_BYTES;
     let mut i = from;
     while ROUND <= n - i {
-        let low = none_of_four(t, SLOT_BYTES * i, sought);
-        let high = none_of_four(t, SLOT_BYTES * i + FOUR_SLOTS, sought);
+        let low = none_keyed(t, SLOT_BYTES * i, key);
+        let high = none_keyed(t, SLOT_BYTES * i + FOUR_SLOTS, key);
         if !(low & high) {
             return i;
         }
         i += ROUND;
     }
     i
+}
+
+// The same for a state. Two loops: as one over an enum of the two tests it is not inlined, and a lookup in few slots takes 1.8 times as
+// long.
+pub fn next_in_state(t: &[u8], from: usize, state: u64) -> usize
+    requires { ⌜ from ≤ slotsOf (now t) ⌝ }
+    ensures { λ r. ⌜ (from ≤ r) × ((r ≤ slotsOf (now (t .entry))) × Passed (InState state) from r (now (t .entry))) ⌝ }
+{
+    let n = t.len() / SLOT_BYTES;
+    let mut k = from;
+    while ROUND <= n - k {
+        let low = none_in_state(t, SLOT_BYTES * k, state);
+        let high = none_in_state(t, SLOT_BYTES * k + FOUR_SLOTS, state);
+        if !(low & high) {
+            return k;
+        }
+        k += ROUND;
+    }
+    k
 }

@@ -13,11 +13,11 @@ use numbers::LAST_ADDRESS;
 use numbers::LAST_FINE;
 use numbers::refusals::TABLE_LENGTH_BAD;
 use table::FINE_KIND;
+use table::FREE_STATE;
 use table::LookupAnswer;
 use table::Place;
 use table::SLOT_BYTES;
 use table::SpoiltAnswer;
-use table_rounds::Sought;
 
 // The lowest slot with a label and an address, whose key is given, where slot 0 does not hold them.
 fn find_after(t: &[u8], key: u64, kind: u64, label: u64, mac: u64) -> Place
@@ -31,7 +31,7 @@ fn find_after(t: &[u8], key: u64, kind: u64, label: u64, mac: u64) -> Place
         if table_pairs::holds_at(t, SLOT_BYTES * i, key, kind, label, mac) {
             return Place::At(i);
         }
-        i = table_rounds::next_sought(t, i + 1, Sought::Key(round_key));
+        i = table_rounds::next_keyed(t, i + 1, round_key);
     }
     Place::Nowhere
 }
@@ -64,7 +64,7 @@ pub fn find_free(t: &[u8]) -> Place
         if table_states::free_at(t, SLOT_BYTES * j) {
             return Place::At(j);
         }
-        j = table_rounds::next_sought(t, j + 1, Sought::State(0));
+        j = table_rounds::next_in_state(t, j + 1, FREE_STATE);
     }
     Place::Nowhere
 }

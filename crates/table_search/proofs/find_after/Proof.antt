@@ -40,7 +40,7 @@ loop-again c =
     let a = start .args in
     let at = c .before .before .before .before .loop in
     let here = search-next (holds (labelFrom (a .kind) (a .label)) (a .mac)) (holds-near (labelFrom (a .kind) (a .label)) (a .mac)) (a .t .now) (at .i) (at .inv .1) _ (c .before .before .holds-at .ensures) (c .before .if1 .left) in
-    (search needs, search-past (a .kind) (a .label) (a .mac) _ (start .pre .1 .1 .0 .kind-small) (c .before .before .before .before .before .round-key-of .ensures) (a .t .now) (at .i + 1) _ (c .next-sought .ensures .0) (c .next-sought .ensures .1 .1) here)
+    (search needs, search-past (a .kind) (a .label) (a .mac) _ (start .pre .1 .1 .0 .kind-small) (c .before .before .before .before .before .round-key-of .ensures) (a .t .now) (at .i + 1) _ (c .next-keyed .ensures .0) (c .next-keyed .ensures .1 .1) here)
 
 returns-2 : tie.Need-returns-2 Inv-loop μ-loop
 returns-2 c =

@@ -33,7 +33,7 @@ loop-again c =
     let a = c .before .before .before .before .before .before .args in
     let at = c .before .before .before .before .loop in
     let here = search-next freeSlot free-near (a .t .now) (at .j) (at .inv .1) _ (c .before .before .free-at .ensures) (c .before .if1 .left) in
-    (search needs, free-past (a .t .now) (at .j + 1) _ (c .next-sought .ensures .0) (c .next-sought .ensures .1 .1) here)
+    (search needs, free-past (a .t .now) (at .j + 1) _ (c .next-in-state .ensures .0) (c .next-in-state .ensures .1 .1) here)
 
 returns-2 : tie.Need-returns-2 Inv-loop μ-loop
 returns-2 c =
