@@ -10,16 +10,12 @@ ghost use Rattle.table_pairs.specs.Pairs.{pairGood, Pair};
 use table::CONFIGURED_STATE;
 use table::FINE_KIND;
 use table::LEARNED_STATE;
-use table_fields::layout::HEAD_LABEL;
-use table_fields::layout::HEAD_STATE;
-use table_fields::layout::LABELS;
-use table_fields::layout::LOWS;
-use table_fields::layout::TAIL_MACS;
+use table_fields::layout;
 
 // The state in a record's first eight bytes.
-const LEARNED_HEAD: u64 = LEARNED_STATE * HEAD_STATE;
+const LEARNED_HEAD: u64 = LEARNED_STATE * layout::HEAD_STATE;
 
-const CONFIGURED_HEAD: u64 = CONFIGURED_STATE * HEAD_STATE;
+const CONFIGURED_HEAD: u64 = CONFIGURED_STATE * layout::HEAD_STATE;
 
 // Whether a good record can hold a label and an address.
 pub fn pair_good(kind: u64, label: u64, mac: u64) -> bool
@@ -35,13 +31,13 @@ fn holds_keyed(t: &[u8], at: usize, kind: u64, label: u64, mac: u64) -> bool
     requires { ⌜ (at + slotBytes ≤ length (now t)) × ((keyOf (macOf (recordOf (drop at (now t)))) ≡ keyOf mac) × Pair kind label mac) ⌝ }
     ensures { λ r. ⌜ r ≡ holds (labelFrom kind label) mac (drop at (now (t .entry))) ⌝ }
 {
-    let rest = (kind * LABELS + label) * HEAD_LABEL + mac / TAIL_MACS;
+    let rest = (kind * layout::LABELS + label) * layout::HEAD_LABEL + mac / layout::TAIL_MACS;
     let head = table_fields::head_at(t, at);
     let held = (head == rest + LEARNED_HEAD) | (head == rest + CONFIGURED_HEAD);
     if !held {
         return false;
     }
-    if table_fields::mac_low_at(t, at) != mac % LOWS {
+    if table_fields::mac_low_at(t, at) != mac % layout::LOWS {
         return false;
     }
     numbers::nickname_good(table_fields::nickname_at(t, at))

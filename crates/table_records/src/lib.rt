@@ -18,20 +18,7 @@ use table::RECORD_BYTES;
 use table::SLOT_BYTES;
 use table::Slot;
 use table::VLAN_KIND;
-use table_fields::layout::CONFIDENCES;
-use table_fields::layout::HEAD_GROUP;
-use table_fields::layout::HEAD_KIND;
-use table_fields::layout::HEAD_LABEL;
-use table_fields::layout::HEAD_STATE;
-use table_fields::layout::KINDS;
-use table_fields::layout::LABELS;
-use table_fields::layout::NICKNAMES;
-use table_fields::layout::SECONDS;
-use table_fields::layout::TAIL_CONFIDENCE;
-use table_fields::layout::TAIL_MAC;
-use table_fields::layout::TAIL_MACS;
-use table_fields::layout::TAIL_NICKNAME;
-use table_fields::layout::TAIL_OFFSET;
+use table_fields::layout;
 
 // A record's number in two parts: that of its first eight bytes and that of its last six.
 pub struct RecordBits {
@@ -46,7 +33,7 @@ fn bits_at(t: &[u8], at: usize) -> RecordBits
 {
     RecordBits {
         high: numbers::be8(t, at),
-        low: numbers::be6(t, at + TAIL_OFFSET),
+        low: numbers::be6(t, at + layout::TAIL_OFFSET),
     }
 }
 
@@ -62,10 +49,10 @@ fn entry_good(b: RecordBits) -> bool
     requires { ⌜ BitsFit b ⌝ }
     ensures { λ r. ⌜ r ≡ entryGood (entryOf (numberOf b)) ⌝ }
 {
-    let fine = b.high / HEAD_KIND % KINDS == FINE_KIND;
-    let vlan = numbers::vlan_good(b.high / HEAD_LABEL % LABELS);
-    let individual = b.high / HEAD_GROUP % 2 == 0;
-    let nickname = numbers::nickname_good(b.low / TAIL_NICKNAME % NICKNAMES);
+    let fine = b.high / layout::HEAD_KIND % layout::KINDS == FINE_KIND;
+    let vlan = numbers::vlan_good(b.high / layout::HEAD_LABEL % layout::LABELS);
+    let individual = b.high / layout::HEAD_GROUP % 2 == 0;
+    let nickname = numbers::nickname_good(b.low / layout::TAIL_NICKNAME % layout::NICKNAMES);
     (fine | vlan) & (individual & nickname)
 }
 
@@ -74,15 +61,15 @@ fn state_of(b: RecordBits) -> u64
     requires { ⌜ BitsFit b ⌝ }
     ensures { λ r. ⌜ r ≡ stateOf (numberOf b) ⌝ }
 {
-    b.high / HEAD_STATE
+    b.high / layout::HEAD_STATE
 }
 
 fn label_of(b: RecordBits) -> Label
     requires { ⌜ BitsFit b × (entryGood (entryOf (numberOf b)) ≡ true) ⌝ }
     ensures { λ r. ⌜ r ≡ entryOf (numberOf b) .label ⌝ }
 {
-    let x = b.high / HEAD_LABEL % LABELS;
-    if b.high / HEAD_KIND % KINDS == VLAN_KIND {
+    let x = b.high / layout::HEAD_LABEL % layout::LABELS;
+    if b.high / layout::HEAD_KIND % layout::KINDS == VLAN_KIND {
         Label::Vlan(x as u16)
     } else {
         Label::Fine(x as u32)
@@ -96,10 +83,10 @@ fn entry_of(b: RecordBits) -> Entry
 {
     Entry {
         label: label_of(b),
-        mac: b.high % HEAD_LABEL * TAIL_MACS + b.low / TAIL_MAC,
-        nickname: (b.low / TAIL_NICKNAME % NICKNAMES) as u16,
-        confidence: (b.low / TAIL_CONFIDENCE % CONFIDENCES) as u8,
-        seconds: (b.low % SECONDS) as u16,
+        mac: b.high % layout::HEAD_LABEL * layout::TAIL_MACS + b.low / layout::TAIL_MAC,
+        nickname: (b.low / layout::TAIL_NICKNAME % layout::NICKNAMES) as u16,
+        confidence: (b.low / layout::TAIL_CONFIDENCE % layout::CONFIDENCES) as u8,
+        seconds: (b.low % layout::SECONDS) as u16,
     }
 }
 
@@ -173,10 +160,12 @@ fn bits_of(e: Entry) -> RecordBits
     let kind = kind_number(l);
     let label = label_number(l);
     RecordBits {
-        high: ((LEARNED_STATE * KINDS + kind) * LABELS + label) * HEAD_LABEL + e.mac / TAIL_MACS,
-        low: ((e.mac % TAIL_MACS * NICKNAMES + e.nickname as u64) * CONFIDENCES
+        high: ((LEARNED_STATE * layout::KINDS + kind) * layout::LABELS + label) * layout::HEAD_LABEL
+            + e.mac / layout::TAIL_MACS,
+        low: ((e.mac % layout::TAIL_MACS * layout::NICKNAMES + e.nickname as u64)
+            * layout::CONFIDENCES
             + e.confidence as u64)
-            * SECONDS
+            * layout::SECONDS
             + e.seconds as u64,
     }
 }
@@ -187,8 +176,8 @@ fn write(b: RecordBits, slot: &mut [u8])
 {
     let high = b.high;
     let low = b.low;
-    numbers::fill8(&mut slot[0..TAIL_OFFSET], high);
-    numbers::fill6(&mut slot[TAIL_OFFSET..RECORD_BYTES], low);
+    numbers::fill8(&mut slot[0..layout::TAIL_OFFSET], high);
+    numbers::fill6(&mut slot[layout::TAIL_OFFSET..RECORD_BYTES], low);
 }
 
 // Writes the record of a learned entry to a slot.

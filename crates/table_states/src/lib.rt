@@ -12,27 +12,24 @@ use numbers::LAST_NICKNAME;
 use numbers::LAST_VLAN;
 use table::CONFIGURED_STATE;
 use table::LEARNED_STATE;
-use table_fields::layout::FRONT_KIND;
-use table_fields::layout::FRONT_LABEL;
-use table_fields::layout::FRONT_STATE;
-use table_fields::layout::LOWS;
+use table_fields::layout;
 
 // The fronts of records without the state: the first that is no VLAN 0, the first VLAN that is too high, the last of a VLAN.
-const FIRST_FRONT: u64 = FIRST_VLAN * FRONT_LABEL;
+const FIRST_FRONT: u64 = FIRST_VLAN * layout::FRONT_LABEL;
 
-const HIGH_FRONT: u64 = (LAST_VLAN + 1) * FRONT_LABEL;
+const HIGH_FRONT: u64 = (LAST_VLAN + 1) * layout::FRONT_LABEL;
 
-const LAST_VLAN_FRONT: u64 = FRONT_KIND - 1;
+const LAST_VLAN_FRONT: u64 = layout::FRONT_KIND - 1;
 
 // With the state: the first of a learned record that is no VLAN 0, the last of a learned record, the last of a configured one.
-const FIRST_LEARNED: u64 = LEARNED_STATE * FRONT_STATE + FIRST_FRONT;
+const FIRST_LEARNED: u64 = LEARNED_STATE * layout::FRONT_STATE + FIRST_FRONT;
 
-const LAST_LEARNED: u64 = (LEARNED_STATE + 1) * FRONT_STATE - 1;
+const LAST_LEARNED: u64 = (LEARNED_STATE + 1) * layout::FRONT_STATE - 1;
 
-const LAST_CONFIGURED: u64 = (CONFIGURED_STATE + 1) * FRONT_STATE - 1;
+const LAST_CONFIGURED: u64 = (CONFIGURED_STATE + 1) * layout::FRONT_STATE - 1;
 
 // The last nickname without its low bits.
-const LAST_HIGH: u64 = LAST_NICKNAME / LOWS;
+const LAST_HIGH: u64 = LAST_NICKNAME / layout::LOWS;
 
 // Whether the nickname is good. Its high bits decide, but for 0 to 7.
 fn nickname_good_at(t: &[u8], at: usize) -> bool
@@ -70,7 +67,7 @@ pub fn good_at(t: &[u8], at: usize) -> bool
     requires { ⌜ at + recordBytes ≤ length (now t) ⌝ }
     ensures { λ r. ⌜ r ≡ entryGood (entryOf (recordOf (drop at (now (t .entry))))) ⌝ }
 {
-    good_by_front(t, at, table_fields::front_at(t, at) % FRONT_STATE)
+    good_by_front(t, at, table_fields::front_at(t, at) % layout::FRONT_STATE)
 }
 
 // Whether the record is learned. The test of the state excludes VLAN 0 as well.
@@ -82,7 +79,7 @@ pub fn learned_at(t: &[u8], at: usize) -> bool
     if !((FIRST_LEARNED <= front) & (front <= LAST_LEARNED)) {
         return false;
     }
-    good_by_front(t, at, front - FRONT_STATE)
+    good_by_front(t, at, front - layout::FRONT_STATE)
 }
 
 // Whether the record is spoilt. The same test excludes the learned VLAN 0, which is spoilt.
@@ -92,7 +89,7 @@ pub fn spoilt_at(t: &[u8], at: usize) -> bool
 {
     let front = table_fields::front_at(t, at);
     if (FIRST_LEARNED <= front) & (front <= LAST_CONFIGURED) {
-        return !good_by_front(t, at, front % FRONT_STATE);
+        return !good_by_front(t, at, front % layout::FRONT_STATE);
     }
     if front != 0 {
         return true;
