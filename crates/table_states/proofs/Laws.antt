@@ -8,7 +8,7 @@ use native.Mathlib.Omega.{arith}
 use lib.Dec.{leb, eqb}
 use borrow.Author.Tests.{le-leb, eq-eqb, ne-eqb, eqb-true, eqb-false, not-false}
 use Rattle.numbers.specs.Tests.{both, pick, between}
-use Rattle.numbers.specs.Ranges.{individual, groupBit, nicknameGood, firstVlan, lastVlan, vlanGood}
+use Rattle.numbers.specs.Ranges.{individual, groupBit, nicknameGood, lastNickname, firstVlan, lastVlan, vlanGood}
 use Rattle.numbers.proofs.Truth.{and-both, not-true-false, both-true, both-left, both-right, between-in, between-is, between-below, between-above}
 use Rattle.table.specs.Record.{stateOf, kindOf, labelOf, macOf, nicknameOf, learnedState, configuredState, labelFrom, labelGood, entryOf, entryGood, slotOf, isLearned, isSpoilt, isFree}
 use Rattle.table.proofs.Contents.{label-test, individual-test, free-is, learned-is, spoilt-is}
@@ -33,10 +33,7 @@ lastLearned = (learnedState + 1) * 2 ^ 30 - 1
 abbrev lastConfigured : ℕ
 lastConfigured = (configuredState + 1) * 2 ^ 30 - 1
 
--- the last nickname, and the same without its low bits
-abbrev lastNickname : ℕ
-lastNickname = 0xFFBF
-
+-- the last nickname without its low bits
 abbrev lastHigh : ℕ
 lastHigh = lastNickname / 2 ^ 3
 
