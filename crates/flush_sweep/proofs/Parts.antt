@@ -21,8 +21,8 @@ use Rattle.table.specs.Slots.{slotBytes}
 use Rattle.table.specs.declared.Slot.{Slot}
 use Rattle.table.specs.declared.Slot.the-variants.{Free, Spoilt, Learned, Configured}
 use Rattle.table.proofs.Slots.{Local}
-use Rattle.table_records.specs.Halves.{heldOrSpoilt}
-use Rattle.table_records.proofs.Laws.{free-state, learned-state, slot-held, entry-bad, state-learned}
+use Rattle.table.proofs.Contents.{heldOrSpoilt}
+use Rattle.table.proofs.Contents.{free-state, learned-state, slot-held, entry-bad, state-learned}
 use Rattle.flush.specs.Payload.{everyType, Piece, Payload}
 use Rattle.flush.specs.Meaning.{nicknameMeant, labelMeant, macMeant, entryMeant}
 use Rattle.flush.specs.Flush.{heldMeant, slotMeant, clearedBy}

@@ -17,7 +17,7 @@ fn learned_bits(t: &[u8], at: usize) -> bool
     requires { ⌜ at + recordBytes ≤ length (now t) ⌝ }
     ensures { λ b. ⌜ b ≡ eqb (stateOf (recordOf (drop at (now (t .entry))))) learnedState ⌝ }
 {
-    table_records::state_at(t, at) == 1
+    table_fields::state_at(t, at) == 1
 }
 
 // Whether the slot at a place may be meant, by a set of nicknames. One byte of the set tells most slots, so it is looked at first.
@@ -124,7 +124,7 @@ fn rest_meant(
     ) {
         return false;
     }
-    if !table_records::good_at(slot, 0) {
+    if !table_states::good_at(slot, 0) {
         return false;
     }
     let mac = table_fields::mac_at(slot, 0);

@@ -19,7 +19,7 @@ use Rattle.table.specs.declared.Entry.{Entry}
 use Rattle.table.specs.declared.Label.{Label}
 use Rattle.table.specs.declared.Label.the-variants.{Vlan, Fine}
 use Rattle.table.specs.declared.Learning.{Learning}
-use Rattle.table_records.specs.Halves.{Fits}
+use Rattle.table_records.specs.Entries.{Fits}
 use Rattle.frame.specs.Fields.{nativeBytes}
 use Rattle.frame.specs.Front.{trillGroup}
 use Rattle.frame.specs.Labels.{isTag, labelRead}

@@ -9,7 +9,7 @@ ghost use Rattle.numbers.specs.Result.{settled};
 ghost use Rattle.numbers.specs.After.{onBoth};
 ghost use Rattle.numbers.specs.Bytes.{laid};
 ghost use Rattle.table.specs.Record.{labelNumber};
-ghost use Rattle.table_records.specs.Halves.{Fits};
+ghost use Rattle.table_records.specs.Entries.{Fits};
 ghost use Rattle.frame.specs.Fields.{nativeBytes};
 ghost use Rattle.frame.specs.Labels.{labelRead};
 ghost use Rattle.frame.specs.Settings.{settingsGood, defaultLife};
