@@ -11,6 +11,9 @@ use table::MOST_SLOTS;
 use table::Place;
 use table::SLOT_BYTES;
 
+// A bit for each slot.
+pub const MARK_BYTES: usize = 512;
+
 // A byte without the bits before bit f.
 fn rest_of(b: u8, f: usize) -> u8
     requires { ⌜ f < 8 ⌝ }

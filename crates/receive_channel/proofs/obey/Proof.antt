@@ -3,6 +3,7 @@
 use Rattle.receive_channel.proofs.Laws.{cut-out, bad-out, other-out, corrupt-out, flushed-out, few-cleared}
 use Rattle.frame_parse.specs.Meaning.{fieldsIn}
 use native.Mathlib.Omega.{arith}
+use Rattle.flush_call.proofs.Calls.{good-slots}
 use borrow.Author.Needs.{needs}
 use Rattle.receive_channel.proofs.obey.Statement.{statement}
 use Rattle.receive_channel.proofs.obey.Tie as tie
@@ -21,6 +22,9 @@ returns-3 : tie.Need-returns-3
 returns-3 c = let a = c .before .before .before .before .before .before .before .before .before .args in
     let h = c .before .before .before .before .before .before .before .before .before .pre in
     λ o. other-out (a .s) (fieldsIn (a .f .now) (a .p)) (a .v) (h .viewed) (a .table .now) o _ (c .before .before .before .before .before .before .rest .ensures .0) (c .before .before .before .before .before .if1 .left) _ _ (c .before .before .before .before .be2 .ensures .0) (c .before .before .before .be22 .ensures .0) _ (c .before .before .channel-good .ensures) (c .before .if2 .left) (c .if3 .taken)
+
+clear-meant-requires : tie.Need-clear-meant-requires
+clear-meant-requires c κs = good-slots _ (c .before .before .before .before .before .before .before .before .before .before .before .before .pre .table)
 
 cast-t20 : tie.Need-cast-t20
 cast-t20 c = let a = c .before .before .before .before .before .before .before .before .before .before .before .before .before .before .before .before .before .before .args in
@@ -51,7 +55,7 @@ obey-spec =
     returns-3
     (λ c. search needs)
     (λ c κs. search needs)
-    (λ c κs. search needs)
+    clear-meant-requires
     (λ c. search needs)
     (λ c. search needs)
     cast-t20
