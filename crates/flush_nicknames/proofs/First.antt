@@ -2,22 +2,23 @@
 -- first nickname, and that the code's test is the definition's.
 -- Assumes nothing.
 use Prim.Native.Nat.{ℕ, _+_, _-_, _*_, _/_, _%_, _^_, _<_, _≤_}
-use mathlib.Core.Bool.{Bool, true, false, not, _||_}
+use mathlib.Core.Bool.{Bool, true, false, not, _&&_, _||_}
 use mathlib.Core.List.{List}
 use mathlib.Core.Path.{_≡_, refl, sym, ap, _∙_}
 use native.Mathlib.Decide.{decLt, ℕ-discrete}
 use native.Mathlib.Nat.{mod-eq-of-lt}
 use native.Mathlib.Omega.{arith}
-use lib.Dec.{eqb}
-use lib.ListN.{length, take, drop}
-use borrow.Author.Tests.{eq-eqb, ne-eqb, eqb-true, eqb-false}
+use lib.Bits.{bitOr}
+use lib.Dec.{leb, eqb}
+use lib.ListN.{length, take, drop, getD, set}
+use borrow.Author.Tests.{eq-eqb, ne-eqb, eqb-true, leb-true}
 use Rattle.numbers.specs.Tests.{pick, both, either, between}
 use Rattle.numbers.specs.Bytes.{num}
 use Rattle.numbers.specs.Numberings.{bitAt}
 use Rattle.numbers.specs.Ranges.{vlanGood}
 use Rattle.numbers.proofs.Truth.{both-left, both-right, both-true, between-is, or-either}
 use Rattle.table.specs.Record.{recordOf, stateOf, kindOf, labelOf, nicknameOf, learnedState, labelFrom, labelGood, entryOf, entryGood, unpacked, isLearned}
-use Rattle.table.specs.Slots.{slotBytes, slotsOf, slotAt}
+use Rattle.table.specs.Slots.{slotBytes, mostSlots, slotAt}
 use Rattle.table.specs.declared.Label.the-variants.{Vlan, Fine}
 use Rattle.table.proofs.Slots.{Local}
 use Rattle.table_records.proofs.Laws.{record-near, unpacked-near, learned-is}
@@ -27,7 +28,9 @@ use Rattle.flush_sets.specs.Gains.{Gains, None, inNicknames}
 use Rattle.flush_sets.proofs.Adding.{single-listed}
 use Rattle.flush_payload.specs.declared.Kinds.{Kinds}
 use Rattle.flush_vlans.specs.Vlans.{VlansTold}
-use Rattle.flush_marks.specs.Marks.{NoMarks, Chosen}
+use Rattle.flush_bits.specs.Ranged.{maskOf, Ranged}
+use Rattle.flush_bits.proofs.Laws.{every, every-at, part-added}
+use Rattle.flush_marks.specs.Marks.{markBytes, NoMarks, Chosen}
 use Rattle.flush_marks.specs.Filters.{slotNamed}
 use Rattle.flush_marks.proofs.Bits.{both-all}
 use Rattle.flush_marks.proofs.Filters.{chosen-same}
@@ -48,13 +51,14 @@ marked-near p vlans fine x = rw (unpacked-near x, record-near x)
 -- ---- the ways through the test of a slot
 
 module _ (vlans : List ℕ) (fine : Bool) (r : List ℕ) where
-  pub part-fine : (k : ℕ) → k ≡ kindOf (recordOf r) → (k ≡ 0 → ⊥) → fine ≡ labelPart vlans fine r
+  part-case : (v : Bool) → v ≡ eqb (kindOf (recordOf r)) 0 → (h : Bool) → h ≡ bitAt (labelOf (recordOf r) % 4096) vlans → (v && h) || (not v && fine) ≡ labelPart vlans fine r
   unfolding labelPart pick
-  part-fine k e h = rw (← e, ne-eqb k 0 h)
+  part-case true e true q = rw (← e, ← q)
+  part-case true e false q = rw (← e, ← q)
+  part-case false e h q = rw (← e)
 
-  pub part-vlan : (k : ℕ) → k ≡ kindOf (recordOf r) → k ≡ 0 → (x : ℕ) → x ≡ labelOf (recordOf r) → (b : Bool) → b ≡ bitAt (x % 4096) vlans → b ≡ labelPart vlans fine r
-  unfolding labelPart pick
-  part-vlan k e h x f b g = g ∙ rw (← e, eq-eqb k 0 h, f)
+  pub part-told : (k : ℕ) → k ≡ kindOf (recordOf r) → (x : ℕ) → x ≡ labelOf (recordOf r) → (h : Bool) → h ≡ bitAt (x % 4096) vlans → (eqb k 0 && h) || (not (eqb k 0) && fine) ≡ labelPart vlans fine r
+  part-told k e x f h g = part-case (eqb k 0) (rw e) h (g ∙ rw f)
 
   module _ (p : ℕ → Bool) where
     pub other-nickname : p (nicknameOf (recordOf r)) ≡ false → false ≡ slotMarked p vlans fine r
@@ -214,3 +218,22 @@ listed-same nicks s t none g x = g .each x ∙ rw (none x)
 pub chosen-named : (p q : ℕ → Bool) (ps : List Piece) (fine : Bool) (from count : ℕ) (t m : List ℕ) → ((x : ℕ) → p x ≡ q x) → Chosen (slotFirst p ps fine) from count t m → Chosen (slotFirst q ps fine) from count t m
 unfolding slotFirst slotNamed
 chosen-named p q ps fine from count t m e c = chosen-same _ _ from count t m (λ r. rw (e (nicknameOf (recordOf r)))) c
+
+-- ---- one mark
+
+one-computed : every 8 (λ i. eqb (128 / 2 ^ i) (maskOf i (i + 1))) ≡ true
+unfolding both maskOf
+one-computed = refl
+
+few-computed : every 8 (λ i. leb (128 / 2 ^ i) 255) ≡ true
+unfolding both
+few-computed = refl
+
+pub bit-few : (i : ℕ) → i < 8 → 128 / 2 ^ i ≤ 255
+bit-few i h = leb-true _ _ (every-at 8 (λ i. leb (128 / 2 ^ i) 255) few-computed i h)
+
+pub mark-added : (s : List ℕ) (k : ℕ) → length s ≡ markBytes → k < mostSlots → (b : ℕ) → b ≡ 128 / 2 ^ (k % 8) → (t : List ℕ) → t ≡ set s (k / 8) (bitOr (getD s (k / 8) 0) b) → Ranged s t k (k + 1)
+mark-added s k long few b e t f =
+    let last : k + 1 - k / 8 * 8 ≡ k % 8 + 1 = omega arith in
+    let mask : 128 / 2 ^ (k % 8) ≡ maskOf (k % 8) (k % 8 + 1) = eqb-true _ _ (every-at 8 (λ i. eqb (128 / 2 ^ i) (maskOf i (i + 1))) one-computed (k % 8) (omega arith)) in
+    part-added s k (k + 1) (omega arith) (omega arith) (omega arith) b (e ∙ mask ∙ ap (maskOf (k % 8)) (sym last)) t f

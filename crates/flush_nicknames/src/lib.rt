@@ -1,16 +1,18 @@
 // The first pass of a flush over the slots of a range: those are marked that are learned, whose nickname is meant, and whose label is a
 // VLAN that is meant, or a fine-grained label where the message has some.
-ghost use Prim.Native.Nat.{ℕ, _+_, _-_, _*_, _<_, _≤_};
+ghost use Prim.Native.Nat.{ℕ, _+_, _-_, _*_, _/_, _^_, _<_, _≤_};
 ghost use mathlib.Core.Path.{_≡_};
 ghost use lib.Dec.{eqb};
 ghost use lib.ListN.{length, drop};
 ghost use Rattle.numbers.specs.Numberings.{bitAt};
 ghost use Rattle.table.specs.Record.{recordBytes, recordOf, nicknameOf};
+ghost use Rattle.table.specs.Slots.{mostSlots};
 ghost use Rattle.flush.specs.Payload.{blockBytes, piecesOf};
 ghost use Rattle.flush.specs.Meaning.{nicknameMeant};
 ghost use Rattle.flush_sets.specs.Gains.{Gains, inNicknames};
 ghost use Rattle.flush_vlans.specs.Vlans.{vlanBytes, VlansNoted};
-ghost use Rattle.flush_marks.specs.Marks.{Chosen};
+ghost use Rattle.flush_bits.specs.Ranged.{Ranged};
+ghost use Rattle.flush_marks.specs.Marks.{markBytes, Chosen};
 ghost use Rattle.flush_marks.specs.Filters.{Marking};
 ghost use Rattle.flush_nicknames.specs.First.{nameBytes, NicknamesAre, labelPart, fineNoted, slotFirst, slotMarked, slotNames, Scanning, FirstNamed};
 use flush_payload::Kinds;
@@ -105,15 +107,14 @@ fn first_listed(t: &[u8], from: usize, e: usize, names: &[u8]) -> usize
 }
 
 // Whether the label of the slot at an offset passes: a VLAN by a set, a fine-grained label by a flag. Twelve bits of a VLAN are enough:
-// a record with a higher one is spoilt.
+// a record with a higher one is spoilt. Both kinds take the same way, since which kind comes next cannot be foreseen.
 fn label_passes(t: &[u8], at: usize, vlans: &[u8], fine: bool) -> bool
     requires { ⌜ (at + recordBytes ≤ length (now t)) × (length (now vlans) ≡ vlanBytes) ⌝ }
     ensures { λ b. ⌜ b ≡ labelPart (now (vlans .entry)) fine (drop at (now (t .entry))) ⌝ }
 {
-    if table_fields::kind_at(t, at) != 0 {
-        return fine;
-    }
-    flush_bits::has(vlans, table_fields::label_at(t, at) % 0x1000)
+    let vlan = table_fields::kind_at(t, at) == 0;
+    let meant = flush_bits::has(vlans, table_fields::label_at(t, at) % 0x1000);
+    (vlan & meant) | (!vlan & fine)
 }
 
 // Whether the slot at an offset is to be marked, by one nickname. One byte of it decides most slots, and then the label.
@@ -133,7 +134,7 @@ fn single_at(t: &[u8], at: usize, one: u64, vlans: &[u8], fine: bool) -> bool
     table_records::learned_at(t, at)
 }
 
-// The same, by a set of nicknames.
+// The same, by a set of nicknames. One byte of the set decides most slots.
 fn listed_at(t: &[u8], at: usize, names: &[u8], vlans: &[u8], fine: bool) -> bool
     requires { ⌜ (at + recordBytes ≤ length (now t)) × ((length (now names) ≡ nameBytes) × (length (now vlans) ≡ vlanBytes)) ⌝ }
     ensures { λ b. ⌜ b ≡ slotMarked (λ x. bitAt x (now (names .entry))) (now (vlans .entry)) fine (drop at (now (t .entry))) ⌝ }
@@ -148,6 +149,22 @@ fn listed_at(t: &[u8], at: usize, names: &[u8], vlans: &[u8], fine: bool) -> boo
         return false;
     }
     table_records::learned_at(t, at)
+}
+
+// A byte with bit i alone.
+fn one_bit(i: usize) -> u8
+    requires { ⌜ i < 8 ⌝ }
+    ensures { λ r. ⌜ r ≡ 128 / 2 ^ i ⌝ }
+{
+    (128u64 >> i) as u8
+}
+
+// Marks a slot.
+fn add_mark(marks: &mut [u8], k: usize)
+    requires { ⌜ (length (now marks) ≡ markBytes) × (k < mostSlots) ⌝ }
+    ensures { λ _. ⌜ Ranged (now (marks .entry)) (now (marks .exit)) k (k + 1) ⌝ }
+{
+    flush_bits::add_byte(marks, k / 8, one_bit(k % 8));
 }
 
 // Marks the slots from slot `from` on, and before slot e, by one nickname.
@@ -166,7 +183,7 @@ fn mark_single(
     let mut k = from;
     while k < e {
         if single_at(table, SLOT_BYTES * k, one, vlans, fine) {
-            flush_bits::add_one(marks, k);
+            add_mark(marks, k);
             k += 1;
         } else {
             k += 1;
@@ -190,7 +207,7 @@ fn mark_listed(
     let mut k = from;
     while k < e {
         if listed_at(table, SLOT_BYTES * k, names, vlans, fine) {
-            flush_bits::add_one(marks, k);
+            add_mark(marks, k);
             k += 1;
         } else {
             k += 1;

@@ -13,29 +13,8 @@ use Rattle.flush_call.proofs.clear_portion.Tie as tie
 front-in : (c : tie.After-known-told) → 2 + nickBytes (c .before .before .before .before .before .before .args .payload .now) ≤ length (c .before .before .before .before .before .before .args .payload .now)
 front-in c = good-front _ _ (c .before .before .before .judge .ensures) _ (c .before .f .given .1)
 
-judge-requires : tie.Need-judge-requires
-judge-requires c κs = search needs
-
-enum-told : tie.Need-enum-told
-enum-told c = search needs
-
-enum-known-f : tie.Need-enum-known-f
-enum-known-f c = search needs
-
 nick-bytes-requires : tie.Need-nick-bytes-requires
 nick-bytes-requires c κs = omega (arith, front-in c)
-
-add-a : tie.Need-add-a
-add-a c = search needs
-
-add-s : tie.Need-add-s
-add-s c = search needs
-
-sub-clear-range : tie.Need-sub-clear-range
-sub-clear-range c = search needs
-
-part-clear-range-start : tie.Need-part-clear-range-start
-part-clear-range-start c = search needs
 
 part-clear-range-end : tie.Need-part-clear-range-end
 part-clear-range-end c = omega (arith, front-in (c .before))
@@ -45,9 +24,6 @@ sub-clear-range-2 c = omega (arith, front-in (c .before .before))
 
 part-clear-range-start-2 : tie.Need-part-clear-range-start-2
 part-clear-range-start-2 c = omega (arith, front-in (c .before .before))
-
-part-clear-range-end-2 : tie.Need-part-clear-range-end-2
-part-clear-range-end-2 c = search needs
 
 clear-range-requires : tie.Need-clear-range-requires
 clear-range-requires c κs =
@@ -60,9 +36,6 @@ clear-range-requires c κs =
 returns : tie.Need-returns
 returns c = meant-refused _ _ (c .before .before .judge .ensures) (c .enum-told .given .1) _ _ _ _
 
-same-length : tie.Need-same-length
-same-length c = search needs
-
 returns-2 : tie.Need-returns-2
 returns-2 c = meant-cleared _ _ (c .before .before .before .before .before .before .before .before .before .before .judge .ensures) _ (c .before .before .before .before .before .before .before .before .f .given .1) _ _ _ _ _ (c .before .before .before .before .before .before .nick-bytes .ensures .0) _ _ (c .before .before .clear-range .ensures)
 
@@ -70,19 +43,19 @@ pub clear-portion-spec : {M : Type 1} → statement M
 clear-portion-spec =
     tie.close
     (tie.spec
-    judge-requires
-    enum-told
-    enum-known-f
+    (λ c κs. search needs)
+    (λ c. search needs)
+    (λ c. search needs)
     nick-bytes-requires
-    add-a
-    add-s
-    sub-clear-range
-    part-clear-range-start
+    (λ c. search needs)
+    (λ c. search needs)
+    (λ c. search needs)
+    (λ c. search needs)
     part-clear-range-end
     sub-clear-range-2
     part-clear-range-start-2
-    part-clear-range-end-2
+    (λ c. search needs)
     clear-range-requires
     returns
-    same-length
+    (λ c. search needs)
     returns-2)

@@ -6,20 +6,8 @@ use borrow.Author.Needs.{needs}
 use Rattle.flush_call.proofs.clear_range.Statement.{statement}
 use Rattle.flush_call.proofs.clear_range.Tie as tie
 
-slice-aggregate-mark-meant : tie.Need-slice-aggregate-mark-meant
-slice-aggregate-mark-meant c = search needs
-
 mark-meant-requires : tie.Need-mark-meant-requires
 mark-meant-requires c κs = let start = c .before .before .before .before .before in (record { within = start .pre .0; empty = zeros-unmarked }, start .pre .1)
-
-slice-aggregate-clear-marked : tie.Need-slice-aggregate-clear-marked
-slice-aggregate-clear-marked c = search needs
-
-clear-marked-requires : tie.Need-clear-marked-requires
-clear-marked-requires c κs = search needs
-
-same-length : tie.Need-same-length
-same-length c = search needs
 
 returns : tie.Need-returns
 returns c = range-cleared _ _ _ _ _ (c .before .before .before .before .before .before .before .before .before .before .before .before .pre .0) (c .before .before .before .before .before .before .mark-meant .ensures) _ _ (c .before .before .clear-marked .ensures)
@@ -28,9 +16,9 @@ pub clear-range-spec : {M : Type 1} → statement M
 clear-range-spec =
     tie.close
     (tie.spec
-    slice-aggregate-mark-meant
+    (λ c. search needs)
     mark-meant-requires
-    slice-aggregate-clear-marked
-    clear-marked-requires
-    same-length
+    (λ c. search needs)
+    (λ c κs. search needs)
+    (λ c. search needs)
     returns)

@@ -15,11 +15,8 @@ returns-2 c = search (labels-none, not-true)
 keep-fines-requires : tie.Need-keep-fines-requires
 keep-fines-requires c κs = search (lists-are, maps-are, not-false)
 
-same-length : tie.Need-same-length
-same-length c = search needs
-
 returns-3 : tie.Need-returns-3
 returns-3 c = search (labels-kept, not-false)
 
 pub keep-labels-spec : {M : Type 1} → statement M
-keep-labels-spec = tie.close (tie.spec returns returns-2 keep-fines-requires same-length returns-3)
+keep-labels-spec = tie.close (tie.spec returns returns-2 keep-fines-requires (λ c. search needs) returns-3)

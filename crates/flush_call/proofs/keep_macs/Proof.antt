@@ -9,14 +9,8 @@ use Rattle.flush_call.proofs.keep_macs.Tie as tie
 returns : tie.Need-returns
 returns c = search (macs-none, not-true)
 
-keep-macs-requires : tie.Need-keep-macs-requires
-keep-macs-requires c κs = search needs
-
-same-length : tie.Need-same-length
-same-length c = search needs
-
 returns-2 : tie.Need-returns-2
 returns-2 c = search (macs-kept, not-false)
 
 pub keep-macs-spec : {M : Type 1} → statement M
-keep-macs-spec = tie.close (tie.spec returns keep-macs-requires same-length returns-2)
+keep-macs-spec = tie.close (tie.spec returns (λ c κs. search needs) (λ c. search needs) returns-2)

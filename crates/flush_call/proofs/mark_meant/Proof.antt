@@ -6,28 +6,10 @@ use borrow.Author.Needs.{needs}
 use Rattle.flush_call.proofs.mark_meant.Statement.{statement}
 use Rattle.flush_call.proofs.mark_meant.Tie as tie
 
-mark-requires : tie.Need-mark-requires
-mark-requires c κs = search needs
-
-any-marked-requires : tie.Need-any-marked-requires
-any-marked-requires c κs = search needs
-
-same-length : tie.Need-same-length
-same-length c = search needs
-
 returns : tie.Need-returns
 returns c =
     let start = c .before .before .before .before .before .before .before .before .before .before .before in
     none-left _ _ (start .args .f) (start .pre .1 .1) _ _ _ _ _ (start .pre .0 .within) _ (c .before .before .before .before .before .mark .ensures) _ (c .before .any-marked .ensures) (not-true _ (c .if1 .taken))
-
-keep-labels-requires : tie.Need-keep-labels-requires
-keep-labels-requires c κs = search needs
-
-keep-macs-requires : tie.Need-keep-macs-requires
-keep-macs-requires c κs = search needs
-
-same-length-2 : tie.Need-same-length-2
-same-length-2 c = search needs
 
 returns-2 : tie.Need-returns-2
 returns-2 c =
@@ -38,11 +20,11 @@ pub mark-meant-spec : {M : Type 1} → statement M
 mark-meant-spec =
     tie.close
     (tie.spec
-    mark-requires
-    any-marked-requires
-    same-length
+    (λ c κs. search needs)
+    (λ c κs. search needs)
+    (λ c. search needs)
     returns
-    keep-labels-requires
-    keep-macs-requires
-    same-length-2
+    (λ c κs. search needs)
+    (λ c κs. search needs)
+    (λ c. search needs)
     returns-2)

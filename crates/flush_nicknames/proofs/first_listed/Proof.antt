@@ -17,21 +17,6 @@ abbrev μ-loop : tie.MeasureT-loop
 loop-holds : tie.Need-loop-holds Inv-loop μ-loop
 loop-holds c = search first-start
 
-mul-has-listed : tie.Need-mul-has-listed Inv-loop μ-loop
-mul-has-listed c = search needs
-
-has-listed-requires : tie.Need-has-listed-requires Inv-loop μ-loop
-has-listed-requires c κs = search needs
-
-returns : tie.Need-returns Inv-loop μ-loop
-returns c = search needs
-
-add-k : tie.Need-add-k Inv-loop μ-loop
-add-k c = search needs
-
-loop-less : tie.Need-loop-less Inv-loop μ-loop
-loop-less c = search needs
-
 loop-again : tie.Need-loop-again Inv-loop μ-loop
 loop-again c = search first-next
 
@@ -45,10 +30,10 @@ first-listed-spec =
     Inv-loop
     μ-loop
     loop-holds
-    mul-has-listed
-    has-listed-requires
-    returns
-    add-k
-    loop-less
+    (λ c. search needs)
+    (λ c κs. search needs)
+    (λ c. search needs)
+    (λ c. search needs)
+    (λ c. search needs)
     loop-again
     returns-2)

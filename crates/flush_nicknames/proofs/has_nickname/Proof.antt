@@ -5,18 +5,12 @@ use borrow.Author.Needs.{needs}
 use Rattle.flush_nicknames.proofs.has_nickname.Statement.{statement}
 use Rattle.flush_nicknames.proofs.has_nickname.Tie as tie
 
-nickname-middle-at-requires : tie.Need-nickname-middle-at-requires
-nickname-middle-at-requires c κs = search needs
-
 returns : tie.Need-returns
 returns c = names-middle _ _ _ (c .before .nickname-middle-at .ensures) (c .if1 .taken)
-
-nickname-at-requires : tie.Need-nickname-at-requires
-nickname-at-requires c κs = search needs
 
 returns-2 : tie.Need-returns-2
 returns-2 c = names-single _ _ _ (c .nickname-at .ensures .0)
 
 pub has-nickname-spec : {M : Type 1} → statement M
 has-nickname-spec =
-    tie.close (tie.spec nickname-middle-at-requires returns nickname-at-requires returns-2)
+    tie.close (tie.spec (λ c κs. search needs) returns (λ c κs. search needs) returns-2)

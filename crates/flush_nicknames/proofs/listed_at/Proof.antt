@@ -6,47 +6,30 @@ use borrow.Author.Needs.{needs}
 use Rattle.flush_nicknames.proofs.listed_at.Statement.{statement}
 use Rattle.flush_nicknames.proofs.listed_at.Tie as tie
 
-nickname-high-at-requires : tie.Need-nickname-high-at-requires
-nickname-high-at-requires c κs = search needs
-
-none-at-requires : tie.Need-none-at-requires
-none-at-requires c κs = search needs
-
 returns : tie.Need-returns
 returns c = not-byte _ _ _ _ _ (c .before .before .nickname-high-at .ensures) _ (c .before .none-at .ensures) (c .if1 .taken)
-
-label-passes-requires : tie.Need-label-passes-requires
-label-passes-requires c κs = search needs
 
 returns-2 : tie.Need-returns-2
 returns-2 c = other-label _ _ _ _ _ (c .before .label-passes .ensures) (not-true _ (c .if2 .taken))
 
-nickname-at-requires : tie.Need-nickname-at-requires
-nickname-at-requires c κs = search needs
-
-has-requires : tie.Need-has-requires
-has-requires c κs = search needs
-
 returns-3 : tie.Need-returns-3
 returns-3 c = not-listed _ _ _ _ _ (c .before .before .nickname-at .ensures .0) _ (c .before .has .ensures) (not-true _ (c .if3 .taken))
 
-learned-at-requires : tie.Need-learned-at-requires
-learned-at-requires c κs = search needs
-
 returns-4 : tie.Need-returns-4
-returns-4 c = by-list _ _ _ _ _ (c .before .before .before .nickname-at .ensures .0) _ (c .before .before .has .ensures) (not-false _ (c .before .if3 .left)) _ (c .before .before .before .before .before .label-passes .ensures) (not-false _ (c .before .before .before .before .if2 .left)) _ (c .learned-at .ensures)
+returns-4 c =
+    by-list _ _ _ _ _ (c .before .before .before .nickname-at .ensures .0) _ (c .before .before .has .ensures) (not-false _ (c .before .if3 .left)) _ (c .before .before .before .before .before .label-passes .ensures) (not-false _ (c .before .before .before .before .if2 .left)) _ (c .learned-at .ensures)
 
 pub listed-at-spec : {M : Type 1} → statement M
 listed-at-spec =
     tie.close
     (tie.spec
-    nickname-high-at-requires
-    none-at-requires
+    (λ c κs. search needs)
+    (λ c κs. search needs)
     returns
-    label-passes-requires
+    (λ c κs. search needs)
     returns-2
-    nickname-at-requires
-    has-requires
+    (λ c κs. search needs)
+    (λ c κs. search needs)
     returns-3
-    learned-at-requires
+    (λ c κs. search needs)
     returns-4)

@@ -11,23 +11,11 @@ use borrow.Author.Needs.{needs}
 use Rattle.flush_nicknames.proofs.mark_one.Statement.{statement}
 use Rattle.flush_nicknames.proofs.mark_one.Tie as tie
 
-add-e : tie.Need-add-e
-add-e c = search needs
-
-first-single-requires : tie.Need-first-single-requires
-first-single-requires c κs = search needs
-
 returns : tie.Need-returns
 returns c = none-first _ _ (λ x few. refl) _ (c .before .before .before .before .before .args .f) _ _ _ _ (c .before .first-single .ensures) (c .if1 .taken) _ (c .before .before .before .before .before .pre .0 .empty)
 
-slice-aggregate-vlan-set : tie.Need-slice-aggregate-vlan-set
-slice-aggregate-vlan-set c = search needs
-
 vlan-set-requires : tie.Need-vlan-set-requires
 vlan-set-requires c κs = (c .before .before .before .before .before .before .pre .1, (length-replicate {A = ℕ} vlanBytes 0, zeros-none vlanBytes))
-
-slice-aggregate-mark-single : tie.Need-slice-aggregate-mark-single
-slice-aggregate-mark-single c = search needs
 
 mark-single-requires : tie.Need-mark-single-requires
 mark-single-requires c κs =
@@ -37,9 +25,6 @@ mark-single-requires c κs =
     let room = start .pre .0 .within .room in
     ((inside, record { within = record { few = start .pre .0 .within .few; room = omega arith }; empty = start .pre .0 .empty }), c .before .before .before .before .before .vlan-set .ensures .long)
 
-same-length : tie.Need-same-length
-same-length c = search needs
-
 returns-2 : tie.Need-returns-2
 returns-2 c = marked-first _ _ (λ x few. refl) _ (c .before .before .before .before .before .before .before .before .before .before .before .before .before .before .before .args .f) _ _ _ _ (c .before .before .before .before .before .before .before .before .before .before .before .first-single .ensures) _ (c .before .before .before .before .before .before .before .before .vlan-set .ensures) _ (c .before .before .mark-single .ensures)
 
@@ -47,12 +32,12 @@ pub mark-one-spec : {M : Type 1} → statement M
 mark-one-spec =
     tie.close
     (tie.spec
-    add-e
-    first-single-requires
+    (λ c. search needs)
+    (λ c κs. search needs)
     returns
-    slice-aggregate-vlan-set
+    (λ c. search needs)
     vlan-set-requires
-    slice-aggregate-mark-single
+    (λ c. search needs)
     mark-single-requires
-    same-length
+    (λ c. search needs)
     returns-2)

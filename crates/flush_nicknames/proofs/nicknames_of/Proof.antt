@@ -8,9 +8,6 @@ use Rattle.flush_nicknames.proofs.nicknames_of.Tie as tie
 returns : tie.Need-returns
 returns c = search one-ingress
 
-be2-requires : tie.Need-be2-requires
-be2-requires c κs = search needs
-
 returns-2 : tie.Need-returns-2
 returns-2 c = search one-listed
 
@@ -18,4 +15,4 @@ returns-3 : tie.Need-returns-3
 returns-3 c = search several-listed
 
 pub nicknames-of-spec : {M : Type 1} → statement M
-nicknames-of-spec = tie.close (tie.spec returns be2-requires returns-2 returns-3)
+nicknames-of-spec = tie.close (tie.spec returns (λ c κs. search needs) returns-2 returns-3)

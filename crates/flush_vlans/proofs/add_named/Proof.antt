@@ -7,26 +7,11 @@ use borrow.Author.Needs.{needs}
 use Rattle.flush_vlans.proofs.add_named.Statement.{statement}
 use Rattle.flush_vlans.proofs.add_named.Tie as tie
 
-mul-e : tie.Need-mul-e
-mul-e c = search needs
-
 slice-aggregate-add-blocks : tie.Need-slice-aggregate-add-blocks
 slice-aggregate-add-blocks c = sym (length-take-le _ _ (search needs))
 
-add-blocks-requires : tie.Need-add-blocks-requires
-add-blocks-requires c κs = search needs
-
-same-length : tie.Need-same-length
-same-length c = search needs
-
 returns : tie.Need-returns
 returns c = search added-blocks
-
-add-tlvs-requires : tie.Need-add-tlvs-requires
-add-tlvs-requires c κs = search needs
-
-same-length-2 : tie.Need-same-length-2
-same-length-2 c = search needs
 
 returns-2 : tie.Need-returns-2
 returns-2 c = search added-tlvs
@@ -38,12 +23,12 @@ pub add-named-spec : {M : Type 1} → statement M
 add-named-spec =
     tie.close
     (tie.spec
-    mul-e
+    (λ c. search needs)
     slice-aggregate-add-blocks
-    add-blocks-requires
-    same-length
+    (λ c κs. search needs)
+    (λ c. search needs)
     returns
-    add-tlvs-requires
-    same-length-2
+    (λ c κs. search needs)
+    (λ c. search needs)
     returns-2
     returns-3)
