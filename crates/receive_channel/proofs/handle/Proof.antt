@@ -3,6 +3,7 @@
 use native.Mathlib.Omega.{arith}
 use Rattle.frame_parse.specs.Meaning.{fieldsIn}
 use Rattle.receive_channel.proofs.Laws.{cut-out, bad-out, other-out, corrupt-out, flushed-out, few-cleared}
+use Rattle.flush_call.proofs.Calls.{good-slots}
 use borrow.Author.Needs.{needs}
 use Rattle.receive_channel.proofs.handle.Statement.{statement}
 use Rattle.receive_channel.proofs.handle.Tie as tie
@@ -33,6 +34,9 @@ returns-3 c =
     let a = start .args in
     let p = fieldsIn (a .f .now) (a .p) in
     λ o. other-out (a .s) p (a .v) (start .pre .1 .0) (a .table .now) o _ (after .after .ensures .0) (long .if1 .left) _ (ok .before .channel-good .ensures) (ok .if2 .left) _ (c .before .channel-protocol .ensures) (c .if3 .taken)
+
+clear-meant-requires : tie.Need-clear-meant-requires
+clear-meant-requires c κs = good-slots _ (c .before .before .before .before .before .before .before .before .before .before .before .pre .1 .1)
 
 cast-t19 : tie.Need-cast-t19
 cast-t19 c =
@@ -79,7 +83,7 @@ handle-spec =
     returns-3
     (λ c κs. search needs)
     (λ c. search needs)
-    (λ c κs. search needs)
+    clear-meant-requires
     (λ c. search needs)
     (λ c. search needs)
     cast-t19
