@@ -1,34 +1,46 @@
--- What is prepared of the MACs that a message names.
+-- What is prepared of the MACs that a message names, and what it decides.
 -- Assumes nothing.
 use Prim.Native.Nat.{ℕ, _+_, _≤_}
-use mathlib.Core.Bool.{Bool}
+use mathlib.Core.Bool.{Bool, true}
 use mathlib.Core.List.{List}
 use mathlib.Core.Path.{_≡_}
 use lib.ListN.{length}
-use Rattle.numbers.specs.Tests.{anyOf}
-use Rattle.numbers.specs.Numberings.{macs}
-use Rattle.flush.specs.Payload.{everyType, Piece}
-use Rattle.flush.specs.Meaning.{gathersMac}
-use Rattle.flush_buckets.specs.Sieves.{sieveBytes, Sieved}
-use Rattle.flush_spans.specs.Spans.{spansOf, Told}
+use Rattle.numbers.specs.Numberings.{macs, bitAt}
+use Rattle.table.specs.Record.{macOf}
+use Rattle.flush.specs.Payload.{Piece}
+use Rattle.flush_buckets.specs.Buckets.{bucketOf, Noted}
+use Rattle.flush_intervals.specs.Named.{namedOf, Prepared}
+use Rattle.flush_intervals.specs.declared.Naming.{Naming}
+use Rattle.flush_macs.specs.declared.Macs.{Macs}
+use Rattle.flush_macs.specs.declared.Macs.the-variants.{Walk, Sorted}
 
--- areas for intervals, and for the sieve in front of them
-pub record Areas (keys past tops sieve : List ℕ) : Type 0 where
+-- areas for intervals
+pub record Areas (keys past tops : List ℕ) : Type 0 where
   pub few : length keys ≤ 4096
   pub same : length past ≡ length keys
   pub more : length tops ≡ length keys + 1
-  pub sieve-long : length sieve ≡ sieveBytes
 
--- the MACs in type 8 blocks and type 7 lists
+-- type 8 names MACs in blocks, type 7 in a list
+abbrev pub macNaming : Naming
+macNaming = record { blocks = 8; singles = 7; numbering = macs }
+
 abbrev pub macsOf : List Piece → ℕ → Bool
-macsOf ps = spansOf 8 7 macs ps
+macsOf ps = namedOf macNaming ps
 
--- n intervals tell the MACs, and the sieve has marks for them
-pub record MacsReady (ps : List Piece) (keys tops sieve : List ℕ) (n : ℕ) : Type 0 where
-  pub spans : Told (macsOf ps) keys tops n
-  pub marks : Sieved (macsOf ps) sieve
+-- what was sorted decides the MAC x
+pub record DecidesBy (ps : List Piece) (keys tops named : List ℕ) (n x : ℕ) : Type 0 where
+  pub wanted : List ℕ
+  pub sets : Prepared (macsOf ps) wanted keys tops named n
+  pub want : bitAt (bucketOf x) wanted ≡ true
 
--- MACs: whether one was gathered, and how they are told, where they found room
-pub record MacsTold (ps : List Piece) (gathered : Bool) (keys tops sieve : List ℕ) (n : ℕ) : Type 0 where
-  pub some : gathered ≡ anyOf (gathersMac everyType) ps
-  pub told : n ≤ 4096 → MacsReady ps keys tops sieve n
+pub record Decides (ps : List Piece) (keys tops named : List ℕ) (f : Macs) (x : ℕ) : Type 0 where
+  pub by : (n : ℕ) → f ≡ Sorted n → DecidesBy ps keys tops named n x
+
+-- what was sorted decides the MACs of the marked slots
+pub record DecidingBy (ps : List Piece) (t m keys tops named : List ℕ) (n : ℕ) : Type 0 where
+  pub wanted : List ℕ
+  pub sets : Prepared (macsOf ps) wanted keys tops named n
+  pub noted : Noted macOf t m wanted
+
+pub record Deciding (ps : List Piece) (t m keys tops named : List ℕ) (f : Macs) : Type 0 where
+  pub by : (n : ℕ) → f ≡ Sorted n → DecidingBy ps t m keys tops named n
