@@ -2,7 +2,6 @@
 
 #include "flush.h"
 #include "shinglebar.h"
-#include "words.h"
 
 static const char *const LEARNING[] = {"learned", "refreshed", "kept", "not learned: the table is full"};
 
@@ -79,14 +78,14 @@ void refusal_put(struct text *to, const char *before, uint64_t answer)
 {
     if (to->json) {
         json_number(to, "refusal", shinglebar_refusal(answer));
-        json_words(to, "why", refusal_words(answer));
+        json_words(to, "why", shinglebar_refusal_string(answer));
         return;
     }
     text_put(to, before);
     text_put(to, "refused ");
     text_number(to, shinglebar_refusal(answer));
     text_put(to, ": ");
-    text_put(to, refusal_words(answer));
+    text_put(to, shinglebar_refusal_string(answer));
 }
 
 void answer_put(struct text *to, uint64_t answer, const struct frame *frame)

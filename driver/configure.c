@@ -1,6 +1,4 @@
 /* The commands `set` and `unset`: configured records of a table file. */
-#include <string.h>
-
 #include "commands.h"
 #include "message.h"
 #include "process.h"
@@ -9,19 +7,16 @@
 
 static struct text line;
 
-/* The record that the options name, by the library's own rules: 0, or 2 and said. */
+/* The record that the options name, packed as the header does, which packs good records only: 0, or 2 and said. */
 static int make_record(const struct options *options, uint8_t *bytes)
 {
-    const struct record made = {RECORD_CONFIGURED,
-                                options->kind,
-                                options->label,
-                                options->audience.mac,
-                                options->settings.nickname,
-                                options->settings.confidence,
-                                0,
-                                NULL};
-    record_write(&made, bytes);
-    if (record_read(bytes).state == RECORD_CONFIGURED)
+    const struct shinglebar_record made = {.state = SHINGLEBAR_RECORD_CONFIGURED,
+                                           .label_kind = options->kind,
+                                           .label = options->label,
+                                           .mac = options->audience.mac,
+                                           .nickname = options->settings.nickname,
+                                           .confidence = options->settings.confidence};
+    if (shinglebar_pack_record(&made, bytes))
         return 0;
     return bad_usage("no good record: a VLAN is 1 to 4094, --mac an individual address, --nickname 0001 to FFBF");
 }
@@ -31,7 +26,7 @@ static int find_slot(const struct table *table, const struct options *options)
 {
     int slot = table_find(table, options->kind, options->label, options->audience.mac);
     for (unsigned i = 0; slot < 0 && i < table_slots(table); i++)
-        if (table_record(table, i).state == RECORD_FREE)
+        if (table_record(table, i).state == SHINGLEBAR_RECORD_FREE)
             slot = (int)i;
     return slot;
 }
@@ -39,11 +34,7 @@ static int find_slot(const struct table *table, const struct options *options)
 /* Puts bytes into a slot, prints what changed, and replaces the table file. */
 static int change(struct store *store, unsigned slot, const uint8_t *bytes)
 {
-    uint8_t old[SHINGLEBAR_RECORD_LENGTH];
-    uint8_t *at = table_bytes(&store->table, slot);
-    memcpy(old, at, sizeof old);
-    memcpy(at, bytes, sizeof old);
-    struct change changed = {slot, record_read(old), record_read(at)};
+    struct change changed = change_make(&store->table, slot, bytes);
     change_put(&line, &changed);
     line_out(&line);
     if (output_ready() == 0 && store_save(store) == 0)
@@ -71,7 +62,7 @@ static int unset(struct store *store, const struct options *options)
     int slot = table_find(&store->table, options->kind, options->label, options->audience.mac);
     if (slot < 0)
         return bad_data("%s has no record of that label and address", options->table);
-    if (table_record(&store->table, (unsigned)slot).state != RECORD_CONFIGURED)
+    if (table_record(&store->table, (unsigned)slot).state != SHINGLEBAR_RECORD_CONFIGURED)
         return bad_data("%s: slot %d is learned, not configured", options->table, slot);
     return change(store, (unsigned)slot, nothing);
 }

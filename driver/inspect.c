@@ -46,7 +46,7 @@ static unsigned learned(const struct table *table)
 {
     unsigned count = 0;
     for (unsigned slot = 0; slot < table_slots(table); slot++)
-        count += table_record(table, slot).state == RECORD_LEARNED;
+        count += table_record(table, slot).state == SHINGLEBAR_RECORD_LEARNED;
     return count;
 }
 

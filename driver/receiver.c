@@ -25,7 +25,7 @@ static void count(struct receiver *receiver, uint64_t answer)
         receiver->cleared += shinglebar_count(answer);
         break;
     default:
-        receiver->refused[shinglebar_refusal(answer) <= REFUSALS ? shinglebar_refusal(answer) : 0]++;
+        receiver->refused[shinglebar_refusal(answer)]++;
     }
 }
 
@@ -53,12 +53,10 @@ static int find_changes(struct receiver *receiver, uint64_t answer, uint64_t sou
 /* Where learning wrote or kept the same bytes, the slot is shown all the same. */
 static void unchanged_put(struct text *to, const struct table *table, int slot)
 {
-    struct record record;
     if (!to->json)
         text_put(to, "table unchanged");
     if (slot < 0)
         return;
-    record = table_record(table, (unsigned)slot);
     if (to->json) {
         json_open(to, "unchanged", "{");
         json_number(to, "slot", (uint64_t)slot);
@@ -67,7 +65,7 @@ static void unchanged_put(struct text *to, const struct table *table, int slot)
         text_number(to, (uint64_t)slot);
         text_put(to, ": ");
     }
-    record_put(to, &record);
+    record_put(to, table_slot(table, (unsigned)slot));
     text_put(to, to->json ? "}" : ")");
 }
 
@@ -197,7 +195,7 @@ static void totals_put(struct text *to, const struct receiver *receiver)
         {" flushes (", "flushes", receiver->flushes},
         {" cleared), ", "cleared", receiver->cleared},
         {" other channel, ", "other_channel", receiver->other_channel},
-        {" refused", "refused", sum(receiver->refused, REFUSALS + 1)},
+        {" refused", "refused", sum(receiver->refused, REFUSALS)},
     };
     for (size_t i = 0; i < sizeof totals / sizeof totals[0]; i++) {
         if (to->json) {
@@ -221,7 +219,7 @@ void receiver_report(struct receiver *receiver)
     struct text *line = &receiver->line;
     totals_put(line, receiver);
     line_out(line);
-    for (unsigned i = 1; i <= REFUSALS; i++) {
+    for (unsigned i = 1; i < REFUSALS; i++) {
         if (receiver->refused[i] == 0)
             continue;
         if (line->json) {
@@ -233,7 +231,7 @@ void receiver_report(struct receiver *receiver)
             text_put(line, ": ");
             text_number(line, receiver->refused[i]);
             text_put(line, " (");
-            text_put(line, refusal_words(i));
+            text_put(line, shinglebar_refusal_string(i));
             text_put(line, ")");
         }
         line_out(line);

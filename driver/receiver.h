@@ -6,7 +6,9 @@
 #include "options.h"
 #include "shadow.h"
 #include "store.h"
-#include "words.h"
+
+/* Every refusal is below: shinglebar_is_refusal. */
+#define REFUSALS 64
 
 struct receiver {
     const struct options *options;
@@ -18,7 +20,7 @@ struct receiver {
     /* Only `live` can lose frames. */
     int is_live;
     unsigned long lost;
-    unsigned long frames, learning[4], onward, other_channel, flushes, cleared, refused[REFUSALS + 1];
+    unsigned long frames, learning[4], onward, other_channel, flushes, cleared, refused[REFUSALS];
 };
 
 /* Opens the table of the options, for a receiver that is all zero. 0, or 1 and said. */

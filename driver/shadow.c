@@ -5,14 +5,9 @@
 /* Slots that are compared at once. */
 #define BLOCK_SLOTS 64
 
-static const uint8_t *at(const struct table *table, unsigned slot)
-{
-    return table->bytes + (size_t)slot * SHINGLEBAR_RECORD_LENGTH;
-}
-
 static int differs(const struct shadow *shadow, const struct table *now, unsigned slot, unsigned slots)
 {
-    return memcmp(at(&shadow->table, slot), at(now, slot), (size_t)slots * SHINGLEBAR_RECORD_LENGTH) != 0;
+    return memcmp(table_slot(&shadow->table, slot), table_slot(now, slot), (size_t)slots * SHINGLEBAR_RECORD_LENGTH) != 0;
 }
 
 void shadow_copy(struct shadow *shadow, const struct table *now)
@@ -27,11 +22,6 @@ static uint16_t *guess_of(struct shadow *shadow, unsigned kind, uint32_t label, 
     return &shadow->guess[mixed >> 32 & (SHADOW_GUESSES - 1)];
 }
 
-static int holds(const struct record *record, unsigned kind, uint32_t label, uint64_t mac)
-{
-    return record_is_entry(record) && record->kind == kind && record->label == label && record->mac == mac;
-}
-
 int shadow_learned(struct shadow *shadow, const struct table *now)
 {
     unsigned slots = table_slots(now);
@@ -42,8 +32,8 @@ int shadow_learned(struct shadow *shadow, const struct table *now)
         unsigned slot = block;
         while (!differs(shadow, now, slot, 1))
             slot++;
-        struct record record = table_record(now, slot);
-        *guess_of(shadow, record.kind, record.label, record.mac) = (uint16_t)slot;
+        struct shinglebar_record record = table_record(now, slot);
+        *guess_of(shadow, record.label_kind, record.label, record.mac) = (uint16_t)slot;
         return (int)slot;
     }
     return -1;
@@ -54,8 +44,8 @@ int shadow_find(struct shadow *shadow, const struct table *now, unsigned kind, u
 {
     uint16_t *guess = guess_of(shadow, kind, label, mac);
     if (*guess < table_slots(now)) {
-        struct record record = table_record(now, *guess);
-        if (holds(&record, kind, label, mac))
+        struct shinglebar_record record = table_record(now, *guess);
+        if (record_holds(&record, kind, label, mac))
             return *guess;
     }
     int slot = table_find(now, kind, label, mac);
@@ -64,15 +54,24 @@ int shadow_find(struct shadow *shadow, const struct table *now, unsigned kind, u
     return slot;
 }
 
+struct change change_make(struct table *table, unsigned slot, const uint8_t *bytes)
+{
+    struct change change = {.slot = slot};
+    memcpy(change.before, table_slot(table, slot), SHINGLEBAR_RECORD_LENGTH);
+    memcpy(change.after, bytes, SHINGLEBAR_RECORD_LENGTH);
+    memcpy(table->bytes + (size_t)slot * SHINGLEBAR_RECORD_LENGTH, bytes, SHINGLEBAR_RECORD_LENGTH);
+    return change;
+}
+
 void shadow_slot(struct shadow *shadow, const struct table *now, unsigned slot, const struct audience *audience,
                  struct changes *changes)
 {
     if (!differs(shadow, now, slot, 1))
         return;
-    struct change change = {slot, table_record(&shadow->table, slot), table_record(now, slot)};
-    memcpy(table_bytes(&shadow->table, slot), at(now, slot), SHINGLEBAR_RECORD_LENGTH);
+    struct shinglebar_record was = table_record(&shadow->table, slot), is = table_record(now, slot);
+    struct change change = change_make(&shadow->table, slot, table_slot(now, slot));
     changes->count++;
-    if (!concerns(audience, &change.before) && !concerns(audience, &change.after))
+    if (!concerns(audience, &was) && !concerns(audience, &is))
         return;
     if (changes->concerning < CHANGES_NAMED)
         changes->list[changes->concerning] = change;
@@ -89,7 +88,7 @@ void shadow_freed(struct shadow *shadow, const struct table *now, const struct a
                   struct changes *changes)
 {
     for (unsigned slot = 0; slot < table_slots(now); slot++)
-        if (at(&shadow->table, slot)[0] != 0 && at(now, slot)[0] == 0)
+        if (table_slot(&shadow->table, slot)[0] != 0 && table_slot(now, slot)[0] == 0)
             shadow_slot(shadow, now, slot, audience, changes);
     shadow_copy(shadow, now);
 }
@@ -103,7 +102,7 @@ void change_put(struct text *to, const struct change *change)
         text_number(to, change->slot);
         text_put(to, ": ");
     }
-    record_change_put(to, &change->before, &change->after);
+    record_change_put(to, change->before, change->after);
 }
 
 void changes_put(struct text *to, const struct changes *changes)

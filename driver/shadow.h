@@ -11,7 +11,7 @@
 
 struct change {
     unsigned slot;
-    struct record before, after;
+    uint8_t before[SHINGLEBAR_RECORD_LENGTH], after[SHINGLEBAR_RECORD_LENGTH];
 };
 
 /* The slots that changed, how many of them concern the audience, and the first of those. */
@@ -25,6 +25,9 @@ struct shadow {
     struct table table;
     uint16_t guess[SHADOW_GUESSES];
 };
+
+/* Puts the bytes of a record into a slot, and tells what that changed. */
+struct change change_make(struct table *table, unsigned slot, const uint8_t *bytes);
 
 /* Makes the copy anew. */
 void shadow_copy(struct shadow *shadow, const struct table *now);

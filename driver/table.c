@@ -6,7 +6,6 @@
 
 #include "message.h"
 #include "process.h"
-#include "words.h"
 
 int table_read(struct table *table, const char *name, unsigned long slots)
 {
@@ -29,7 +28,7 @@ int table_read(struct table *table, const char *name, unsigned long slots)
     if (shinglebar_is_refusal(answer))
         return bad_data("%s is no address table: it has %zu%s bytes; refused %u: %s", name, table->length,
                         table->length == sizeof table->bytes ? " or more" : "", shinglebar_refusal(answer),
-                        refusal_words(answer));
+                        shinglebar_refusal_string(answer));
     if (slots != 0 && slots != table_slots(table))
         return bad_data("%s has %u slots, and --slots says %lu", name, table_slots(table), slots);
     return 0;
@@ -40,35 +39,38 @@ unsigned table_slots(const struct table *table)
     return (unsigned)(table->length / SHINGLEBAR_RECORD_LENGTH);
 }
 
-struct record table_record(const struct table *table, unsigned slot)
-{
-    return record_read(table->bytes + (size_t)slot * SHINGLEBAR_RECORD_LENGTH);
-}
-
-uint8_t *table_bytes(struct table *table, unsigned slot)
+const uint8_t *table_slot(const struct table *table, unsigned slot)
 {
     return table->bytes + (size_t)slot * SHINGLEBAR_RECORD_LENGTH;
+}
+
+struct shinglebar_record table_record(const struct table *table, unsigned slot)
+{
+    return shinglebar_unpack_record(table_slot(table, slot));
 }
 
 int table_find(const struct table *table, unsigned kind, uint32_t label, uint64_t mac)
 {
     uint8_t wanted[SHINGLEBAR_RECORD_LENGTH];
-    const struct record key = {RECORD_FREE, kind, label, mac, 0, 0, 0, NULL};
-    record_write(&key, wanted);
+    const struct shinglebar_record some = {
+        .state = SHINGLEBAR_RECORD_LEARNED, .label_kind = kind, .label = label, .mac = mac, .nickname = 1};
+    /* No record holds a pair that cannot be packed. */
+    if (!shinglebar_pack_record(&some, wanted))
+        return -1;
     for (unsigned slot = 0; slot < table_slots(table); slot++) {
         /* Bytes 1 to 8 hold nothing but label and address: most slots are told by them. */
-        if (memcmp(table->bytes + (size_t)slot * SHINGLEBAR_RECORD_LENGTH + 1, wanted + 1, 8) != 0)
+        if (memcmp(table_slot(table, slot) + 1, wanted + 1, 8) != 0)
             continue;
-        struct record record = table_record(table, slot);
-        if (record_is_entry(&record) && record.kind == kind && record.label == label && record.mac == mac)
+        struct shinglebar_record record = table_record(table, slot);
+        if (record_holds(&record, kind, label, mac))
             return (int)slot;
     }
     return -1;
 }
 
-int concerns(const struct audience *audience, const struct record *record)
+int concerns(const struct audience *audience, const struct shinglebar_record *record)
 {
-    return !audience->is_one || (record->state != RECORD_FREE && record->mac == audience->mac);
+    return !audience->is_one || (record->state != SHINGLEBAR_RECORD_FREE && record->mac == audience->mac);
 }
 
 static void counts_put(struct text *to, const struct table *table)
@@ -77,8 +79,8 @@ static void counts_put(struct text *to, const struct table *table)
     unsigned count[4] = {0, 0, 0, 0};
     for (unsigned slot = 0; slot < table_slots(table); slot++)
         count[table_record(table, slot).state]++;
-    const unsigned counts[] = {count[RECORD_LEARNED], count[RECORD_CONFIGURED], count[RECORD_SPOILT],
-                               count[RECORD_FREE]};
+    const unsigned counts[] = {count[SHINGLEBAR_RECORD_LEARNED], count[SHINGLEBAR_RECORD_CONFIGURED],
+                               count[SHINGLEBAR_RECORD_SPOILT], count[SHINGLEBAR_RECORD_FREE]};
     if (to->json)
         json_number(to, "slots", table_slots(table));
     else {
@@ -103,8 +105,8 @@ void table_print(struct text *line, const struct table *table, const struct audi
     counts_put(line, table);
     line_out(line);
     for (unsigned slot = 0; slot < table_slots(table); slot++) {
-        struct record record = table_record(table, slot);
-        if (record.state == RECORD_FREE || !concerns(audience, &record))
+        struct shinglebar_record record = table_record(table, slot);
+        if (record.state == SHINGLEBAR_RECORD_FREE || !concerns(audience, &record))
             continue;
         if (line->json) {
             json_number(line, "slot", slot);
@@ -113,7 +115,7 @@ void table_print(struct text *line, const struct table *table, const struct audi
             text_number(line, slot);
             text_put(line, ": ");
         }
-        record_put(line, &record);
+        record_put(line, table_slot(table, slot));
         line_out(line);
     }
 }

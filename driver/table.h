@@ -26,14 +26,14 @@ struct audience {
 int table_read(struct table *table, const char *name, unsigned long slots);
 
 unsigned table_slots(const struct table *table);
-struct record table_record(const struct table *table, unsigned slot);
-uint8_t *table_bytes(struct table *table, unsigned slot);
+const uint8_t *table_slot(const struct table *table, unsigned slot);
+struct shinglebar_record table_record(const struct table *table, unsigned slot);
 
 /* The lowest slot with this label and address among the learned and configured ones, or -1. */
 int table_find(const struct table *table, unsigned kind, uint32_t label, uint64_t mac);
 
 /* Whether a record concerns an audience. */
-int concerns(const struct audience *audience, const struct record *record);
+int concerns(const struct audience *audience, const struct shinglebar_record *record);
 
 /* Prints a line of counts, and a line for every slot that is not free and concerns the audience. */
 void table_print(struct text *line, const struct table *table, const struct audience *audience);

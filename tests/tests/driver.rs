@@ -1,5 +1,6 @@
 //! The port driver (driver/*.c), compiled with the archive and run as a user runs it.
 
+use std::collections::BTreeSet;
 use std::fs;
 use std::io::{BufRead, BufReader, Read, Write};
 use std::os::unix::fs::{chown, symlink, MetadataExt, PermissionsExt};
@@ -2224,25 +2225,77 @@ fn a_long_capture_has_a_progress_line_on_a_terminal_only() {
     assert!(text(&bytes(&folder.join("printed"))).starts_with("25000 frames: "));
 }
 
+/// The strings of the header are the words of its comments, in the order of the numbers; and so is what the driver prints of each
+/// refusal that a user can meet. Refusal 1 has a message of its own, which names options; the driver's areas leave no room for 16.
 #[test]
 fn the_words_for_refusals_are_those_of_the_header() {
-    let words = text(&bytes(&package().join("../driver/words.c")));
     let header = text(&bytes(&package().join("../include/shinglebar.h")));
     let lines: Vec<&str> = header.lines().map(str::trim).collect();
-    let mut from = 0;
-    let mut count = 0;
-    for pair in lines.windows(2) {
-        if !pair[1].starts_with("SHINGLEBAR_REFUSAL_") || !pair[1].contains(" = ") {
-            continue;
-        }
-        let comment = pair[0]
-            .strip_prefix("/* ")
-            .and_then(|line| line.strip_suffix(" */"))
-            .expect("the words");
-        // in the order of the numbers
-        let found = words[from..].find(&format!("\"{comment}\","));
-        from += found.unwrap_or_else(|| panic!("`{comment}` is not in driver/words.c"));
-        count += 1;
+    let numbered =
+        |pair: &&[&str]| pair[1].starts_with("SHINGLEBAR_REFUSAL_") && pair[1].contains(" = ");
+    let comment = |pair: &[&str]| {
+        let words = pair[0].strip_prefix("/* ")?.strip_suffix(" */")?;
+        Some(words.to_owned())
+    };
+    let words: Option<Vec<String>> = lines.windows(2).filter(numbered).map(comment).collect();
+    let words = words.expect("the words");
+    assert_eq!(words.len(), 18);
+    let strings: Vec<&str> = lines
+        .iter()
+        .skip_while(|line| **line != "\"no refusal\",")
+        .skip(1)
+        .map_while(|line| {
+            line.trim_end_matches(',')
+                .strip_prefix('"')?
+                .strip_suffix('"')
+        })
+        .collect();
+    assert_eq!(strings, words);
+
+    let folder = folder("words");
+    for name in ["refusals", "to_compact", "lab_to_left"] {
+        fs::copy(data(&format!("{name}.pcap")), folder.join(name)).expect("a capture");
     }
-    assert_eq!(count, 18);
+    let convert = |command, capture| [&[command, capture, "--out", "out"][..], &SETTINGS].concat();
+    let source = ["--source", "02-00-00-00-00-B2"];
+    let mut printed = good(&run_in(&folder, &receive_words("refusals")));
+    printed += &good(&run_in(&folder, &convert("compact", "to_compact")));
+    printed += &good(&run_in(
+        &folder,
+        &[&convert("expand", "lab_to_left")[..], &source].concat(),
+    ));
+    fs::write(folder.join("table"), [0; RECORD - 1]).expect("a table");
+    let output = run_in(&folder, &["check", "--table", "table"]);
+    assert_eq!(output.status.code(), Some(1));
+    printed += &text(&output.stderr);
+
+    let (mut answered, mut counted) = (BTreeSet::new(), BTreeSet::new());
+    for line in printed.lines() {
+        let Some((before, refused)) = line.split_once("refused ") else {
+            continue;
+        };
+        // the totals have the count of all, and a line for each with its count
+        let Some((number, said)) = refused.split_once(": ") else {
+            continue;
+        };
+        let number: usize = number.parse().expect("a number");
+        let words = &words[number - 1];
+        if before == "  " {
+            let (count, said) = said.split_once(' ').expect("a count");
+            assert!(count.parse::<usize>().is_ok(), "{line}");
+            assert_eq!(said, format!("({words})"), "{line}");
+            counted.insert(number);
+        } else {
+            let behind = said.strip_prefix(words.as_str());
+            let behind = behind.unwrap_or_else(|| panic!("`{words}` is not in: {line}"));
+            let more = number == 15 && behind.starts_with(": byte ");
+            assert!(
+                behind.is_empty() || behind.starts_with(" | ") || more,
+                "{line}"
+            );
+            answered.insert(number);
+        }
+    }
+    assert!(counted.into_iter().eq(3..=15));
+    assert!(answered.into_iter().eq((2..=15).chain([17, 18])));
 }
