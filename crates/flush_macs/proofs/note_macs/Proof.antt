@@ -3,6 +3,7 @@
 use Prim.Native.Nat.{_-_, _/_, _≤_}
 use native.Mathlib.Omega.{arith}
 use lib.ListN.{length}
+use Rattle.table.specs.Slots.{slotBytes}
 use Rattle.table.specs.Record.{macOf}
 use Rattle.flush_marks.specs.Marks.{Found}
 use Rattle.flush_buckets.specs.Buckets.{NotedTo}
@@ -18,7 +19,7 @@ abbrev μ-loop : tie.MeasureT-loop
 μ-loop table marks wanted₀ n k₀ wanted k = n - k
 
 -- the slot that was found
-found : (c : tie.After-known-told Inv-loop μ-loop) → Found (c .before .before .before .before .before .before .before .before .before .args .marks .now) (c .before .before .before .before .before .loop .k) (length (c .before .before .before .before .before .before .before .before .before .args .table .now) / 14) (c .before .j .given .0 .0)
+found : (c : tie.After-known-told Inv-loop μ-loop) → Found (c .before .before .before .before .before .before .before .before .before .args .marks .now) (c .before .before .before .before .before .loop .k) (length (c .before .before .before .before .before .before .before .before .before .args .table .now) / slotBytes) (c .before .j .given .0 .0)
 found c = c .before .before .before .next-marked .ensures .hit _ (c .before .j .given .1)
 
 loop-holds : tie.Need-loop-holds Inv-loop μ-loop

@@ -3,6 +3,7 @@
 use Prim.Native.Nat.{_-_, _/_, _≤_}
 use native.Mathlib.Omega.{arith}
 use lib.ListN.{length}
+use Rattle.table.specs.Slots.{slotBytes}
 use Rattle.table.proofs.Slots.{length-lent}
 use Rattle.flush_marks.specs.Marks.{Found, ClearedTo}
 use Rattle.flush_marks.proofs.Clearing.{cleared-none, cleared-next, cleared-rest, cleared-ends}
@@ -17,7 +18,7 @@ abbrev μ-loop : tie.MeasureT-loop
 μ-loop table₀ marks n count₀ k₀ table count k = n - k
 
 -- the slot that was found
-found : (c : tie.After-known-told Inv-loop μ-loop) → Found (c .before .before .before .before .before .before .before .before .args .marks .now) (c .before .before .before .before .before .loop .k) (length (c .before .before .before .before .before .before .before .before .args .table .now) / 14) (c .before .j .given .0 .0)
+found : (c : tie.After-known-told Inv-loop μ-loop) → Found (c .before .before .before .before .before .before .before .before .args .marks .now) (c .before .before .before .before .before .loop .k) (length (c .before .before .before .before .before .before .before .before .args .table .now) / slotBytes) (c .before .j .given .0 .0)
 found c = c .before .before .before .next-marked .ensures .hit _ (c .before .j .given .1)
 
 loop-holds : tie.Need-loop-holds Inv-loop μ-loop
