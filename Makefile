@@ -82,8 +82,9 @@ fuzzer: archive
 	    -artifact_prefix=fuzz/target/ -print_final_stats=1 fuzz/target/corpus fuzz/corpus
 
 # Times the calls beside hand-written Rust versions of them, on the same bytes in the same run. Writes docs/BENCH.md and its plots.
+# First the hand-written flush must do what the library does on random messages.
 bench: archive
-	cd bench && cargo run --release --offline --locked
+	cd bench && cargo test --release --offline --locked && cargo run --release --offline --locked
 
 # Writes the calls that the program `replay` makes and what the second implementation says they give (docs/REPLAY.md), and from
 # them the first inputs of the fuzz target.

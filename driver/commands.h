@@ -11,5 +11,7 @@ int age_command(const struct options *options);
 int check_command(const struct options *options);
 int live_command(const struct options *options);
 int send_command(const struct options *options);
+int set_command(const struct options *options);
+int unset_command(const struct options *options);
 
 #endif

@@ -1,13 +1,12 @@
 /* The commands `compact` and `expand`: a capture to a capture. */
-#include <stdio.h>
-
+#include "answer.h"
 #include "capture.h"
 #include "commands.h"
 #include "frame.h"
 #include "message.h"
+#include "path.h"
 #include "process.h"
 #include "shinglebar.h"
-#include "words.h"
 
 static uint64_t convert(const struct options *options, const struct captured *frame, uint8_t *out, size_t room)
 {
@@ -18,41 +17,75 @@ static uint64_t convert(const struct options *options, const struct captured *fr
                              out, room);
 }
 
-static void line_print(const struct options *options, unsigned long number, const struct captured *frame, uint64_t answer)
+static void line_print(struct text *line, const struct options *options, unsigned long number,
+                       const struct captured *captured, uint64_t answer)
 {
-    progress_clear();
-    printf("frame %lu: ", number);
-    frame_print(stdout, frame->bytes, frame->length, options->settings.port);
-    if (shinglebar_is_refusal(answer))
-        printf(" | left out, refused %u: %s\n", shinglebar_refusal(answer), refusal_words(answer));
-    else
-        printf(" | %s to %zu bytes\n", options->command == COMPACT ? "compacted" : "expanded",
-               shinglebar_written_length(answer));
+    const char *done = options->command == COMPACT ? "compacted" : "expanded";
+    struct frame frame = frame_read(captured->bytes, captured->length, options->settings.port);
+    frame_put(line, number, captured, &frame);
+    if (line->json)
+        json_words(line, "answer", shinglebar_is_refusal(answer) ? "left out" : done);
+    if (shinglebar_is_refusal(answer)) {
+        refusal_put(line, " | left out, ", answer);
+    } else if (line->json) {
+        json_number(line, "written_bytes", shinglebar_written_length(answer));
+    } else {
+        text_put(line, " | ");
+        text_put(line, done);
+        text_put(line, " to ");
+        text_number(line, shinglebar_written_length(answer));
+        text_put(line, " bytes");
+    }
+    line_out(line);
 }
 
-static int run(const struct options *options, struct capture_reader *reader, struct whole *out)
+static void totals_print(struct text *line, const struct options *options, unsigned long frames, unsigned long done)
+{
+    const char *words = options->command == COMPACT ? "compacted" : "expanded";
+    if (line->json) {
+        json_number(line, "frames", frames);
+        json_number(line, words, done);
+        json_number(line, "left_out", frames - done);
+    } else {
+        text_number(line, frames);
+        text_put(line, " frames: ");
+        text_number(line, done);
+        text_put(line, " ");
+        text_put(line, words);
+        text_put(line, ", ");
+        text_number(line, frames - done);
+        text_put(line, " left out");
+    }
+    line_out(line);
+}
+
+/* What came before a cut counts: `*written` tells whether the output has been replaced. */
+static int run(const struct options *options, struct capture_reader *reader, struct whole *out, int *written_out)
 {
     static struct captured frame;
     static uint8_t written[SHINGLEBAR_FRAME_LENGTH_MAX];
+    static struct text line;
     unsigned long done = 0;
-    int got;
+    enum capture_step step;
+    line.json = options->json;
     if (capture_create(out, options->out, reader->form) != 0)
         return 1;
-    while ((got = capture_next(reader, &frame)) > 0) {
+    while ((step = capture_next(reader, &frame)) == CAPTURE_FRAME) {
         uint64_t answer = convert(options, &frame, written, sizeof written);
         int kept = !shinglebar_is_refusal(answer);
         done += (unsigned long)kept;
         if (!options->quiet)
-            line_print(options, reader->number, &frame, answer);
+            line_print(&line, options, reader->number, &frame, answer);
         if (kept && capture_add(out, reader->form, &frame, written, shinglebar_written_length(answer)) != 0)
             return 1;
     }
-    if (got < 0)
+    if (step == CAPTURE_BAD)
         return 1;
-    progress_clear();
-    printf("%lu frames: %lu %s, %lu left out\n", reader->number, done,
-           options->command == COMPACT ? "compacted" : "expanded", reader->number - done);
-    return output_ready() != 0 || whole_ready(out) != 0 || whole_replace(out) != 0;
+    totals_print(&line, options, reader->number, done);
+    if (output_ready() != 0 || whole_ready(out) != 0 || whole_replace(out) != 0)
+        return 1;
+    *written_out = 1;
+    return step == CAPTURE_CUT;
 }
 
 int convert_command(const struct options *options)
@@ -63,8 +96,9 @@ int convert_command(const struct options *options)
         return bad_usage("the capture and --out are different files");
     if (capture_open(&reader, options->capture) != 0)
         return 1;
-    int status = run(options, &reader, &out);
-    if (status != 0)
+    int written = 0;
+    int status = run(options, &reader, &out, &written);
+    if (!written && out.temporary != NULL)
         bad_data("%s stays as it was", options->out);
     whole_end(&out);
     capture_close(&reader);

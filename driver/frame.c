@@ -1,7 +1,6 @@
 #include "frame.h"
 
 #include "shinglebar.h"
-#include "table.h"
 
 #define TRILL 0x22F3u
 #define C_TAG 0x8100u
@@ -12,15 +11,6 @@
 struct cursor {
     const uint8_t *bytes;
     size_t left;
-};
-
-/* What was found, each part with 1 beside it if it is there. */
-struct seen {
-    const char *format;
-    int has_addresses, has_label, has_header, has_type, has_protocol;
-    uint64_t destination, source, header, type, protocol;
-    unsigned kind;
-    uint64_t label;
 };
 
 /* Takes a number of some bytes: 1, or 0 if the frame ends before. */
@@ -36,7 +26,7 @@ static int take(struct cursor *at, size_t bytes, uint64_t *value)
     return 1;
 }
 
-static int take_label(struct cursor *at, struct seen *seen)
+static int take_label(struct cursor *at, struct frame *seen)
 {
     uint64_t type, high, low;
     if (!take(at, 2, &type) || !take(at, 2, &high))
@@ -50,12 +40,12 @@ static int take_label(struct cursor *at, struct seen *seen)
     return seen->has_label = 1;
 }
 
-static int take_addresses(struct cursor *at, struct seen *seen)
+static int take_addresses(struct cursor *at, struct frame *seen)
 {
     return seen->has_addresses = take(at, 6, &seen->destination) && take(at, 6, &seen->source);
 }
 
-static int take_header(struct cursor *at, struct seen *seen)
+static int take_header(struct cursor *at, struct frame *seen)
 {
     seen->has_header = take(at, 6, &seen->header);
     size_t options = (size_t)(seen->header >> 38 & 0x1F) * 4;
@@ -66,14 +56,18 @@ static int take_header(struct cursor *at, struct seen *seen)
     return 1;
 }
 
-static void take_content(struct cursor *at, struct seen *seen)
+static void take_content(struct cursor *at, struct frame *seen)
 {
     seen->has_type = take(at, 2, &seen->type);
     seen->has_protocol = seen->has_type && seen->type == CHANNEL && take(at, 2, &seen->protocol);
+    uint64_t flags;
+    seen->has_payload = seen->has_protocol && take(at, 2, &flags);
+    seen->payload = at->bytes;
+    seen->payload_length = at->left;
 }
 
 /* Outer addresses, an optional tag, 22F3, header, inner addresses, label, content. */
-static int see_general(struct cursor at, struct seen *seen)
+static int see_general(struct cursor at, struct frame *seen)
 {
     uint64_t skipped, type;
     if (!take(&at, 6, &skipped) || !take(&at, 6, &skipped) || !take(&at, 2, &type))
@@ -88,7 +82,7 @@ static int see_general(struct cursor at, struct seen *seen)
 }
 
 /* Inner addresses, label, 22F3, header, content. */
-static int see_compact(struct cursor at, struct seen *seen)
+static int see_compact(struct cursor at, struct frame *seen)
 {
     uint64_t type;
     if (!take_addresses(&at, seen) || !take_label(&at, seen) || !take(&at, 2, &type) || type != TRILL)
@@ -98,12 +92,13 @@ static int see_compact(struct cursor at, struct seen *seen)
     return 1;
 }
 
-static struct seen see(const uint8_t *frame, size_t length, uint64_t port)
+struct frame frame_read(const uint8_t *bytes, size_t length, uint64_t port)
 {
-    const struct seen nothing = {0};
-    struct cursor at = {frame, length}, front = at;
-    struct seen seen = nothing;
+    struct frame nothing = {0};
+    struct cursor at = {bytes, length}, front = at;
     uint64_t destination = 0;
+    nothing.length = length;
+    struct frame seen = nothing;
     take(&front, 6, &destination);
     if (destination == port || destination == ALL_RBRIDGES) {
         seen.format = "General";
@@ -121,25 +116,82 @@ static struct seen see(const uint8_t *frame, size_t length, uint64_t port)
     return seen;
 }
 
-void frame_print(FILE *to, const uint8_t *frame, size_t length, uint64_t port)
+unsigned frame_ingress(const struct frame *frame)
 {
-    struct seen seen = see(frame, length, port);
-    fprintf(to, "%s, %zu bytes", seen.format, length);
-    if (seen.has_label) {
-        fputs(", ", to);
-        label_print(to, seen.kind, (uint32_t)seen.label);
+    return (unsigned)(frame->header & 0xFFFF);
+}
+
+static unsigned egress(const struct frame *frame)
+{
+    return (unsigned)(frame->header >> 16 & 0xFFFF);
+}
+
+static int is_multicast(const struct frame *frame)
+{
+    return (int)(frame->header >> 43 & 1);
+}
+
+static void put_json(struct text *to, unsigned long number, const struct captured *captured, const struct frame *frame)
+{
+    json_number(to, "frame", number);
+    json_time(to, captured->seconds, captured->fraction, captured->digits);
+    json_words(to, "format", frame->format);
+    json_number(to, "bytes", frame->length);
+    if (frame->has_label)
+        json_label(to, frame->kind, (uint32_t)frame->label);
+    if (frame->has_addresses) {
+        json_address(to, "source", frame->source);
+        json_address(to, "destination", frame->destination);
     }
-    if (seen.has_addresses) {
-        fputs(", ", to);
-        address_print(to, seen.source);
-        fputs(" to ", to);
-        address_print(to, seen.destination);
+    if (frame->has_header) {
+        json_hex(to, "ingress", frame_ingress(frame), 4);
+        json_hex(to, "egress", egress(frame), 4);
+        json_truth(to, "multicast", is_multicast(frame));
     }
-    if (seen.has_header)
-        fprintf(to, ", %04X to %04X%s", (unsigned)(seen.header & 0xFFFF), (unsigned)(seen.header >> 16 & 0xFFFF),
-                seen.header >> 43 & 1 ? " (M)" : "");
-    if (seen.has_protocol)
-        fprintf(to, ", channel %03X", (unsigned)(seen.protocol & 0xFFF));
-    else if (seen.has_type)
-        fprintf(to, ", type %04X", (unsigned)seen.type);
+    if (frame->has_protocol)
+        json_hex(to, "channel", frame->protocol & 0xFFF, 3);
+    else if (frame->has_type)
+        json_hex(to, "type", frame->type, 4);
+}
+
+static void put_words(struct text *to, unsigned long number, const struct captured *captured, const struct frame *frame)
+{
+    text_put(to, "frame ");
+    text_number(to, number);
+    text_put(to, ": ");
+    text_time(to, captured->seconds, captured->fraction, captured->digits);
+    text_put(to, " ");
+    text_put(to, frame->format);
+    text_put(to, ", ");
+    text_number(to, frame->length);
+    text_put(to, " bytes");
+    if (frame->has_label) {
+        text_put(to, ", ");
+        text_label(to, frame->kind, (uint32_t)frame->label);
+    }
+    if (frame->has_addresses) {
+        text_put(to, ", ");
+        text_address(to, frame->source);
+        text_put(to, " to ");
+        text_address(to, frame->destination);
+    }
+    if (frame->has_header) {
+        text_put(to, ", ");
+        text_hex(to, frame_ingress(frame), 4);
+        text_put(to, " to ");
+        text_hex(to, egress(frame), 4);
+        text_put(to, is_multicast(frame) ? " (M)" : "");
+    }
+    if (frame->has_protocol || frame->has_type) {
+        text_put(to, frame->has_protocol ? ", channel " : ", type ");
+        text_hex(to, frame->has_protocol ? frame->protocol & 0xFFF : frame->type, frame->has_protocol ? 3 : 4);
+    }
+}
+
+void frame_put(struct text *to, unsigned long number, const struct captured *captured, const struct frame *frame)
+{
+    if (to->json)
+        put_json(to, number, captured, frame);
+    else
+        put_words(to, number, captured, frame);
 }

@@ -4,9 +4,28 @@
 
 #include <stddef.h>
 #include <stdint.h>
-#include <stdio.h>
 
-/* Prints format, label, inner addresses, nicknames and content as far as the frame has them, for a port with this address. */
-void frame_print(FILE *to, const uint8_t *frame, size_t length, uint64_t port);
+#include "capture.h"
+#include "text.h"
+
+/* What was found, each part with 1 beside it if it is there. The payload is what follows a channel's header. */
+struct frame {
+    const char *format;
+    size_t length;
+    int has_addresses, has_label, has_header, has_type, has_protocol, has_payload;
+    uint64_t destination, source, header, type, protocol;
+    unsigned kind;
+    uint64_t label;
+    const uint8_t *payload;
+    size_t payload_length;
+};
+
+/* Reads a frame as far as it goes, for a port with this address. */
+struct frame frame_read(const uint8_t *bytes, size_t length, uint64_t port);
+
+unsigned frame_ingress(const struct frame *frame);
+
+/* Begins a line: the frame's number and time, format, label, inner addresses, nicknames and content as far as it has them. */
+void frame_put(struct text *to, unsigned long number, const struct captured *captured, const struct frame *frame);
 
 #endif

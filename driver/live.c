@@ -1,78 +1,199 @@
 /* The command `live`: the frames of an interface through the receiver. */
 #define _POSIX_C_SOURCE 200809L
-#include <poll.h>
 #include <stdio.h>
 #include <time.h>
-#include <unistd.h>
 
 #include "commands.h"
 #include "interface.h"
 #include "message.h"
+#include "path.h"
 #include "process.h"
 #include "receiver.h"
 
 #define WAIT_MILLISECONDS 100
+#define LOST_STATUS 3
 
-static time_t seconds_now(void)
+/* The seconds are of the clock that runs evenly: the last one that has passed for the table, that of the last save, the end. */
+struct live {
+    const struct options *options;
+    struct receiver receiver;
+    struct interface interface;
+    uint64_t passed, saved, end;
+};
+
+/* A clock that also runs while the machine sleeps, and is never set. */
+static uint64_t even_seconds(void)
 {
     struct timespec now;
-    clock_gettime(CLOCK_MONOTONIC, &now);
-    return now.tv_sec;
+    clock_gettime(CLOCK_BOOTTIME, &now);
+    return (uint64_t)now.tv_sec;
 }
 
-/* Lets the time since the last call pass for the table. */
-static void age(struct table *table, time_t *last)
+static uint64_t wall_seconds(void)
 {
-    time_t now = seconds_now(), passed = now - *last;
-    *last = now;
-    if (passed > 0)
-        shinglebar_age((uint16_t)(passed > UINT16_MAX ? UINT16_MAX : passed), table->bytes, table->length);
+    struct timespec now;
+    clock_gettime(CLOCK_REALTIME, &now);
+    return (uint64_t)now.tv_sec;
 }
 
-/* Until the frames or seconds asked for, or a signal: 0; 1 if the interface or the output fails, which is said. */
-static int listen_on(int file, struct receiver *receiver, const struct options *options)
+/* Lets the time pass for the table in which nobody was listening. */
+static void pass_night(struct receiver *receiver)
 {
-    static struct captured frame;
-    time_t began = seconds_now(), aged = began;
-    struct pollfd ready = {file, POLLIN, 0};
-    while (!stop_asked() && (options->frames == 0 || receiver->frames < options->frames)
-           && (options->duration == 0 || seconds_now() - began < (time_t)options->duration)) {
-        poll(&ready, 1, WAIT_MILLISECONDS);
-        age(&receiver->table, &aged);
-        int got = interface_next(file, options->interface, &frame);
-        if (got < 0 || (got > 0 && receiver_take(receiver, &frame) != 0))
+    const struct aged *aged = &receiver->store.aged;
+    uint64_t now = wall_seconds();
+    if (aged->known && aged->second > now) {
+        bad_data("%s was aged to a second that is still to come; it ages from now on", receiver->store.name);
+        receiver_pass(receiver, 0, now);
+    }
+    receiver_age(receiver, now);
+}
+
+static void state_print(struct live *live, const char *state)
+{
+    struct text *line = &live->receiver.line;
+    if (line->json) {
+        json_time(line, wall_seconds(), 0, 0);
+        json_words(line, "interface", live->interface.name);
+        json_words(line, "state", state);
+    } else {
+        text_put(line, "interface ");
+        text_put(line, live->interface.name);
+        text_put(line, ": ");
+        text_time(line, wall_seconds(), 0, 0);
+        text_put(line, " ");
+        text_put(line, state);
+    }
+    line_out(line);
+}
+
+static void listening_print(struct live *live)
+{
+    struct text *line = &live->receiver.line;
+    if (line->json) {
+        state_print(live, "listening");
+        return;
+    }
+    text_put(line, "listening on ");
+    text_put(line, live->interface.name);
+    line_out(line);
+}
+
+/* Reads what has come: 0, or 1 if the interface or the output capture fails, which is said. */
+static int take_frames(struct live *live)
+{
+    unsigned long left = live->options->frames == 0 ? INTERFACE_BATCH : live->options->frames - live->receiver.frames;
+    if (live->interface.file < 0) {
+        if (interface_again(&live->interface))
+            state_print(live, "up again");
+        return 0;
+    }
+    switch (interface_read(&live->interface, left < INTERFACE_BATCH ? (unsigned)left : INTERFACE_BATCH)) {
+    case INTERFACE_FAILED:
+        return 1;
+    case INTERFACE_DOWN:
+        state_print(live, "down");
+        return 0;
+    case INTERFACE_READ:
+        break;
+    }
+    for (unsigned i = 0; i < live->interface.count; i++)
+        if (receiver_take(&live->receiver, live->interface.frames[i]) != 0)
             return 1;
+    return 0;
+}
+
+/* Writes the table file from time to time, and when asked. A save that fails is said and tried again. */
+static void save(struct live *live)
+{
+    uint64_t now = even_seconds();
+    int asked = save_asked();
+    if (!asked && now - live->saved < live->options->save)
+        return;
+    live->saved = now;
+    if (!asked && !store_is_changed(&live->receiver.store))
+        return;
+    if (store_save(&live->receiver.store) == 0 && asked && !live->options->dry_run)
+        state_print(live, "table saved");
+}
+
+/* Once a second: the table ages, and the progress line tells frames and losses. */
+static void pass_second(struct live *live)
+{
+    uint64_t now = even_seconds();
+    if (now == live->passed)
+        return;
+    receiver_pass(&live->receiver, now - live->passed, wall_seconds());
+    live->passed = now;
+    interface_count_lost(&live->interface);
+    progress_live(live->receiver.frames, live->interface.lost);
+}
+
+static int is_over(const struct live *live)
+{
+    return stop_asked() || (live->options->frames != 0 && live->receiver.frames >= live->options->frames)
+           || (live->end != 0 && even_seconds() >= live->end);
+}
+
+/* Until the frames or seconds asked for, or a signal: 0; 1 if the interface, the output or the lines fail, which is said. */
+static int listen_on(struct live *live)
+{
+    live->passed = live->saved = even_seconds();
+    live->end = live->options->duration == 0 ? 0 : live->passed + live->options->duration;
+    pass_night(&live->receiver);
+    listening_print(live);
+    while (!is_over(live)) {
+        if (receiver_flush(&live->receiver) != 0)
+            return 1;
+        interface_wait(&live->interface, WAIT_MILLISECONDS);
+        pass_second(live);
+        if (take_frames(live) != 0)
+            return 1;
+        save(live);
     }
     return 0;
 }
 
+/* What was learned is kept, whatever else failed. */
+static int keep(struct live *live)
+{
+    struct receiver *receiver = &live->receiver;
+    int status = 0;
+    interface_count_lost(&live->interface);
+    receiver->lost = live->interface.lost;
+    receiver_report(receiver);
+    if (receiver->lost != 0) {
+        bad_data("interface %s: %lu frames were lost before they were read", live->interface.name, receiver->lost);
+        status = LOST_STATUS;
+    }
+    if (store_save(&receiver->store) != 0)
+        status = bad_data("%s stays as it was last written", receiver->store.name);
+    if (whole_ready(&receiver->out) != 0 || whole_replace(&receiver->out) != 0)
+        status = bad_data("%s is not written", live->options->out);
+    return output_ready() != 0 ? 1 : status;
+}
+
+static int run(struct live *live)
+{
+    const struct options *options = live->options;
+    if (receiver_open(&live->receiver, options) != 0 || interface_open(&live->interface, options->interface) != 0
+        || capture_create(&live->receiver.out, options->out, live->receiver.form) != 0)
+        return 1;
+    int status = listen_on(live);
+    int kept = keep(live);
+    return status != 0 ? status : kept;
+}
+
 int live_command(const struct options *options)
 {
-    static struct receiver receiver;
-    const struct capture_form form = {0, 1};
-    receiver.settings = &options->settings;
-    receiver.quiet = options->quiet;
-    receiver.form = form;
+    static struct live live;
+    live.options = options;
+    live.interface.file = -1;
+    live.receiver.form.nanoseconds = 1;
+    live.receiver.is_live = 1;
     if (same_file(options->out, options->table))
         return bad_usage("--table and --out are different files");
-    if (table_read(&receiver.table, options->table, options->slots) != 0)
-        return 1;
-    int file = interface_to_listen(options->interface);
-    if (file < 0)
-        return 1;
-    int status = capture_create(&receiver.out, options->out, form);
-    if (status == 0) {
-        setvbuf(stdout, NULL, _IOLBF, 0);
-        printf("listening on %s\n", options->interface);
-        status = listen_on(file, &receiver, options);
-        unsigned lost = interface_lost(file);
-        if (lost != 0)
-            bad_data("interface %s: %u frames were lost before they were read", options->interface, lost);
-        /* What was learned is kept, also where the interface failed. */
-        if (receiver_finish(&receiver, options->table) != 0)
-            status = bad_data("%s stays as it was", options->table);
-    }
-    whole_end(&receiver.out);
-    close(file);
+    int status = run(&live);
+    interface_close(&live.interface);
+    receiver_close(&live.receiver);
     return status;
 }

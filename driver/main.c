@@ -1,14 +1,26 @@
 /* A port driver over the Shinglebar library. */
+#define _POSIX_C_SOURCE 200809L
+#include <stdio.h>
+#include <unistd.h>
+
 #include "commands.h"
+#include "path.h"
 #include "process.h"
+
+#define LINES_ROOM 65536
 
 int main(int count, char **words)
 {
+    static char lines[LINES_ROOM];
     struct options options;
+    /* A line is written out with others, but on a terminal; a message brings out what came before it. */
+    setvbuf(stdout, lines, isatty(STDOUT_FILENO) ? _IOLBF : _IOFBF, sizeof lines);
     int status = options_read(count, words, &options);
     if (status >= 0)
         return output_ready() != 0 ? 1 : status;
     catch_signals();
+    if (is_standard(options.out))
+        lines_to_error();
     switch (options.command) {
     case RECEIVE:
         return receive_command(&options);
@@ -25,6 +37,10 @@ int main(int count, char **words)
         return live_command(&options);
     case SEND:
         return send_command(&options);
+    case SET:
+        return set_command(&options);
+    case UNSET:
+        return unset_command(&options);
     }
     return 2;
 }

@@ -10,19 +10,31 @@
 
 static int progress_is_shown = 0;
 
-void progress_show(unsigned long frames, int percent)
+static int is_terminal(void)
 {
     static int terminal = -1;
-    if (frames == 0 || frames % PROGRESS_STEP != 0)
-        return;
     if (terminal < 0)
         terminal = isatty(STDERR_FILENO);
-    if (!terminal)
+    return terminal;
+}
+
+void progress_show(unsigned long frames, int percent)
+{
+    if (frames == 0 || frames % PROGRESS_STEP != 0 || !is_terminal())
         return;
     if (percent < 0)
         fprintf(stderr, "\r%lu frames", frames);
     else
         fprintf(stderr, "\r%lu frames, %d %%", frames, percent);
+    fflush(stderr);
+    progress_is_shown = 1;
+}
+
+void progress_live(unsigned long frames, unsigned long lost)
+{
+    if (!is_terminal())
+        return;
+    fprintf(stderr, "\r%lu frames, %lu lost", frames, lost);
     fflush(stderr);
     progress_is_shown = 1;
 }
@@ -43,6 +55,7 @@ static void say(const char *form, va_list values)
     fputs(PROGRAM ": ", stderr);
     vfprintf(stderr, form, values);
     fputc('\n', stderr);
+    fflush(stderr);
 }
 
 int bad_data(const char *form, ...)

@@ -13,6 +13,9 @@ int bad_usage(const char *form, ...) __attribute__((format(printf, 1, 2)));
 /* Shows how far a long capture has come, where standard error is a terminal; percent below 0 is not known. */
 void progress_show(unsigned long frames, int percent);
 
+/* Shows how many frames have come and how many were lost, where standard error is a terminal. */
+void progress_live(unsigned long frames, unsigned long lost);
+
 /* Takes the progress line away, before anything else is written. */
 void progress_clear(void);
 

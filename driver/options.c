@@ -4,13 +4,19 @@
 #include <string.h>
 
 #include "message.h"
+#include "path.h"
 #include "shinglebar.h"
 #include "table.h"
 
 #define WITH_SETTINGS (RECEIVE | COMPACT | EXPAND | LIVE | SEND)
 #define WITH_CAPTURE (RECEIVE | COMPACT | EXPAND | SEND)
-#define WITH_TABLE (RECEIVE | LOOKUP | AGE | CHECK | LIVE)
+#define WITH_TABLE (RECEIVE | LOOKUP | AGE | CHECK | LIVE | SET | UNSET)
+#define WITH_PAIR (LOOKUP | SET | UNSET)
+#define WITH_ANY (WITH_SETTINGS | WITH_TABLE)
 #define RFC6325_CONFIDENCE 32
+/* A configured record is not displaced by a learned one whatever its confidence; the highest says so. */
+#define SET_CONFIDENCE 255
+#define SAVE_SECONDS 30
 
 /* How an option's value is written, and so where it goes. */
 enum form { TEXT, ADDRESS, NICKNAME, SWITCH, NUMBER, FLAG };
@@ -32,13 +38,14 @@ struct option {
 static const struct option OPTIONS[] = {
     {"--table", "FILE", "the address table, records of 14 bytes; replaced whole or not at all", TEXT, WITH_TABLE,
      WITH_TABLE, AT(table), 0, 0},
-    {"--slots", "N", "makes the table with N free slots if its file is missing, 1 to 4096", NUMBER, RECEIVE | LIVE, 0,
+    {"--slots", "N", "makes the table with N free slots if its file is missing, 1 to 4096", NUMBER, RECEIVE | LIVE | SET, 0,
      AT(slots), 1, TABLE_SLOTS_MAX},
-    {"--out", "FILE", "the capture to write; replaced whole or not at all", TEXT, RECEIVE | COMPACT | EXPAND | LIVE,
+    {"--out", "FILE", "the capture to write; replaced whole or not at all; - is standard output", TEXT, RECEIVE | COMPACT | EXPAND | LIVE,
      COMPACT | EXPAND, AT(out), 0, 0},
     {"--interface", "NAME", "the Linux interface", TEXT, LIVE | SEND, LIVE | SEND, AT(interface), 0, 0},
     {"--frames", "N", "stops after N frames", NUMBER, LIVE, 0, AT(frames), 1, UINT32_MAX},
     {"--for", "SECONDS", "stops after so many seconds", NUMBER, LIVE, 0, AT(duration), 1, UINT32_MAX},
+    {"--save", "SECONDS", "writes the table file so often (30)", NUMBER, LIVE, 0, AT(save), 1, UINT32_MAX},
     {"--port", "ADDRESS", "the port's address", ADDRESS, WITH_SETTINGS, WITH_SETTINGS, AT(settings.port), 0, 0},
     {"--inner", "ADDRESS", "the port's own inner address", ADDRESS, WITH_SETTINGS, WITH_SETTINGS, AT(settings.inner), 0,
      0},
@@ -52,10 +59,19 @@ static const struct option OPTIONS[] = {
      AT(settings.seconds), 0, 8191},
     {"--source", "ADDRESS", "the outer source, an individual address", ADDRESS, EXPAND, EXPAND, AT(source), 0, 0},
     {"--tag", "N", "writes an outer tag with this VLAN, 1 to 4094", NUMBER, EXPAND, 0, AT(tag), 1, 4094},
-    {"--vlan", "N", "the label is this VLAN", NUMBER, LOOKUP, 0, AT(label), 0, 0xFFFF},
-    {"--fgl", "N", "the label is this fine-grained label", NUMBER, LOOKUP, 0, AT(label), 0, 0xFFFFFF},
-    {"--mac", "ADDRESS", "the address to look up", ADDRESS, LOOKUP, LOOKUP, AT(mac), 0, 0},
+    {"--vlan", "N", "the label is this VLAN", NUMBER, WITH_PAIR, 0, AT(label), 0, 0xFFFF},
+    {"--fgl", "N", "the label is this fine-grained label", NUMBER, WITH_PAIR, 0, AT(label), 0, 0xFFFFFF},
+    {"--mac", "ADDRESS", "the address of a station", ADDRESS, WITH_PAIR, WITH_PAIR, AT(audience.mac), 0, 0},
+    {"--nickname", "HEX", "the nickname that the address is behind, 0001 to FFBF", NICKNAME, SET, SET,
+     AT(settings.nickname), 0, 0xFFFF},
+    {"--confidence", "N", "the record's confidence, 0 to 255 (255)", NUMBER, SET, 0, AT(settings.confidence), 0, 255},
+    {"--mac", "ADDRESS", "prints only the lines that concern this address", ADDRESS, RECEIVE | LIVE, 0,
+     AT(audience.mac), 0, 0},
     {"--by", "SECONDS", "the seconds that have passed, 0 to 65535", NUMBER, AGE, AGE, AT(by), 0, 65535},
+    {"--no-ageing", NULL, "no time passes for the table", FLAG, RECEIVE, 0, AT(no_ageing), 0, 0},
+    {"--dry-run", NULL, "the table file is read and not written", FLAG,
+     RECEIVE | AGE | LIVE | SET | UNSET, 0, AT(dry_run), 0, 0},
+    {"--json", NULL, "a JSON object for each line, with the same facts", FLAG, WITH_ANY, 0, AT(json), 0, 0},
     {"--quiet", NULL, "no line for each frame", FLAG, WITH_CAPTURE | LIVE, 0, AT(quiet), 0, 0},
 };
 #define OPTION_COUNT (sizeof OPTIONS / sizeof OPTIONS[0])
@@ -67,19 +83,31 @@ static const struct {
     const char *more;
 } COMMANDS[] = {
     {RECEIVE, "receive", "passes each frame of a capture to the receiver",
-     "Prints a line for each frame: what it was | the answer | what changed in the table; then totals and the table.\n"
-     "Delivered native frames go to --out with their time stamps. No time passes for the table: see `age`.\n"
-     "If anything fails, a bad capture too, the table file and --out stay as they were.\n"},
+     "Prints a line for each frame: its time in UTC and what it was | the answer | what changed in the table, before ->\n"
+     "after; then totals and the table. Of a flush the line tells what it means, of a corrupt one the byte of the payload,\n"
+     "counted from 0, and the rule. Delivered native frames go to --out with their time stamps.\n"
+     "The table ages by the whole seconds of the time stamps, never backwards; a line tells what became free. The second\n"
+     "that it was aged to is kept in TABLE.aged, so that the next run goes on from there.\n"
+     "Of a capture that is cut in its last record everything before that counts, and the status is 1. If anything else\n"
+     "fails, the table file and --out stay as they were.\n"},
     {COMPACT, "compact", "compacts the General frames of a capture for a far port",
      "The settings are the far port's. Frames that may not be compacted are left out, and the line says why.\n"},
     {EXPAND, "expand", "expands the Compact frames of a capture for a far port",
      "The settings are the far port's. Frames that are refused are left out, and the line says why.\n"},
-    {LOOKUP, "lookup", "tells the nickname that an address is behind", "One of --vlan and --fgl is needed.\n"},
+    {LOOKUP, "lookup", "tells the nickname that an address is behind",
+     "One of --vlan and --fgl is needed. Exit status 1 if the address is not known.\n"},
     {AGE, "age", "lets seconds pass for the learned records of a table", ""},
     {CHECK, "check", "tells the lowest spoilt slot, and lists the records", "Exit status 1 if a slot is spoilt.\n"},
+    {SET, "set", "makes a configured record in a table",
+     "One of --vlan and --fgl is needed. The record takes the lowest slot with that label and address, whatever it holds,\n"
+     "else the lowest free one. Exit status 1 if there is none, 2 if the library would call the record spoilt.\n"},
+    {UNSET, "unset", "removes a configured record from a table",
+     "One of --vlan and --fgl is needed. Exit status 1 if there is no such record, or a learned one.\n"},
     {LIVE, "live", "passes the frames of a Linux interface to the receiver",
-     "Needs CAP_NET_RAW. Listens only, in promiscuous mode, until --frames, --for, SIGINT or SIGTERM; then writes\n"
-     "the table and --out. The table ages as time passes. Output as for `receive`.\n"},
+     "Needs CAP_NET_RAW. Listens only, in promiscuous mode, until --frames, --for, SIGINT, SIGTERM or SIGHUP; then writes\n"
+     "the table and --out. The table is also written while it runs: every --save seconds, on SIGUSR1, and where the\n"
+     "interface or standard output fails. It ages as time passes, first by the time since it was last aged. An interface\n"
+     "that goes down is waited for. Output as for `receive`. Exit status 3 if frames were lost.\n"},
     {SEND, "send", "sends the General frames of a capture out of a Linux interface",
      "Needs CAP_NET_RAW. The settings are the far port's: a frame is compacted where it may be, if --compact is on.\n"},
 };
@@ -91,8 +119,8 @@ static void help_all(FILE *to)
     for (size_t i = 0; i < COMMAND_COUNT; i++)
         fprintf(to, "  %s %-8s %s\n", PROGRAM, COMMANDS[i].name, COMMANDS[i].help);
     fprintf(to,
-            "\n`%s COMMAND --help` lists a command's options.\n"
-            "Exit status: 0 done, 1 bad data or a failing file or interface, 2 bad usage.\n",
+            "\n`%s help COMMAND` lists a command's options, `--version` tells the version.\n"
+            "Exit status: 0 done, 1 bad data, a failing file or interface, or nothing found, 2 bad usage, 3 frames lost.\n",
             PROGRAM);
 }
 
@@ -110,9 +138,9 @@ static void help_command(FILE *to, size_t index)
                 option->required & command ? " [needed]" : "");
     }
     if (command & WITH_CAPTURE)
-        fputs("\nCAPTURE is a classic pcap file of Ethernet frames without FCS, in either byte order, with microseconds or\n"
-              "nanoseconds.\n",
-              to);
+        fputs("\nCAPTURE is a pcap or pcapng file of Ethernet frames without FCS; - is standard input.\n", to);
+    if (command & WITH_TABLE & ~(LOOKUP | CHECK))
+        fputs("\nA table file is held while it is used: a second process is refused. It keeps owner, group and mode.\n", to);
     fputs("\nAn address is 02-00-00-00-00-01, with : or without marks too. A number is decimal, or hexadecimal after 0x.\n",
           to);
 }
@@ -238,43 +266,64 @@ static int check_settings(const struct settings *settings)
 
 static int check_options(unsigned given, struct options *options)
 {
-    unsigned vlan = 1u << find_option("--vlan", LOOKUP), fgl = 1u << find_option("--fgl", LOOKUP);
+    unsigned vlan = 1u << find_option("--vlan", WITH_PAIR), fgl = 1u << find_option("--fgl", WITH_PAIR);
     for (size_t i = 0; i < OPTION_COUNT; i++)
         if (OPTIONS[i].required & options->command && !(given & 1u << i))
             return bad_usage("%s %s is needed; try --help", OPTIONS[i].name, OPTIONS[i].value);
     if (options->command & WITH_CAPTURE && options->capture == NULL)
         return bad_usage("no capture is named; try --help");
-    if (options->command == LOOKUP && !(given & vlan) == !(given & fgl))
+    if (options->command & WITH_PAIR && !(given & vlan) == !(given & fgl))
         return bad_usage("one of --vlan and --fgl is needed");
     options->kind = given & fgl ? SHINGLEBAR_LABEL_FINE_GRAINED : SHINGLEBAR_LABEL_VLAN;
     options->tagged = options->tag != 0;
+    if (is_standard(options->table))
+        return bad_usage("--table is a file, not standard input or output");
+    options->audience.is_one = options->command & (RECEIVE | LIVE) && given & 1u << find_option("--mac", RECEIVE);
     if (options->source >> 40 & 1)
         return bad_usage("--source is a group address");
     return options->command & WITH_SETTINGS ? check_settings(&options->settings) : 0;
 }
 
-int options_read(int count, char **words, struct options *options)
+/* The place of a command by its name; COMMAND_COUNT if there is none. */
+static size_t find_command(const char *name)
 {
-    const struct options nothing = {0};
-    unsigned given = 0;
     size_t command = 0;
-    *options = nothing;
-    options->settings.confidence = RFC6325_CONFIDENCE;
+    while (command < COMMAND_COUNT && strcmp(name, COMMANDS[command].name) != 0)
+        command++;
+    return command;
+}
+
+static int is_help(const char *word)
+{
+    return strcmp(word, "--help") == 0 || strcmp(word, "-h") == 0;
+}
+
+/* What needs no command: -1 if the words name one, else the exit status. */
+static int read_general(int count, char **words)
+{
     if (count < 2)
         return help_all(stderr), bad_usage("no command is given");
-    if (strcmp(words[1], "--help") == 0 || strcmp(words[1], "help") == 0)
+    if (strcmp(words[1], "--version") == 0)
+        return printf("%s %s\n", PROGRAM, SHINGLEBAR_VERSION), 0;
+    int help = strcmp(words[1], "help") == 0;
+    const char *named = help && count > 2 ? words[2] : words[1];
+    if (is_help(words[1]) || (help && (count == 2 || is_help(named))))
         return help_all(stdout), 0;
-    while (command < COMMAND_COUNT && strcmp(words[1], COMMANDS[command].name) != 0)
-        command++;
+    size_t command = find_command(named);
     if (command == COMMAND_COUNT)
-        return bad_usage("`%s` is no command; try --help", words[1]);
-    options->command = COMMANDS[command].command;
+        return bad_usage("`%s` is no command; try --help", named);
+    return help ? (help_command(stdout, command), 0) : -1;
+}
+
+/* The words behind the command: -1, or the exit status. */
+static int read_words(int count, char **words, unsigned *given, struct options *options)
+{
     for (int at = 2; at < count; at++) {
         int status = 0;
-        if (strcmp(words[at], "--help") == 0)
-            return help_command(stdout, command), 0;
-        if (words[at][0] == '-')
-            status = read_option(count, words, &at, &given, options);
+        if (is_help(words[at]))
+            return help_command(stdout, find_command(words[1])), 0;
+        if (words[at][0] == '-' && !is_standard(words[at]))
+            status = read_option(count, words, &at, given, options);
         else if (options->capture != NULL || !(options->command & WITH_CAPTURE))
             status = bad_usage("`%s` is one word too many; try --help", words[at]);
         else
@@ -282,6 +331,23 @@ int options_read(int count, char **words, struct options *options)
         if (status != 0)
             return status;
     }
-    int status = check_options(given, options);
+    return -1;
+}
+
+int options_read(int count, char **words, struct options *options)
+{
+    const struct options nothing = {0};
+    unsigned given = 0;
+    int status = read_general(count, words);
+    if (status >= 0)
+        return status;
+    *options = nothing;
+    options->command = COMMANDS[find_command(words[1])].command;
+    options->settings.confidence = options->command == SET ? SET_CONFIDENCE : RFC6325_CONFIDENCE;
+    options->save = SAVE_SECONDS;
+    status = read_words(count, words, &given, options);
+    if (status >= 0)
+        return status;
+    status = check_options(given, options);
     return status == 0 ? -1 : status;
 }

@@ -5,6 +5,7 @@
 #include <stdint.h>
 
 #include "settings.h"
+#include "table.h"
 
 enum command {
     RECEIVE = 1,
@@ -14,10 +15,13 @@ enum command {
     AGE = 16,
     CHECK = 32,
     LIVE = 64,
-    SEND = 128
+    SEND = 128,
+    SET = 256,
+    UNSET = 512
 };
 
-/* An option that was not given is NULL or 0, settings aside: Compact off, confidence 32, seconds 0. */
+/* An option that was not given is NULL or 0, but for Compact off, confidence 32, seconds 0, saving every
+ * 30 seconds. */
 struct options {
     enum command command;
     struct settings settings;
@@ -33,9 +37,13 @@ struct options {
     uint32_t tag;
     uint32_t kind;
     uint32_t label;
-    uint64_t mac;
+    struct audience audience;
     uint32_t by;
     int quiet;
+    int json;
+    int no_ageing;
+    int dry_run;
+    uint32_t save;
 };
 
 /* Reads the command line: -1 if the command is to be carried out, else the exit status (help, or bad usage, which is said). */

@@ -2,14 +2,10 @@
 
 #include <string.h>
 
+#include "answer.h"
 #include "frame.h"
-#include "message.h"
+#include "path.h"
 #include "process.h"
-
-/* How many cleared slots a line names. */
-#define SLOTS_NAMED 8
-
-static const char *const LEARNING[] = {"learned", "refreshed", "kept", "not learned: the table is full"};
 
 static void count(struct receiver *receiver, uint64_t answer)
 {
@@ -29,125 +25,233 @@ static void count(struct receiver *receiver, uint64_t answer)
         receiver->cleared += shinglebar_count(answer);
         break;
     default:
-        receiver->refused[shinglebar_refusal(answer) <= REFUSALS ? shinglebar_refusal(answer) : 0]++;
+        receiver->refused[shinglebar_refusal(answer)]++;
     }
 }
 
-static void answer_print(uint64_t answer)
+/* What an answer changed in the table. Returns the slot that a delivered frame's source is in, or -1. Answers other than these two change
+ * nothing, by the library's contract, and are not searched for. */
+static int find_changes(struct receiver *receiver, uint64_t answer, uint64_t source, struct changes *changes)
 {
-    switch (shinglebar_kind(answer)) {
-    case SHINGLEBAR_RECEIVE_DELIVERED:
-        printf("delivered %zu bytes of ", shinglebar_native_length(answer));
-        label_print(stdout, shinglebar_label_kind(answer), shinglebar_label(answer));
-        printf(", %s", LEARNING[shinglebar_learning(answer)]);
-        break;
-    case SHINGLEBAR_RECEIVE_ONWARD:
-        printf("onward");
-        break;
-    case SHINGLEBAR_RECEIVE_OTHER_CHANNEL:
-        printf("other channel");
-        break;
-    case SHINGLEBAR_RECEIVE_FLUSHED:
-        printf("flushed, %u cleared", shinglebar_count(answer));
-        break;
-    default:
-        printf("refused %u: %s", shinglebar_refusal(answer), refusal_words(answer));
-    }
-}
-
-/* The slots whose bytes differ, and what they hold now. */
-static void change_print(const struct table *before, const struct table *after)
-{
-    unsigned changed = 0;
-    for (unsigned slot = 0; slot < table_slots(after); slot++) {
-        size_t at = (size_t)slot * SHINGLEBAR_RECORD_LENGTH;
-        if (memcmp(before->bytes + at, after->bytes + at, SHINGLEBAR_RECORD_LENGTH) == 0)
-            continue;
-        if (changed++ >= SLOTS_NAMED)
-            continue;
-        printf("%sslot %u: ", changed == 1 ? "" : "; ", slot);
-        slot_print(stdout, after, slot);
-    }
-    if (changed > SLOTS_NAMED)
-        printf("; and %u more", changed - SLOTS_NAMED);
-    if (changed == 0)
-        printf("table unchanged");
+    const struct table *now = &receiver->store.table;
+    const struct audience *audience = &receiver->options->audience;
+    struct shadow *shadow = &receiver->shadow;
+    int slot = -1;
+    if (shinglebar_kind(answer) == SHINGLEBAR_RECEIVE_FLUSHED && shinglebar_count(answer) > 0)
+        shadow_all(shadow, now, audience, changes);
+    if (shinglebar_kind(answer) != SHINGLEBAR_RECEIVE_DELIVERED || shinglebar_learning(answer) == SHINGLEBAR_LEARNING_FULL)
+        return -1;
+    if (shinglebar_learning(answer) == SHINGLEBAR_LEARNING_LEARNED)
+        slot = shadow_learned(shadow, now);
+    else
+        slot = shadow_find(shadow, now, shinglebar_label_kind(answer), shinglebar_label(answer), source);
+    if (slot >= 0)
+        shadow_slot(shadow, now, (unsigned)slot, audience, changes);
+    return slot;
 }
 
 /* Where learning wrote or kept the same bytes, the slot is shown all the same. */
-static void record_print(const struct table *table, uint64_t answer, const uint8_t *native)
+static void unchanged_put(struct text *to, const struct table *table, int slot)
 {
-    uint64_t source = 0;
-    for (int i = 6; i < 12; i++)
-        source = source << 8 | native[i];
-    int slot = table_find(table, shinglebar_label_kind(answer), shinglebar_label(answer), source);
+    if (!to->json)
+        text_put(to, "table unchanged");
     if (slot < 0)
         return;
-    printf(" (slot %d: ", slot);
-    slot_print(stdout, table, (unsigned)slot);
-    printf(")");
+    if (to->json) {
+        json_open(to, "unchanged", "{");
+        json_number(to, "slot", (uint64_t)slot);
+    } else {
+        text_put(to, " (slot ");
+        text_number(to, (uint64_t)slot);
+        text_put(to, ": ");
+    }
+    record_put(to, table_slot(table, (unsigned)slot));
+    text_put(to, to->json ? "}" : ")");
 }
 
-static void line_print(const struct receiver *receiver, const struct captured *frame, const struct table *before,
-                       uint64_t answer, const uint8_t *native)
+static void line_print(struct receiver *receiver, const struct captured *captured, uint64_t answer, uint64_t source)
 {
-    progress_clear();
-    printf("frame %lu: ", receiver->frames);
-    frame_print(stdout, frame->bytes, frame->length, receiver->settings->port);
-    printf(" | ");
-    answer_print(answer);
-    printf(" | ");
-    change_print(before, &receiver->table);
-    if (shinglebar_kind(answer) == SHINGLEBAR_RECEIVE_DELIVERED
-        && memcmp(before->bytes, receiver->table.bytes, before->length) == 0)
-        record_print(&receiver->table, answer, native);
-    printf("\n");
+    struct text *line = &receiver->line;
+    const struct audience *audience = &receiver->options->audience;
+    struct changes changes;
+    struct frame frame = frame_read(captured->bytes, captured->length, receiver->options->settings.port);
+    changes.count = changes.concerning = 0;
+    int slot = find_changes(receiver, answer, source, &changes);
+    int named = frame.has_addresses && (frame.source == audience->mac || frame.destination == audience->mac);
+    if (audience->is_one && !named && changes.concerning == 0)
+        return;
+    frame_put(line, receiver->frames, captured, &frame);
+    text_put(line, line->json ? "" : " | ");
+    answer_put(line, answer, &frame);
+    text_put(line, line->json ? "" : " | ");
+    if (changes.count > 0 || line->json)
+        changes_put(line, &changes);
+    if (changes.count == 0)
+        unchanged_put(line, &receiver->store.table, slot);
+    line_out(line);
+}
+
+int receiver_open(struct receiver *receiver, const struct options *options)
+{
+    receiver->options = options;
+    receiver->line.json = options->json;
+    receiver->store.dry_run = options->dry_run;
+    if (store_open(&receiver->store, options->table, options->slots) != 0)
+        return 1;
+    shadow_copy(&receiver->shadow, &receiver->store.table);
+    return 0;
+}
+
+static void aged_print(struct receiver *receiver, uint64_t seconds, uint64_t second)
+{
+    struct text *line = &receiver->line;
+    struct changes changes;
+    changes.count = changes.concerning = 0;
+    shadow_freed(&receiver->shadow, &receiver->store.table, &receiver->options->audience, &changes);
+    if (changes.concerning == 0)
+        return;
+    if (line->json) {
+        json_time(line, second, 0, 0);
+        json_number(line, "seconds_passed", seconds);
+        json_number(line, "became_free", changes.count);
+    } else {
+        text_put(line, "aged: ");
+        text_time(line, second, 0, 0);
+        text_put(line, " ");
+        text_number(line, seconds);
+        text_put(line, " seconds passed | ");
+        text_number(line, changes.count);
+        text_put(line, " became free | ");
+    }
+    changes_put(line, &changes);
+    line_out(line);
+}
+
+void receiver_pass(struct receiver *receiver, uint64_t seconds, uint64_t second)
+{
+    struct table *table = &receiver->store.table;
+    receiver->store.aged.known = 1;
+    receiver->store.aged.second = second;
+    if (seconds == 0)
+        return;
+    shinglebar_age((uint16_t)(seconds > UINT16_MAX ? UINT16_MAX : seconds), table->bytes, table->length);
+    if (!receiver->options->quiet)
+        aged_print(receiver, seconds, second);
+}
+
+void receiver_age(struct receiver *receiver, uint64_t second)
+{
+    const struct aged *aged = &receiver->store.aged;
+    if (!aged->known)
+        receiver_pass(receiver, 0, second);
+    else if (second > aged->second)
+        receiver_pass(receiver, second - aged->second, second);
 }
 
 int receiver_take(struct receiver *receiver, const struct captured *frame)
 {
-    static struct table before;
     static uint8_t native[SHINGLEBAR_FRAME_LENGTH_MAX];
-    struct table *table = &receiver->table;
-    before.length = table->length;
-    memcpy(before.bytes, table->bytes, table->length);
-    uint64_t answer = shinglebar_receive(SETTINGS(receiver->settings), frame->bytes, frame->length, table->bytes,
-                                         table->length, native, sizeof native);
+    struct table *table = &receiver->store.table;
+    uint64_t answer = shinglebar_receive(SETTINGS(&receiver->options->settings), frame->bytes, frame->length,
+                                         table->bytes, table->length, native, sizeof native);
+    int delivered = shinglebar_kind(answer) == SHINGLEBAR_RECEIVE_DELIVERED;
     count(receiver, answer);
-    if (!receiver->quiet)
-        line_print(receiver, frame, &before, answer, native);
-    if (shinglebar_kind(answer) != SHINGLEBAR_RECEIVE_DELIVERED)
+    if (!receiver->options->quiet) {
+        uint64_t source = 0;
+        for (int i = 6; delivered && i < 12; i++)
+            source = source << 8 | native[i];
+        line_print(receiver, frame, answer, source);
+    }
+    if (!delivered)
         return 0;
     return capture_add(&receiver->out, receiver->form, frame, native, shinglebar_native_length(answer));
 }
 
-static void totals_print(const struct receiver *receiver)
+static unsigned long sum(const unsigned long *numbers, int count)
 {
-    unsigned long delivered = 0, refused = 0;
-    for (int i = 0; i < 4; i++)
-        delivered += receiver->learning[i];
-    for (int i = 0; i <= REFUSALS; i++)
-        refused += receiver->refused[i];
-    printf("%lu frames: %lu delivered (%lu learned, %lu refreshed, %lu kept, %lu full), %lu onward, %lu flushes "
-           "(%lu cleared), %lu other channel, %lu refused\n",
-           receiver->frames, delivered, receiver->learning[SHINGLEBAR_LEARNING_LEARNED],
-           receiver->learning[SHINGLEBAR_LEARNING_REFRESHED], receiver->learning[SHINGLEBAR_LEARNING_KEPT],
-           receiver->learning[SHINGLEBAR_LEARNING_FULL], receiver->onward, receiver->flushes, receiver->cleared,
-           receiver->other_channel, refused);
-    for (unsigned i = 1; i <= REFUSALS; i++)
-        if (receiver->refused[i] != 0)
-            printf("  refused %u: %lu (%s)\n", i, receiver->refused[i], refusal_words(i));
+    unsigned long total = 0;
+    for (int i = 0; i < count; i++)
+        total += numbers[i];
+    return total;
 }
 
-int receiver_finish(struct receiver *receiver, const char *table_name)
+struct total {
+    const char *words;
+    const char *name;
+    unsigned long count;
+};
+
+static void totals_put(struct text *to, const struct receiver *receiver)
 {
-    struct whole file = WHOLE_NONE;
-    progress_clear();
-    totals_print(receiver);
-    table_print(stdout, &receiver->table);
-    int status = output_ready() != 0 || whole_ready(&receiver->out) != 0
-                 || table_write(&receiver->table, table_name, &file) != 0 || whole_replace(&receiver->out) != 0
-                 || whole_replace(&file) != 0;
-    whole_end(&file);
-    return status;
+    const unsigned long *learning = receiver->learning;
+    const struct total totals[] = {
+        {" frames: ", "frames", receiver->frames},
+        {" delivered (", "delivered", sum(learning, 4)},
+        {" learned, ", "learned", learning[SHINGLEBAR_LEARNING_LEARNED]},
+        {" refreshed, ", "refreshed", learning[SHINGLEBAR_LEARNING_REFRESHED]},
+        {" kept, ", "kept", learning[SHINGLEBAR_LEARNING_KEPT]},
+        {" full), ", "full", learning[SHINGLEBAR_LEARNING_FULL]},
+        {" onward, ", "onward", receiver->onward},
+        {" flushes (", "flushes", receiver->flushes},
+        {" cleared), ", "cleared", receiver->cleared},
+        {" other channel, ", "other_channel", receiver->other_channel},
+        {" refused", "refused", sum(receiver->refused, REFUSALS)},
+    };
+    for (size_t i = 0; i < sizeof totals / sizeof totals[0]; i++) {
+        if (to->json) {
+            json_number(to, totals[i].name, totals[i].count);
+            continue;
+        }
+        text_number(to, totals[i].count);
+        text_put(to, totals[i].words);
+    }
+    if (receiver->is_live && to->json) {
+        json_number(to, "lost", receiver->lost);
+    } else if (receiver->is_live) {
+        text_put(to, ", ");
+        text_number(to, receiver->lost);
+        text_put(to, " lost");
+    }
+}
+
+void receiver_report(struct receiver *receiver)
+{
+    struct text *line = &receiver->line;
+    totals_put(line, receiver);
+    line_out(line);
+    for (unsigned i = 1; i < REFUSALS; i++) {
+        if (receiver->refused[i] == 0)
+            continue;
+        if (line->json) {
+            refusal_put(line, "", i);
+            json_number(line, "count", receiver->refused[i]);
+        } else {
+            text_put(line, "  refused ");
+            text_number(line, i);
+            text_put(line, ": ");
+            text_number(line, receiver->refused[i]);
+            text_put(line, " (");
+            text_put(line, shinglebar_refusal_string(i));
+            text_put(line, ")");
+        }
+        line_out(line);
+    }
+    table_print(line, &receiver->store.table, &receiver->options->audience);
+}
+
+int receiver_flush(struct receiver *receiver)
+{
+    return output_ready() != 0 || (is_standard(receiver->options->out) && whole_ready(&receiver->out) != 0);
+}
+
+int receiver_keep(struct receiver *receiver)
+{
+    return whole_ready(&receiver->out) != 0 || store_ready(&receiver->store) != 0 || whole_replace(&receiver->out) != 0
+           || store_replace(&receiver->store) != 0;
+}
+
+void receiver_close(struct receiver *receiver)
+{
+    whole_end(&receiver->out);
+    store_close(&receiver->store);
 }

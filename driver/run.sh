@@ -24,8 +24,9 @@ mkdir -p "$made"
     step compact $data/to_compact.pcap --out $made/compact.pcap $settings
     step expand $made/compact.pcap --out $made/general.pcap --source 02-00-00-00-00-B2 $settings
     step lookup --table $made/table --vlan 20 --mac 02-00-00-00-00-05
+    step set --table $made/table --vlan 30 --mac 02-00-00-00-00-06 --nickname 1236
     step age --table $made/table --by 200
     step check --table $made/table
 }
 echo
-echo "made in $made: table, native.pcap (the native frames delivered), compact.pcap, general.pcap"
+echo "made in $made: table, table.aged (the second it was aged to), native.pcap (the native frames delivered), compact.pcap, general.pcap"

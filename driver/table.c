@@ -5,9 +5,7 @@
 #include <string.h>
 
 #include "message.h"
-#include "words.h"
-
-static const char *const STATES[] = {"free", "learned", "configured", "spoilt"};
+#include "process.h"
 
 int table_read(struct table *table, const char *name, unsigned long slots)
 {
@@ -18,7 +16,7 @@ int table_read(struct table *table, const char *name, unsigned long slots)
         return 0;
     }
     if (file == NULL && errno == ENOENT)
-        return bad_data("%s is not there; `receive` and `live` make it if --slots N is given", name);
+        return bad_data("%s is not there; `receive`, `live` and `set` make it if --slots N is given", name);
     if (file == NULL)
         return bad_data("%s cannot be opened: %s", name, strerror(errno));
     table->length = fread(table->bytes, 1, sizeof table->bytes, file);
@@ -30,16 +28,10 @@ int table_read(struct table *table, const char *name, unsigned long slots)
     if (shinglebar_is_refusal(answer))
         return bad_data("%s is no address table: it has %zu%s bytes; refused %u: %s", name, table->length,
                         table->length == sizeof table->bytes ? " or more" : "", shinglebar_refusal(answer),
-                        refusal_words(answer));
+                        shinglebar_refusal_string(answer));
     if (slots != 0 && slots != table_slots(table))
         return bad_data("%s has %u slots, and --slots says %lu", name, table_slots(table), slots);
     return 0;
-}
-
-int table_write(const struct table *table, const char *name, struct whole *whole)
-{
-    return whole_begin(whole, name) != 0 || whole_write(whole, table->bytes, table->length) != 0
-           || whole_ready(whole) != 0;
 }
 
 unsigned table_slots(const struct table *table)
@@ -47,82 +39,83 @@ unsigned table_slots(const struct table *table)
     return (unsigned)(table->length / SHINGLEBAR_RECORD_LENGTH);
 }
 
-/* The number in some bits of a record, bit 0 being the first on the wire. */
-static uint64_t bits(const uint8_t *record, int from, int count)
+const uint8_t *table_slot(const struct table *table, unsigned slot)
 {
-    uint64_t value = 0;
-    for (int bit = from; bit < from + count; bit++)
-        value = value << 1 | (record[bit / 8] >> (7 - bit % 8) & 1u);
-    return value;
+    return table->bytes + (size_t)slot * SHINGLEBAR_RECORD_LENGTH;
 }
 
-struct record table_record(const struct table *table, unsigned slot)
+struct shinglebar_record table_record(const struct table *table, unsigned slot)
 {
-    const uint8_t *at = table->bytes + (size_t)slot * SHINGLEBAR_RECORD_LENGTH;
-    struct record record;
-    record.state = (enum record_state)bits(at, 0, 2);
-    record.kind = (unsigned)bits(at, 2, 1);
-    record.label = (uint32_t)bits(at, 3, 24);
-    record.mac = bits(at, 27, 48);
-    record.nickname = (unsigned)bits(at, 75, 16);
-    record.confidence = (unsigned)bits(at, 91, 8);
-    record.seconds = (unsigned)bits(at, 99, 13);
-    /* Whether a record is spoilt is the library's to say: it is asked about a table of this record alone. */
-    if (shinglebar_kind(shinglebar_spoilt(at, SHINGLEBAR_RECORD_LENGTH)) == SHINGLEBAR_SPOILT_SLOT)
-        record.state = RECORD_SPOILT;
-    return record;
+    return shinglebar_unpack_record(table_slot(table, slot));
 }
 
 int table_find(const struct table *table, unsigned kind, uint32_t label, uint64_t mac)
 {
+    uint8_t wanted[SHINGLEBAR_RECORD_LENGTH];
+    const struct shinglebar_record some = {
+        .state = SHINGLEBAR_RECORD_LEARNED, .label_kind = kind, .label = label, .mac = mac, .nickname = 1};
+    /* No record holds a pair that cannot be packed. */
+    if (!shinglebar_pack_record(&some, wanted))
+        return -1;
     for (unsigned slot = 0; slot < table_slots(table); slot++) {
-        struct record record = table_record(table, slot);
-        int good = record.state == RECORD_LEARNED || record.state == RECORD_CONFIGURED;
-        if (good && record.kind == kind && record.label == label && record.mac == mac)
+        /* Bytes 1 to 8 hold nothing but label and address: most slots are told by them. */
+        if (memcmp(table_slot(table, slot) + 1, wanted + 1, 8) != 0)
+            continue;
+        struct shinglebar_record record = table_record(table, slot);
+        if (record_holds(&record, kind, label, mac))
             return (int)slot;
     }
     return -1;
 }
 
-void label_print(FILE *to, unsigned kind, uint32_t label)
+int concerns(const struct audience *audience, const struct shinglebar_record *record)
 {
-    fprintf(to, "%s %u", kind == SHINGLEBAR_LABEL_VLAN ? "VLAN" : "FGL", (unsigned)label);
+    return !audience->is_one || (record->state != SHINGLEBAR_RECORD_FREE && record->mac == audience->mac);
 }
 
-void address_print(FILE *to, uint64_t address)
+static void counts_put(struct text *to, const struct table *table)
 {
-    for (int shift = 40; shift >= 0; shift -= 8)
-        fprintf(to, "%02X%s", (unsigned)(address >> shift & 0xFF), shift > 0 ? "-" : "");
-}
-
-void slot_print(FILE *to, const struct table *table, unsigned slot)
-{
-    struct record record = table_record(table, slot);
-    fprintf(to, "%s", STATES[record.state]);
-    if (record.state == RECORD_SPOILT) {
-        for (int i = 0; i < SHINGLEBAR_RECORD_LENGTH; i++)
-            fprintf(to, " %02X", table->bytes[(size_t)slot * SHINGLEBAR_RECORD_LENGTH + i]);
-    } else if (record.state != RECORD_FREE) {
-        fputc(' ', to);
-        label_print(to, record.kind, record.label);
-        fputc(' ', to);
-        address_print(to, record.mac);
-        fprintf(to, " behind %04X, confidence %u, %u s", record.nickname, record.confidence, record.seconds);
-    }
-}
-
-void table_print(FILE *to, const struct table *table)
-{
+    static const char *const NAMES[] = {"learned", "configured", "spoilt", "free"};
     unsigned count[4] = {0, 0, 0, 0};
     for (unsigned slot = 0; slot < table_slots(table); slot++)
         count[table_record(table, slot).state]++;
-    fprintf(to, "table: %u slots, %u learned, %u configured, %u spoilt, %u free\n", table_slots(table),
-            count[RECORD_LEARNED], count[RECORD_CONFIGURED], count[RECORD_SPOILT], count[RECORD_FREE]);
-    for (unsigned slot = 0; slot < table_slots(table); slot++) {
-        if (table_record(table, slot).state == RECORD_FREE)
+    const unsigned counts[] = {count[SHINGLEBAR_RECORD_LEARNED], count[SHINGLEBAR_RECORD_CONFIGURED],
+                               count[SHINGLEBAR_RECORD_SPOILT], count[SHINGLEBAR_RECORD_FREE]};
+    if (to->json)
+        json_number(to, "slots", table_slots(table));
+    else {
+        text_put(to, "table: ");
+        text_number(to, table_slots(table));
+        text_put(to, " slots");
+    }
+    for (int i = 0; i < 4; i++) {
+        if (to->json) {
+            json_number(to, NAMES[i], counts[i]);
             continue;
-        fprintf(to, "  slot %u: ", slot);
-        slot_print(to, table, slot);
-        fputc('\n', to);
+        }
+        text_put(to, ", ");
+        text_number(to, counts[i]);
+        text_put(to, " ");
+        text_put(to, NAMES[i]);
+    }
+}
+
+void table_print(struct text *line, const struct table *table, const struct audience *audience)
+{
+    counts_put(line, table);
+    line_out(line);
+    for (unsigned slot = 0; slot < table_slots(table); slot++) {
+        struct shinglebar_record record = table_record(table, slot);
+        if (record.state == SHINGLEBAR_RECORD_FREE || !concerns(audience, &record))
+            continue;
+        if (line->json) {
+            json_number(line, "slot", slot);
+        } else {
+            text_put(line, "  slot ");
+            text_number(line, slot);
+            text_put(line, ": ");
+        }
+        record_put(line, table_slot(table, slot));
+        line_out(line);
     }
 }

@@ -1,12 +1,12 @@
-/* The address table: its file, and its records in words. */
+/* The address table: its file's bytes, and its records in words. */
 #ifndef TABLE_H
 #define TABLE_H
 
 #include <stdint.h>
 #include <stdio.h>
 
+#include "record.h"
 #include "shinglebar.h"
-#include "whole.h"
 
 #define TABLE_SLOTS_MAX (SHINGLEBAR_TABLE_LENGTH_MAX / SHINGLEBAR_RECORD_LENGTH)
 
@@ -16,35 +16,26 @@ struct table {
     uint8_t bytes[SHINGLEBAR_TABLE_LENGTH_MAX + 1];
 };
 
-enum record_state { RECORD_FREE, RECORD_LEARNED, RECORD_CONFIGURED, RECORD_SPOILT };
-
-struct record {
-    enum record_state state;
-    unsigned kind;
-    uint32_t label;
+/* Whom lines are for: all, or one address. */
+struct audience {
+    int is_one;
     uint64_t mac;
-    unsigned nickname;
-    unsigned confidence;
-    unsigned seconds;
 };
 
 /* Reads a table file. Where it is missing and slots is not 0, the table is that many free slots. 0, or 1 and said. */
 int table_read(struct table *table, const char *name, unsigned long slots);
 
-/* Writes a table beside its file, ready to replace it. 0, or 1 and said. */
-int table_write(const struct table *table, const char *name, struct whole *whole);
-
 unsigned table_slots(const struct table *table);
-struct record table_record(const struct table *table, unsigned slot);
+const uint8_t *table_slot(const struct table *table, unsigned slot);
+struct shinglebar_record table_record(const struct table *table, unsigned slot);
 
 /* The lowest slot with this label and address among the learned and configured ones, or -1. */
 int table_find(const struct table *table, unsigned kind, uint32_t label, uint64_t mac);
 
-/* Prints what a slot holds, without a line's end; and every slot that is not free, after a line of counts. */
-void slot_print(FILE *to, const struct table *table, unsigned slot);
-void table_print(FILE *to, const struct table *table);
+/* Whether a record concerns an audience. */
+int concerns(const struct audience *audience, const struct shinglebar_record *record);
 
-void label_print(FILE *to, unsigned kind, uint32_t label);
-void address_print(FILE *to, uint64_t address);
+/* Prints a line of counts, and a line for every slot that is not free and concerns the audience. */
+void table_print(struct text *line, const struct table *table, const struct audience *audience);
 
 #endif

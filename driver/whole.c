@@ -1,3 +1,4 @@
+#define _DEFAULT_SOURCE
 #define _XOPEN_SOURCE 700
 #include "whole.h"
 
@@ -8,58 +9,72 @@
 #include <sys/stat.h>
 #include <unistd.h>
 
+#include "lock.h"
 #include "message.h"
+#include "path.h"
 
 static int failed(const struct whole *whole)
 {
-    return bad_data("%s cannot be written: %s", whole->name, strerror(errno));
+    return bad_data("%s cannot be written: %s", is_standard(whole->name) ? "standard output" : whole->name,
+                    strerror(errno));
 }
 
-/* The file that the name means, links followed, and the permissions that a new one gets. */
-static int find_target(struct whole *whole, mode_t *mode)
+/* Opens the temporary file, which this process alone holds until it is closed. */
+static int open_temporary(struct whole *whole)
 {
-    struct stat found;
-    mode_t mask = umask(0);
-    umask(mask);
-    *mode = 0666 & ~mask;
-    if (stat(whole->name, &found) == 0) {
-        if (!S_ISREG(found.st_mode))
-            return bad_data("%s is not a regular file, and is not replaced", whole->name);
-        if (access(whole->name, W_OK) != 0)
-            return failed(whole);
-        *mode = found.st_mode & 0777;
-        whole->target = realpath(whole->name, NULL);
-    } else if (errno == ENOENT) {
-        whole->target = strdup(whole->name);
+    char *temporary = path_with(whole->target, WHOLE_TEMPORARY);
+    int file = temporary == NULL ? -1 : lock_create(temporary);
+    if (file < 0) {
+        int busy = temporary != NULL && errno == EWOULDBLOCK;
+        free(temporary);
+        return busy ? bad_data("%s is being written by another process", whole->name) : failed(whole);
     }
-    return whole->target == NULL ? failed(whole) : 0;
+    whole->temporary = temporary;
+    whole->file = fdopen(file, "wb");
+    if (whole->file != NULL)
+        return 0;
+    failed(whole);
+    close(file);
+    return 1;
+}
+
+/* Gives the temporary file owner, group and mode of the file that it is to replace. The owner first: that can clear bits of the mode. */
+static int keep_owner(const struct whole *whole, const struct stat *old)
+{
+    struct stat made;
+    int file = fileno(whole->file);
+    if (fstat(file, &made) != 0)
+        return failed(whole);
+    if ((made.st_uid != old->st_uid || made.st_gid != old->st_gid) && fchown(file, old->st_uid, old->st_gid) != 0)
+        return bad_data("%s cannot be replaced with owner and group kept: %s", whole->name, strerror(errno));
+    return fchmod(file, old->st_mode & 07777) != 0 ? failed(whole) : 0;
 }
 
 int whole_begin(struct whole *whole, const char *name)
 {
-    mode_t mode;
-    int file;
+    return whole_begin_like(whole, name, name);
+}
+
+int whole_begin_like(struct whole *whole, const char *name, const char *other)
+{
+    struct stat old;
     whole->name = name;
-    if (find_target(whole, &mode) != 0)
-        return 1;
-    char *temporary = malloc(strlen(whole->target) + sizeof ".XXXXXX");
-    if (temporary == NULL)
-        return failed(whole);
-    strcpy(temporary, whole->target);
-    strcat(temporary, ".XXXXXX");
-    file = mkstemp(temporary);
-    if (file < 0) {
-        free(temporary);
-        return failed(whole);
+    if (is_standard(name)) {
+        whole->file = stdout;
+        return 0;
     }
-    whole->temporary = temporary;
-    whole->file = fdopen(file, "wb");
-    if (whole->file == NULL) {
-        failed(whole);
-        close(file);
-        return 1;
-    }
-    return fchmod(file, mode) != 0 ? failed(whole) : 0;
+    whole->target = path_target(name);
+    if (whole->target == NULL)
+        return failed(whole);
+    int there = stat(whole->target, &old) == 0;
+    if (!there && errno != ENOENT)
+        return failed(whole);
+    if (there && !S_ISREG(old.st_mode))
+        return bad_data("%s is not a regular file, and is not replaced", name);
+    if (there && access(whole->target, W_OK) != 0)
+        return failed(whole);
+    int known = there || stat(other, &old) == 0;
+    return open_temporary(whole) != 0 || (known && keep_owner(whole, &old) != 0);
 }
 
 int whole_write(struct whole *whole, const void *bytes, size_t length)
@@ -71,19 +86,15 @@ int whole_ready(struct whole *whole)
 {
     if (whole->file == NULL)
         return 0;
-    int bad = ferror(whole->file) || fflush(whole->file) != 0 || fsync(fileno(whole->file)) != 0;
-    int status = bad ? failed(whole) : 0;
-    if (fclose(whole->file) != 0 && !bad)
-        status = failed(whole);
-    whole->file = NULL;
-    return status;
+    int bad = ferror(whole->file) || fflush(whole->file) != 0
+              || (whole->temporary != NULL && fsync(fileno(whole->file)) != 0);
+    return bad ? failed(whole) : 0;
 }
 
 /* Brings the new name to the disk too. A folder that cannot be opened for it is left to the system. */
 static void sync_folder(const char *target)
 {
-    const char *slash = strrchr(target, '/');
-    char *folder = slash == NULL ? strdup(".") : strndup(target, (size_t)(slash - target) + 1);
+    char *folder = path_folder(target);
     int file = folder == NULL ? -1 : open(folder, O_RDONLY);
     if (file >= 0) {
         fsync(file);
@@ -106,24 +117,13 @@ int whole_replace(struct whole *whole)
 
 void whole_end(struct whole *whole)
 {
-    if (whole->file != NULL)
-        fclose(whole->file);
+    const struct whole none = WHOLE_NONE;
+    /* Held until it is gone. */
     if (whole->temporary != NULL)
         unlink(whole->temporary);
+    if (whole->file != NULL && whole->file != stdout)
+        fclose(whole->file);
     free(whole->temporary);
     free(whole->target);
-    whole->file = NULL;
-    whole->temporary = NULL;
-    whole->target = NULL;
-}
-
-int same_file(const char *one, const char *other)
-{
-    struct stat first, second;
-    if (one == NULL || other == NULL)
-        return 0;
-    if (strcmp(one, other) == 0)
-        return 1;
-    return stat(one, &first) == 0 && stat(other, &second) == 0 && first.st_dev == second.st_dev
-           && first.st_ino == second.st_ino;
+    *whole = none;
 }

@@ -1,6 +1,6 @@
 #!/bin/sh
-# man.sh DRIVER VERSION: writes the driver's man page. Commands, options and exit status are what the driver's own --help says, so
-# that the page cannot fall behind it; packaging/shinglebar-port.1.in is the rest.
+# man.sh DRIVER VERSION: writes the driver's man page. Commands, options and exit status are what the driver's own `--help` and
+# `help COMMAND` say, so that the page cannot fall behind them; packaging/shinglebar-port.1.in is the rest.
 set -eu
 driver=$1
 version=$2
@@ -53,19 +53,19 @@ values_part() {
 "$driver" --help >"$made/help"
 : >"$made/commands"
 : >"$made/values"
-awk -v name="$name" '$1 == name && /^ / && $2 !~ /^-/ { print $2 }' "$made/help" >"$made/names"
+awk -v name="$name" '/^  / && $1 == name { print $2 }' "$made/help" >"$made/names"
 while read -r command; do
-    # a word of the list that has no help of its own, as `help`, is no command
-    "$driver" "$command" --help >"$made/one" 2>"$made/said" </dev/null || continue
-    head -n 1 "$made/one" | grep -q "^$name $command .*: " || continue
+    "$driver" help "$command" >"$made/one" </dev/null
+    head -n 1 "$made/one" | grep -q "^$name $command .* : " ||
+        { echo "man.sh: help $command is not in the form that is known here" >&2; exit 1; }
     escaped <"$made/one" >"$made/escaped"
     command_part "$command" <"$made/escaped" >>"$made/commands"
     values_part <"$made/escaped" >>"$made/values"
 done <"$made/names"
 # each paragraph once
 awk -v RS= '!seen[$0]++ { print ".PP"; print }' "$made/values" >"$made/paragraphs"
-escaped <"$made/help" | sed -n -e '/^Exit status/,/^$/{/^$/d' -e p -e '}' >"$made/status"
-escaped <"$made/help" | sed -e 1d -e '/^ /d' -e '/^Exit status/,/^$/d' -e '/^$/d' >"$made/general"
+escaped <"$made/help" | sed -n -e 's/^Exit status: //p' >"$made/status"
+escaped <"$made/help" | sed -e 1d -e '/^ /d' -e '/^Exit status: /d' -e '/^$/d' >"$made/general"
 for part in commands paragraphs status general; do
     [ -s "$made/$part" ] || { echo "man.sh: --help has no $part in the form that is known here" >&2; exit 1; }
 done

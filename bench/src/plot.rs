@@ -296,7 +296,7 @@ fn panel(
         drawing.write((x, bottom + 15.0), 10.0, Anchor::Middle, INK, &words);
     }
     let unit = match curve.axis {
-        Axis::Slots => "slots",
+        Axis::Slots | Axis::SlotsInVain => "slots",
         Axis::PayloadBytes => "bytes of payload",
     };
     let middle = ((left + right) / 2.0, bottom + 30.0);

@@ -9,11 +9,25 @@ use crate::measure::{time, Areas, Lent, Pair, Samples, LONG};
 /// What the ratio of an ordinary row should not exceed.
 pub const TARGET: f64 = 1.2;
 
+/// The rows that README.md shows.
+const README_ROWS: [&str; 8] = [
+    "lookup: hit at the last of 4,096",
+    "age: 4,096 learned, seconds left",
+    "flush: one VLAN block",
+    "flush: 8 nicknames, 20 mixed TLVs",
+    "receive: General, 64 bytes, source at the last slot",
+    "receive: General, 1,500 bytes, source at slot 0",
+    "compact: from 1,500 bytes",
+    "expand: to 1,500 bytes",
+];
+
 /// What grows along a curve.
 #[derive(Clone, Copy, PartialEq, Eq, PartialOrd, Ord)]
 pub enum Axis {
     Slots,
     PayloadBytes,
+    /// The slots that a long flush message is about in vain: one, and all. Two points are no plot.
+    SlotsInVain,
 }
 
 #[derive(Clone, Copy, PartialEq, Eq)]
@@ -67,13 +81,18 @@ pub struct Report {
 }
 
 impl Report {
-    /// With a filter, only the rows whose names contain it.
+    /// With a filter, only the rows and curves whose names contain it.
     pub fn new(filter: Option<String>) -> Report {
         Report {
             filter,
             load: machine::load(),
             cases: RefCell::new(Vec::new()),
         }
+    }
+
+    fn chooses(&self, name: &str) -> bool {
+        let filter = self.filter.as_deref();
+        filter.is_none_or(|filter| name.contains(filter))
     }
 
     pub fn row<F: Copy>(
@@ -84,13 +103,10 @@ impl Report {
         answer: impl Fn(u64) -> bool,
         call: impl Fn(F, &mut Lent) -> u64,
     ) {
-        if let Some(filter) = &self.filter {
-            if !name.contains(filter.as_str()) {
-                return;
-            }
+        if self.chooses(name) {
+            let samples = time(name, pair, start, answer, call);
+            self.add(Case::Row(name.to_owned()), samples);
         }
-        let samples = time(name, pair, start, answer, call);
-        self.add(Case::Row(name.to_owned()), samples);
     }
 
     pub fn point<F: Copy>(
@@ -102,7 +118,7 @@ impl Report {
         answer: impl Fn(u64) -> bool,
         call: impl Fn(F, &mut Lent) -> u64,
     ) {
-        if self.filter.is_none() {
+        if self.chooses(curve.name) {
             let samples = time(curve.name, pair, start, answer, call);
             self.add(Case::Point(curve, size), samples);
         }
@@ -152,6 +168,13 @@ impl Report {
         curves
     }
 
+    /// The curves of the plot.
+    pub fn plotted(&self) -> Vec<(Curve, Vec<(usize, Times)>)> {
+        let mut curves = self.curves();
+        curves.retain(|(curve, _)| curve.axis != Axis::SlotsInVain);
+        curves
+    }
+
     /// How the times came about.
     pub fn heading(&self, passes: usize) -> String {
         format!(
@@ -175,14 +198,14 @@ impl Report {
         let mut text = String::new();
         let _ = writeln!(
             text,
-            "| {:<56} | {:>15} | {:>12} | ratio |",
+            "| {:<58} | {:>15} | {:>12} | ratio |",
             "case", "ours, ns a call", "hand-written"
         );
-        let _ = writeln!(text, "|{:-<58}|{:->17}|{:->14}|------:|", "", ":", ":");
+        let _ = writeln!(text, "|{:-<60}|{:->17}|{:->14}|------:|", "", ":", ":");
         for row in &rows {
             let _ = writeln!(
                 text,
-                "| {:<56} | {:>15} | {:>12} | {:>5.2} |",
+                "| {:<58} | {:>15} | {:>12} | {:>5.2} |",
                 row.name,
                 nanoseconds(row.times.ours),
                 nanoseconds(row.times.baseline),
@@ -199,6 +222,24 @@ impl Report {
         text
     }
 
+    /// The table of README.md, of the rows that there are.
+    pub fn readme_table(&self) -> String {
+        let mut text = String::from(
+            "| case | ours, ns a call | hand-written | ratio |\n|---|---:|---:|---:|\n",
+        );
+        let rows = self.rows();
+        for row in rows
+            .iter()
+            .filter(|row| README_ROWS.contains(&&row.name[..]))
+        {
+            let Times { ours, baseline } = row.times;
+            let [ours, baseline] = [ours, baseline].map(nanoseconds);
+            let (name, ratio) = (&row.name, row.times.ratio());
+            let _ = writeln!(text, "| {name} | {ours} | {baseline} | {ratio:.2} |");
+        }
+        text
+    }
+
     /// The points of the curves along an axis.
     pub fn growth(&self, axis: Axis) -> String {
         let curves = self.curves();
@@ -207,7 +248,7 @@ impl Report {
             return String::new();
         };
         let unit = match axis {
-            Axis::Slots => "slots",
+            Axis::Slots | Axis::SlotsInVain => "slots",
             Axis::PayloadBytes => "bytes",
         };
         let mut text = String::from("| ours / hand-written, ns a call |");
@@ -227,6 +268,23 @@ impl Report {
         text
     }
 
+    /// What long messages about unknown nicknames cost: judged for one slot, and on the longest table.
+    pub fn in_vain(&self) -> String {
+        let mut text = String::from(
+            "| case | ours, ns a call: 1 slot | 4,096 slots | hand-written: 1 slot | 4,096 slots | ratio |\n\
+             |---|---:|---:|---:|---:|---:|\n",
+        );
+        for (curve, points) in self.curves() {
+            let (Axis::SlotsInVain, [(_, one), (_, all)]) = (curve.axis, &points[..]) else {
+                continue;
+            };
+            let times = [one.ours, all.ours, one.baseline, all.baseline].map(nanoseconds);
+            let (name, ratio) = (curve.name, all.ratio());
+            let _ = writeln!(text, "| {name} | {} | {ratio:.2} |", times.join(" | "));
+        }
+        text
+    }
+
     /// The page docs/BENCH.md.
     pub fn page(&self, passes: usize) -> String {
         format!(
@@ -236,11 +294,15 @@ impl Report {
              ![Ratio of each case](bench-ratio.svg)\n\n\
              ## Growth with the table\n\n{}\n\
              ## Growth with the flush message, on 4,096 slots\n\n{}\n\
-             ![Cost by size](bench-size.svg)\n",
+             ![Cost by size](bench-size.svg)\n\n\
+             ## Flush messages of 9,000 bytes whose nicknames no record has\n\n\
+             On one slot a call takes the time of judging the message, and of preparing its eight nicknames; on \
+             4,096 it looks at the table too.\n\n{}",
             self.heading(passes),
             self.table(),
             self.growth(Axis::Slots),
             self.growth(Axis::PayloadBytes),
+            self.in_vain(),
         )
     }
 }

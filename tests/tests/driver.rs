@@ -1,14 +1,18 @@
 //! The port driver (driver/*.c), compiled with the archive and run as a user runs it.
 
+use std::collections::BTreeSet;
 use std::fs;
-use std::io::Write;
+use std::io::{BufRead, BufReader, Read, Write};
+use std::os::unix::fs::{chown, symlink, MetadataExt, PermissionsExt};
 use std::path::{Path, PathBuf};
-use std::process::{Command, Output, Stdio};
+use std::process::{Child, Command, Output, Stdio};
 use std::sync::OnceLock;
 use std::thread;
-use std::time::Duration;
+use std::time::{Duration, Instant};
 
 use shinglebar_tests::captures::{self, Form, PORT, USUAL};
+use shinglebar_tests::generate;
+use shinglebar_tests::random::Random;
 use shinglebar_tests::reference::{self, write, Entry, Label, RECORD};
 
 /// The options of the settings `captures::PORT`.
@@ -103,6 +107,49 @@ fn shell_in(folder: &Path, line: &str, words: &[&str]) -> Output {
         .expect("sh")
 }
 
+/// Starts the program in a folder, with what it prints in pipes. SIGHUP is not ignored, also where nohup runs the tests.
+fn start_in(folder: &Path, words: &[&str]) -> Child {
+    Command::new("env")
+        .current_dir(folder)
+        .arg("--default-signal=HUP")
+        .arg(program())
+        .args(words)
+        .stdout(Stdio::piped())
+        .stderr(Stdio::piped())
+        .spawn()
+        .expect("the driver")
+}
+
+/// Makes a named pipe: a capture that has not come yet.
+fn make_pipe(pipe: &Path) {
+    let made = Command::new("mkfifo").arg(pipe).status();
+    assert!(made.expect("mkfifo").success());
+}
+
+/// Opens a named pipe that the driver reads.
+fn open_pipe(pipe: &Path) -> fs::File {
+    fs::OpenOptions::new()
+        .write(true)
+        .open(pipe)
+        .expect("the pipe")
+}
+
+/// Waits until something holds, at most five seconds.
+fn await_that(what: &str, holds: impl Fn() -> bool) {
+    let tries = (0..1_000).take_while(|_| {
+        thread::sleep(Duration::from_millis(5));
+        !holds()
+    });
+    assert!(tries.count() < 1_000, "{what}");
+}
+
+fn signal(driver: &Child, name: &str) {
+    let sent = Command::new("kill")
+        .args([&format!("-{name}"), &driver.id().to_string()])
+        .status();
+    assert!(sent.expect("kill").success());
+}
+
 fn good(output: &Output) -> String {
     let said = text(&output.stderr);
     assert!(output.status.success(), "{}: {said}", output.status);
@@ -134,10 +181,23 @@ fn frames(name: &str) -> Vec<Vec<u8>> {
     frames
 }
 
-/// What the second implementation makes of frames: the table after them, and the native frames with their places.
+/// What the second implementation makes of the frames of a capture, a second apart: the table after them, and the native frames with
+/// their places.
 fn received(frames: &[Vec<u8>], table: &mut [u8]) -> Vec<(usize, Vec<u8>)> {
+    received_with(frames, table, 1)
+}
+
+/// The same where no time passes for the table.
+fn received_at_once(frames: &[Vec<u8>], table: &mut [u8]) -> Vec<(usize, Vec<u8>)> {
+    received_with(frames, table, 0)
+}
+
+fn received_with(frames: &[Vec<u8>], table: &mut [u8], seconds: u16) -> Vec<(usize, Vec<u8>)> {
     let mut delivered = Vec::new();
     for (place, frame) in frames.iter().enumerate() {
+        if place > 0 {
+            reference::age(seconds, table);
+        }
         let mut out = vec![0; 9_216];
         let word = reference::receive(&PORT, frame, table, &mut out);
         if word & 0xFF == 65 {
@@ -299,7 +359,14 @@ fn each_form_of_capture_gives_the_same_lines_and_keeps_its_form_and_times() {
         };
         let folder = folder(&format!("form_{big_endian}_{nanoseconds}"));
         fs::write(folder.join("in"), captures::capture(form, &frames)).expect("a capture");
-        let printed = good(&run_in(&folder, &receive_words("in")));
+        let mut printed = good(&run_in(&folder, &receive_words("in")));
+        // the same numbers are nanoseconds there
+        for place in (0..frames.len()).filter(|_| nanoseconds) {
+            let (_, fraction) = captures::time(place);
+            let nine = format!(".{fraction:09}Z");
+            assert!(printed.contains(&nine), "{nine}");
+            printed = printed.replace(&nine, &format!(".{fraction:06}Z"));
+        }
         expect_text(&printed, "hall.expected");
         let mut table = vec![0; 16 * RECORD];
         let delivered = received(&frames, &mut table);
@@ -323,7 +390,12 @@ fn the_table_is_kept_between_runs() {
     for answer in ["4 learned, 0 refreshed", "0 learned, 4 refreshed"] {
         let printed = good(&run_in(&folder, &receive_words("in")));
         assert!(printed.contains(answer), "{printed}");
-        received(&frames("lab_to_left"), &mut table);
+        // the second time the capture is older than the table: no time passes
+        if answer.starts_with('4') {
+            received(&frames("lab_to_left"), &mut table);
+        } else {
+            received_at_once(&frames("lab_to_left"), &mut table);
+        }
         assert!(bytes(&folder.join("table")) == table);
     }
     // nothing changes in the second run, and the slot is shown all the same
@@ -331,7 +403,600 @@ fn the_table_is_kept_between_runs() {
     let line =
         "refreshed | table unchanged (slot 1: learned VLAN 20 02-00-00-00-00-11 behind 1234, confidence 32, 300 s)";
     assert!(printed.contains(line), "{printed}");
+    assert_eq!(names(&folder), ["in", "out", "table", "table.aged"]);
+}
+
+/// A frame of the worked example's first kind, from another station and VLAN.
+fn frame_from(mac: u64, vlan: u16, ingress: u16) -> Vec<u8> {
+    let mut frame = frames("hall").swap_remove(0);
+    frame[18..20].copy_from_slice(&ingress.to_be_bytes());
+    frame[26..32].copy_from_slice(&mac.to_be_bytes()[2..]);
+    frame[34..36].copy_from_slice(&vlan.to_be_bytes());
+    frame
+}
+
+/// A flush to the port of the worked example, from the nickname 1234.
+fn flush_frame(payload: &[u8]) -> Vec<u8> {
+    let mut frame = frames("lab_flush").swap_remove(0);
+    frame.truncate(frame.len() - 6);
+    frame.extend(payload);
+    frame
+}
+
+/// The parts of the line of a frame, between the bars.
+fn parts(printed: &str, number: usize) -> Vec<String> {
+    let begin = format!("frame {number}: ");
+    let line = printed.lines().find(|line| line.starts_with(&begin));
+    let line = line.unwrap_or_else(|| panic!("no line of frame {number} in {printed}"));
+    line.split(" | ").map(str::to_string).collect()
+}
+
+#[test]
+fn a_line_costs_about_what_the_call_costs() {
+    let folder = folder("cost");
+    let stations: Vec<Vec<u8>> = (0..4_000)
+        .map(|number| frame_from(0x0200_0100_0000 + number, 10, 0x1234))
+        .collect();
+    // each station in turn, in an order that leaps
+    let frames: Vec<Vec<u8>> = (0..200_000)
+        .map(|place| stations[place * 1_237 % 4_000].clone())
+        .collect();
+    let form = USUAL;
+    let records = frames
+        .iter()
+        .enumerate()
+        .flat_map(|(place, frame)| form.record((1_763_280_000 + place as u32 / 10_000, 0), frame));
+    let capture: Vec<u8> = form.header().into_iter().chain(records).collect();
+    fs::write(folder.join("in"), capture).expect("a capture");
+    let files = ["receive", "in", "--table", "table", "--slots", "4096"];
+    let time = |more: &[&str]| {
+        let words = [&files[..], &SETTINGS, more].concat();
+        let run = |_| {
+            let _ = fs::remove_file(folder.join("table"));
+            let began = Instant::now();
+            let printed = good(&run_in(&folder, &words));
+            assert!(
+                printed.contains("200000 frames: 200000 delivered (4000 learned, 196000 refreshed")
+            );
+            began.elapsed()
+        };
+        (0..3).map(run).min().expect("three runs")
+    };
+    let (quiet, lines) = (time(&["--quiet"]), time(&[]));
+    assert!(
+        lines <= 5 * quiet,
+        "{lines:?} with lines, {quiet:?} without"
+    );
+}
+
+#[test]
+fn a_line_tells_what_a_slot_held_before_and_after() {
+    let folder = folder("before_after");
+    let mac = 0x0200_0000_0001;
+    let mut table = [
+        record(true, vlan(10), mac, 20, 17),
+        record(false, vlan(11), mac, 1, 0),
+        record(true, vlan(12), mac, 200, 17),
+    ]
+    .concat();
+    table.extend([0; RECORD]);
+    fs::write(folder.join("table"), &table).expect("a table");
+    let frames = [
+        frame_from(mac, 10, 0x1235),
+        frame_from(mac, 10, 0x1235),
+        frame_from(mac, 11, 0x1235),
+        frame_from(mac, 12, 0x1235),
+        frame_from(mac, 13, 0x1235),
+        frame_from(mac, 13, 0x1236),
+        flush_frame(&[2, 0x12, 0x35, 0x12, 0x36, 0, 6, 0]),
+        frame_from(mac, 14, 0x1235),
+    ];
+    fs::write(folder.join("in"), captures::capture(USUAL, &frames)).expect("a capture");
+    let words = [
+        &["receive", "in", "--table", "table", "--no-ageing"][..],
+        &SETTINGS,
+    ]
+    .concat();
+    let printed = good(&run_in(&folder, &words));
+    let wanted = [
+        "slot 0: VLAN 10 02-00-00-00-00-01 behind 1234 -> 1235, confidence 20 -> 32, 17 -> 300 s",
+        "table unchanged (slot 0: learned VLAN 10 02-00-00-00-00-01 behind 1235, confidence 32, 300 s)",
+        "table unchanged (slot 1: configured VLAN 11 02-00-00-00-00-01 behind 1234, confidence 1, 0 s)",
+        "table unchanged (slot 2: learned VLAN 12 02-00-00-00-00-01 behind 1234, confidence 200, 17 s)",
+        "slot 3: free -> learned VLAN 13 02-00-00-00-00-01 behind 1235, confidence 32, 300 s",
+        "slot 3: VLAN 13 02-00-00-00-00-01 behind 1235 -> 1236",
+        "slot 0: VLAN 10 02-00-00-00-00-01 behind 1235 -> free; slot 3: VLAN 13 02-00-00-00-00-01 behind 1236 -> free",
+        "slot 0: free -> learned VLAN 14 02-00-00-00-00-01 behind 1235, confidence 32, 300 s",
+    ];
+    for (place, wanted) in wanted.iter().enumerate() {
+        assert_eq!(parts(&printed, place + 1)[2], *wanted);
+    }
+    received_at_once(&frames, &mut table);
+    assert!(bytes(&folder.join("table")) == table);
+}
+
+/// A capture of frames with seconds of their own, counted from the first one of `captures::time`.
+fn capture_at(frames: &[(u32, Vec<u8>)]) -> Vec<u8> {
+    let (first, _) = captures::time(0);
+    let records = frames
+        .iter()
+        .flat_map(|(second, frame)| USUAL.record((first + second, 999_999), frame));
+    USUAL.header().into_iter().chain(records).collect()
+}
+
+#[test]
+fn the_table_ages_by_the_time_stamps_and_never_backwards() {
+    let folder = folder("ageing");
+    let from = |number: u64| frame_from(0x0200_0000_0000 + number, 10, 0x1234);
+    let frames = [
+        (0, from(1)),
+        (100, from(2)),
+        // a clock that was set back: no time passes until it has caught up
+        (40, from(3)),
+        (100, from(3)),
+        (299, from(4)),
+        // more than 16 bits of seconds, and all at once
+        (300, from(5)),
+        (300 + 70_000, from(6)),
+    ];
+    fs::write(folder.join("in"), capture_at(&frames)).expect("a capture");
+    let printed = good(&run_in(&folder, &receive_words("in")));
+    let aged: Vec<&str> = printed
+        .lines()
+        .filter(|line| line.starts_with("aged: "))
+        .collect();
+    let slot = |slot: u8, number: u8| {
+        format!("slot {slot}: VLAN 10 02-00-00-00-00-0{number} behind 1234 -> free")
+    };
+    assert_eq!(
+        aged,
+        [
+            format!(
+                "aged: 2025-11-16T08:05:00Z 1 seconds passed | 1 became free | {}",
+                slot(0, 1)
+            ),
+            format!(
+                "aged: 2025-11-17T03:31:40Z 70000 seconds passed | 4 became free | {}; {}; {}; {}",
+                slot(0, 5),
+                slot(1, 2),
+                slot(2, 3),
+                slot(3, 4)
+            ),
+        ]
+    );
+    // station 5 took the slot that station 1 left
+    assert!(parts(&printed, 6)[2].starts_with("slot 0: free -> learned VLAN 10 02-00-00-00-00-05"));
+    let mut table = vec![0; 16 * RECORD];
+    let mut clock = 0;
+    for (second, frame) in &frames {
+        let passed = second.saturating_sub(clock);
+        reference::age(passed.min(65_535) as u16, &mut table);
+        clock = clock.max(*second);
+        reference::receive(&PORT, frame, &mut table, &mut [0; 9_216]);
+    }
+    assert!(bytes(&folder.join("table")) == table);
+    // and without ageing no record goes, and no second is kept
+    for name in ["table", "table.aged"] {
+        fs::remove_file(folder.join(name)).expect("a file");
+    }
+    let words = [&receive_words("in")[..], &["--no-ageing"]].concat();
+    let printed = good(&run_in(&folder, &words));
+    assert!(!printed.contains("aged: "));
+    assert!(printed.contains("table: 16 slots, 6 learned, 0 configured, 0 spoilt, 10 free"));
     assert_eq!(names(&folder), ["in", "out", "table"]);
+}
+
+#[test]
+fn the_second_that_a_table_was_aged_to_is_kept_beside_it() {
+    let folder = folder("second");
+    let from = |number: u64| frame_from(0x0200_0000_0000 + number, 10, 0x1234);
+    let (first, _) = captures::time(0);
+    let run = |frames: &[(u32, Vec<u8>)]| {
+        fs::write(folder.join("in"), capture_at(frames)).expect("a capture");
+        good(&run_in(&folder, &receive_words("in")))
+    };
+    let second = || {
+        let aged = text(&bytes(&folder.join("table.aged")));
+        let last = aged.lines().last().expect("a line").to_string();
+        last.split(' ')
+            .next()
+            .expect("a second")
+            .parse::<u32>()
+            .expect("a number")
+            - first
+    };
+    run(&[(10, from(1))]);
+    assert_eq!(second(), 10);
+    // the seconds between two runs pass too
+    let printed = run(&[(250, from(2))]);
+    assert!(printed
+        .contains("slot 0: learned VLAN 10 02-00-00-00-00-01 behind 1234, confidence 32, 60 s"));
+    assert_eq!(second(), 250);
+    // and those that pass by hand
+    good(&run_in(&folder, &["age", "--table", "table", "--by", "20"]));
+    assert_eq!(second(), 270);
+    let printed = run(&[(269, from(3)), (309, from(4))]);
+    assert!(printed
+        .contains("slot 0: learned VLAN 10 02-00-00-00-00-01 behind 1234, confidence 32, 1 s"));
+    // no time passes without ageing, and none is lost
+    let words = [&receive_words("in")[..], &["--no-ageing"]].concat();
+    good(&run_in(&folder, &words));
+    assert_eq!(second(), 309);
+    let printed = run(&[(310, from(4))]);
+    assert!(
+        printed.contains("| 1 became free | slot 0: VLAN 10 02-00-00-00-00-01 behind 1234 -> free")
+    );
+    // a table that comes without its second ages from the first frame on
+    let foreign = [record(true, vlan(10), 0x0200_0000_0009, 1, 5), [0; RECORD]].concat();
+    fs::write(
+        folder.join("table"),
+        [foreign, vec![0; 14 * RECORD]].concat(),
+    )
+    .expect("a table");
+    let printed = run(&[(9_000, from(1)), (9_004, from(1))]);
+    assert!(printed
+        .contains("slot 0: learned VLAN 10 02-00-00-00-00-09 behind 1234, confidence 1, 1 s"));
+    assert_eq!(second(), 9_004);
+    // a save that is cut between its two files leaves the old table with its own second
+    let old = bytes(&folder.join("table"));
+    run(&[(9_100, from(1))]);
+    fs::write(folder.join("table"), old).expect("a table");
+    let printed = run(&[(9_005, from(1))]);
+    assert!(
+        printed.contains("aged: 2025-11-16T10:30:05Z 1 seconds passed | 1 became free | slot 0: ")
+    );
+    // a file of that name that is not the driver's is not written over
+    fs::write(folder.join("table.aged"), "my notes\n").expect("a file");
+    bad(
+        &run_in(&folder, &receive_words("in")),
+        1,
+        "table.aged holds something other than the second",
+    );
+    assert_eq!(bytes(&folder.join("table.aged")), b"my notes\n");
+}
+
+#[test]
+fn a_dry_run_reads_the_table_and_writes_none() {
+    let folder = folder("dry");
+    let frames = frames("hall");
+    fs::write(folder.join("in"), captures::capture(USUAL, &frames)).expect("a capture");
+    let words = receive_words("in");
+    let printed = good(&run_in(&folder, &[&words[..], &["--dry-run"]].concat()));
+    expect_text(&printed, "hall.expected");
+    // the capture that was asked for is written all the same
+    assert_eq!(names(&folder), ["in", "out"]);
+    let delivered = received(&frames, &mut vec![0; 16 * RECORD]);
+    assert!(bytes(&folder.join("out")) == capture_of(USUAL, &delivered));
+    good(&run_in(&folder, &words));
+    let (table, aged) = (
+        bytes(&folder.join("table")),
+        bytes(&folder.join("table.aged")),
+    );
+    // it reads also where another process holds the table
+    make_pipe(&folder.join("pipe"));
+    let files = ["receive", "pipe", "--table", "table"];
+    let driver = start_in(&folder, &[&files[..], &SETTINGS].concat());
+    let pipe = open_pipe(&folder.join("pipe"));
+    good(&run_in(&folder, &[&words[..], &["--dry-run"]].concat()));
+    let by_hand = ["age", "--table", "table", "--by", "9999", "--dry-run"];
+    let printed = good(&run_in(&folder, &by_hand));
+    assert!(printed.contains("3 of 3 learned records became free"));
+    drop(pipe);
+    driver.wait_with_output().expect("the driver");
+    assert!(bytes(&folder.join("table")) == table);
+    assert!(bytes(&folder.join("table.aged")) == aged);
+}
+
+#[test]
+fn a_line_names_eight_cleared_slots_and_counts_the_others() {
+    let folder = folder("eight");
+    let mut frames: Vec<Vec<u8>> = (0..11)
+        .map(|number| frame_from(0x0200_0000_0010 + number, 10, 0x1234))
+        .collect();
+    frames.push(flush_frame(&[0, 0, 6, 0]));
+    fs::write(folder.join("in"), captures::capture(USUAL, &frames)).expect("a capture");
+    let printed = good(&run_in(&folder, &receive_words("in")));
+    let changes = &parts(&printed, 12)[2];
+    assert!(changes.starts_with("slot 0: VLAN 10 02-00-00-00-00-10 behind 1234 -> free; slot 1: "));
+    assert!(changes.ends_with("slot 7: VLAN 10 02-00-00-00-00-17 behind 1234 -> free; and 3 more"));
+    // of one address, its own slot is named, wherever it stands
+    fs::remove_file(folder.join("table")).expect("the table");
+    let words = [&receive_words("in")[..], &["--mac", "02-00-00-00-00-1A"]].concat();
+    let printed = good(&run_in(&folder, &words));
+    let lines: Vec<&str> = printed.lines().collect();
+    assert_eq!(lines.len(), 4, "{printed}");
+    assert!(lines[0].starts_with("frame 11: "));
+    assert!(lines[1].starts_with("frame 12: "));
+    assert!(lines[1]
+        .ends_with(" | slot 10: VLAN 10 02-00-00-00-00-1A behind 1234 -> free; and 10 more"));
+    assert!(lines[2].starts_with("12 frames: "));
+    assert!(lines[3].starts_with("table: "));
+}
+
+#[test]
+fn with_an_address_only_the_lines_that_concern_it_are_printed() {
+    let folder = folder("mac");
+    let hall = data("hall.pcap");
+    let words = receive_words(hall.to_str().expect("UTF-8"));
+    let all = good(&run_in(&folder, &words));
+    fs::remove_file(folder.join("table")).expect("the table");
+    let printed = good(&run_in(
+        &folder,
+        &[&words[..], &["--mac", "020000000001"]].concat(),
+    ));
+    let wanted: Vec<&str> = all
+        .lines()
+        .filter(|line| !line.starts_with("frame ") && !line.starts_with("  slot"))
+        .collect();
+    // station 1 is the source of frames 1, 2 and 6, and frame 12 clears one of its records
+    let lines: Vec<&str> = printed.lines().collect();
+    let numbers: Vec<&str> = lines
+        .iter()
+        .filter_map(|line| line.strip_prefix("frame "))
+        .map(|line| line.split(':').next().expect("a number"))
+        .collect();
+    assert_eq!(numbers, ["1", "2", "6", "12"]);
+    let rest: Vec<&str> = lines[4..].to_vec();
+    assert_eq!(rest[..wanted.len()], wanted);
+    assert_eq!(rest.len(), wanted.len() + 1);
+    assert!(
+        rest[wanted.len()].starts_with("  slot 1: learned FGL 10 02-00-00-00-00-01 behind 1234")
+    );
+    // a destination concerns it too
+    let printed = good(&run_in(
+        &folder,
+        &[&words[..], &["--mac", "02000000000D"]].concat(),
+    ));
+    assert_eq!(printed.matches("frame ").count(), 7, "{printed}");
+}
+
+#[test]
+fn a_flush_is_told_in_words() {
+    let folder = folder("flush_words");
+    let mac = [2, 0, 0, 0, 0, 9];
+    let tlv = |kind: u8, value: &[u8]| [&[kind, value.len() as u8], value].concat();
+    let tlvs = |tlvs: &[Vec<u8>]| [&[0, 0][..], &tlvs.concat()].concat();
+    let sender = "nicknames: 1234 (the sender's); labels: ";
+    let many: Vec<u8> = (1..=10).flat_map(|number| [0, 0, number * 2]).collect();
+    let cases: Vec<(Vec<u8>, String)> = vec![
+        (vec![2, 0x12, 0x35, 0, 0, 0], "nicknames: 1235, 0000; labels: none; MACs: all".into()),
+        (vec![0, 2, 0, 0, 0x0F, 0xFF, 0xF0, 7, 0xF0, 7, 99], format!("{sender}VLAN 1 to 4094, VLAN 7; MACs: all")),
+        (vec![0, 1, 0, 11, 0, 10], format!("{sender}none; MACs: all")),
+        (tlvs(&[tlv(1, &[0, 10, 0, 12]), tlv(7, &mac)]), format!("{sender}VLAN 10 to 12; MACs: 02-00-00-00-00-09")),
+        (tlvs(&[tlv(2, &[0, 0, 0xC0, 0x07])]), format!("{sender}VLAN 1, VLAN 13 to 15; MACs: all")),
+        (tlvs(&[tlv(2, &[0xFF, 0xFD, 0xF0])]), format!("{sender}VLAN 4093 to 4094; MACs: all")),
+        (tlvs(&[tlv(3, &[0, 0, 1, 0, 1, 0, 0, 0, 2, 0, 0, 1])]), format!("{sender}FGL 1 to 256; MACs: all")),
+        (tlvs(&[tlv(4, &[0, 0, 0, 0xFF, 0xFF, 0xFF])]), format!("{sender}FGL 0, FGL 16777215; MACs: all")),
+        (tlvs(&[tlv(5, &[0xFF, 0xFF, 0xFE, 0xFF])]), format!("{sender}FGL 16777214 to 16777215; MACs: all")),
+        (tlvs(&[tlv(1, &[0, 10, 0, 12]), tlv(6, &[])]), format!("{sender}all; MACs: all")),
+        (
+            tlvs(&[tlv(6, &[]), tlv(8, &[[2, 0, 0, 0, 0, 1], mac].concat()), tlv(8, &[mac, [2, 0, 0, 0, 0, 1]].concat())]),
+            format!("{sender}all; MACs: 02-00-00-00-00-01 to 02-00-00-00-00-09"),
+        ),
+        (tlvs(&[tlv(0, &[1]), tlv(9, &[1, 2]), tlv(255, &[])]), format!("{sender}none; MACs: all; TLVs of other types: 3")),
+        (
+            tlvs(&[tlv(4, &many)]),
+            format!("{sender}FGL 2, FGL 4, FGL 6, FGL 8, FGL 10, FGL 12, FGL 14, FGL 16, and 2 more; MACs: all"),
+        ),
+        (vec![], "byte 0 of the payload: K-nicks is missing".into()),
+        (vec![2, 0x12, 0x34, 0x12], "byte 1 of the payload: K-nicks 2 means 4 bytes of nicknames: 3 are left".into()),
+        (vec![1, 0x12, 0x34], "byte 3 of the payload: K-VLBs is missing".into()),
+        (vec![0, 2, 0, 1, 0, 2, 0], "byte 2 of the payload: K-VLBs 2 means 8 bytes of VLAN blocks: 5 are left".into()),
+        (tlvs(&[tlv(6, &[]), vec![7]]), "byte 4 of the payload: a lone last byte, where a TLV has type and length".into()),
+        (tlvs(&[vec![9, 1]]), "byte 2 of the payload: a TLV of type 9 and length 1 passes the end: 0 bytes are left".into()),
+        (tlvs(&[tlv(1, &[0; 3])]), "byte 2 of the payload: a TLV of type 1 has length 3, no multiple of 4".into()),
+        (tlvs(&[tlv(2, &[0])]), "byte 2 of the payload: a TLV of type 2 has length 1, under 2".into()),
+        (tlvs(&[tlv(3, &[0; 3])]), "byte 2 of the payload: a TLV of type 3 has length 3, no multiple of 6".into()),
+        (tlvs(&[tlv(4, &[0; 2])]), "byte 2 of the payload: a TLV of type 4 has length 2, no multiple of 3".into()),
+        (tlvs(&[tlv(5, &[0; 2])]), "byte 2 of the payload: a TLV of type 5 has length 2, under 3".into()),
+        (tlvs(&[tlv(6, &[0])]), "byte 2 of the payload: a TLV of type 6 has length 1, not 0".into()),
+        (tlvs(&[tlv(7, &[0; 7])]), "byte 2 of the payload: a TLV of type 7 has length 7, no multiple of 6".into()),
+        (tlvs(&[tlv(8, &[0; 6])]), "byte 2 of the payload: a TLV of type 8 has length 6, no multiple of 12".into()),
+    ];
+    let frames: Vec<Vec<u8>> = cases
+        .iter()
+        .map(|(payload, _)| flush_frame(payload))
+        .collect();
+    fs::write(folder.join("in"), captures::capture(USUAL, &frames)).expect("a capture");
+    let printed = good(&run_in(&folder, &receive_words("in")));
+    for (place, (payload, words)) in cases.iter().enumerate() {
+        let answer = if words.starts_with("byte") {
+            format!("refused 15: flush payload corrupt: {words}")
+        } else {
+            format!("flushed, 0 cleared; {words}")
+        };
+        assert_eq!(parts(&printed, place + 1)[1], answer, "{payload:?}");
+    }
+}
+
+#[test]
+fn the_driver_calls_a_payload_corrupt_exactly_where_the_library_refuses_it() {
+    let folder = folder("flush_reading");
+    let mut random = Random::new(16);
+    let pool = generate::Pool::new(&mut random);
+    let mut payloads: Vec<Vec<u8>> = Vec::new();
+    for _ in 0..3_000 {
+        let mut payload = generate::payload(&mut random, &pool);
+        payload.truncate(9_000);
+        let cut = random.length(0, payload.len());
+        payloads.push(payload[..cut].to_vec());
+        if !payload.is_empty() {
+            let mut changed = payload.clone();
+            generate::change_one_byte(&mut random, &mut changed);
+            payloads.push(changed);
+        }
+        payloads.push(payload);
+    }
+    let frames: Vec<Vec<u8>> = payloads
+        .iter()
+        .map(|payload| flush_frame(payload))
+        .collect();
+    fs::write(folder.join("in"), captures::capture(USUAL, &frames)).expect("a capture");
+    let printed = good(&run_in(&folder, &receive_words("in")));
+    let lines: Vec<&str> = printed.lines().collect();
+    let mut corrupt = 0;
+    for (place, payload) in payloads.iter().enumerate() {
+        let refused = reference::flush(0x1234, payload, &mut [0; RECORD]) == 15;
+        let begin = format!("frame {}: ", place + 1);
+        assert!(lines[place].starts_with(&begin));
+        let answer = lines[place].split(" | ").nth(1).expect("an answer");
+        let words = if refused {
+            "refused 15: flush payload corrupt: byte "
+        } else {
+            "flushed, 0 cleared; nicknames: "
+        };
+        assert!(answer.starts_with(words), "{payload:?}: {answer}");
+        corrupt += usize::from(refused);
+    }
+    assert!(
+        corrupt > 1_000 && corrupt < payloads.len() - 1_000,
+        "{corrupt} of {}",
+        payloads.len()
+    );
+}
+
+/// The values of a flat walk through one JSON object, as texts; it panics where the line is no JSON object.
+fn json_values(line: &str) -> Vec<String> {
+    fn value(rest: &mut &str, found: &mut Vec<String>) {
+        let first = rest.chars().next().expect("a value");
+        match first {
+            '{' | '[' => {
+                *rest = &rest[1..];
+                let close = if first == '{' { '}' } else { ']' };
+                if let Some(behind) = rest.strip_prefix(close) {
+                    *rest = behind;
+                    return;
+                }
+                loop {
+                    if first == '{' {
+                        text_value(rest);
+                        *rest = rest.strip_prefix(':').expect("a colon");
+                    }
+                    value(rest, found);
+                    let next = rest.chars().next().expect("a comma or the end");
+                    *rest = &rest[1..];
+                    if next == close {
+                        return;
+                    }
+                    assert_eq!(next, ',', "{rest}");
+                }
+            }
+            '"' => found.push(text_value(rest)),
+            _ => {
+                let end = rest.find([',', '}', ']']).expect("an end");
+                let (word, behind) = rest.split_at(end);
+                let is_word = ["null", "true", "false"].contains(&word);
+                assert!(is_word || word.parse::<u64>().is_ok(), "{word}");
+                found.push(word.to_string());
+                *rest = behind;
+            }
+        }
+    }
+    fn text_value(rest: &mut &str) -> String {
+        let mut text = String::new();
+        let mut letters = rest.strip_prefix('"').expect("a text").chars();
+        loop {
+            match letters.next().expect("the end of a text") {
+                '"' => break,
+                '\\' => text.push(letters.next().expect("a letter")),
+                letter => {
+                    assert!(letter >= ' ');
+                    text.push(letter);
+                }
+            }
+        }
+        *rest = letters.as_str();
+        text
+    }
+    let mut rest = line;
+    let mut found = Vec::new();
+    assert!(rest.starts_with('{'), "{line}");
+    value(&mut rest, &mut found);
+    assert_eq!(rest, "", "{line}");
+    found
+}
+
+/// Every number, address and nickname of the lines is a part of a value of the object in its place.
+fn same_facts(lines: &str, objects: &str) {
+    assert_eq!(lines.lines().count(), objects.lines().count());
+    for (line, object) in lines.lines().zip(objects.lines()) {
+        let values = json_values(object).join(" ");
+        let tokens = line.split(|letter: char| !letter.is_ascii_hexdigit() && letter != '-');
+        for token in tokens.filter(|token| token.contains(|letter: char| letter.is_ascii_digit())) {
+            let token = token.trim_matches('-');
+            assert!(
+                values.contains(token),
+                "`{token}` of `{line}` is not in {object}"
+            );
+        }
+    }
+}
+
+#[test]
+fn json_has_an_object_for_each_line_with_the_same_facts() {
+    let folder = folder("json");
+    let both = |words: &[&str], clean: &[&str], status: i32| {
+        let run = |more: &[&str]| {
+            for name in clean {
+                let _ = fs::remove_file(folder.join(name));
+            }
+            let output = run_in(&folder, &[words, more].concat());
+            assert_eq!(
+                output.status.code(),
+                Some(status),
+                "{}",
+                text(&output.stderr)
+            );
+            text(&output.stdout)
+        };
+        let objects = run(&["--json"]);
+        same_facts(&run(&[]), &objects);
+        objects
+    };
+    for name in ["hall", "refusals"] {
+        let capture = data(&format!("{name}.pcap"));
+        let objects = both(
+            &receive_words(capture.to_str().expect("UTF-8")),
+            &["table"],
+            0,
+        );
+        assert!(
+            objects.contains("\"answer\":\"refused\",\"refusal\":15,"),
+            "{objects}"
+        );
+    }
+    let capture = data("to_compact.pcap");
+    let files = [
+        "compact",
+        capture.to_str().expect("UTF-8"),
+        "--out",
+        "small",
+    ];
+    both(&[&files[..], &SETTINGS].concat(), &[], 0);
+    let source = ["--source", "02-00-00-00-00-B2"];
+    both(
+        &[
+            &["expand", "small", "--out", "large"][..],
+            &source,
+            &SETTINGS,
+        ]
+        .concat(),
+        &[],
+        0,
+    );
+    let table = [
+        record(true, vlan(10), 0x0200_0000_0001, 32, 300),
+        [0xC0; RECORD],
+    ]
+    .concat();
+    fs::write(folder.join("table"), table).expect("a table");
+    both(&["check", "--table", "table"], &[], 1);
+    both(&["age", "--table", "table", "--by", "0"], &[], 0);
+    let lookup = ["lookup", "--table", "table", "--vlan", "10", "--mac"];
+    both(&[&lookup[..], &["02-00-00-00-00-01"]].concat(), &[], 0);
+    both(&[&lookup[..], &["02-00-00-00-00-02"]].concat(), &[], 1);
+    fs::write(folder.join("table"), [0; RECORD]).expect("a table");
+    both(&["check", "--table", "table"], &[], 0);
 }
 
 #[test]
@@ -357,25 +1022,71 @@ fn configured_records_and_a_full_table_are_said() {
 }
 
 #[test]
-fn a_capture_cut_at_any_byte_is_refused_and_changes_no_file() {
+fn of_a_capture_cut_at_any_byte_every_whole_frame_counts() {
     let folder = folder("cut");
     let frames = frames("hall");
     let whole = captures::capture(USUAL, &frames);
     let ends: Vec<usize> = (0..=frames.len())
         .map(|count| captures::capture(USUAL, &frames[..count]).len())
         .collect();
-    fs::write(folder.join("table"), vec![0; 16 * RECORD]).expect("a table");
-    fs::write(folder.join("out"), "old").expect("an output");
-    for length in (0..whole.len()).filter(|length| !ends.contains(length)) {
+    let old = vec![0; 16 * RECORD];
+    // every byte of the header and the first two records, every end, and a part of the rest
+    let tried = |length: &usize| *length < ends[2] || ends.contains(length) || length % 7 == 0;
+    for length in (0..whole.len()).filter(tried) {
         fs::write(folder.join("in"), &whole[..length]).expect("a capture");
+        fs::write(folder.join("table"), &old).expect("a table");
+        fs::write(folder.join("out"), "old").expect("an output");
+        let _ = fs::remove_file(folder.join("table.aged"));
         let output = run_in(&folder, &receive_words("in"));
-        bad(&output, 1, "ends inside");
-        assert!(bytes(&folder.join("table")) == vec![0; 16 * RECORD]);
-        assert_eq!(bytes(&folder.join("out")), b"old");
-        assert_eq!(names(&folder), ["in", "out", "table"]);
+        // the whole frames that the capture has; none where its header is cut
+        let Some(count) = ends.iter().rposition(|end| *end <= length) else {
+            bad(
+                &output,
+                1,
+                &format!("in ends inside its header: {length} of 24 bytes"),
+            );
+            assert!(bytes(&folder.join("table")) == old);
+            assert_eq!(bytes(&folder.join("out")), b"old");
+            continue;
+        };
+        if length == ends[count] {
+            good(&output);
+        } else {
+            let record = format!(
+                "in, record {}, at byte {}: the capture ends inside ",
+                count + 1,
+                ends[count]
+            );
+            bad(&output, 1, &record);
+        }
+        assert!(text(&output.stdout).contains(&format!("{count} frames: ")));
+        let mut table = old.clone();
+        let delivered = received(&frames[..count], &mut table);
+        assert!(bytes(&folder.join("table")) == table, "{length}");
+        assert!(
+            bytes(&folder.join("out")) == capture_of(USUAL, &delivered),
+            "{length}"
+        );
+        let files = ["in", "out", "table", "table.aged"];
+        assert_eq!(names(&folder), files[..3 + usize::from(count > 0)]);
     }
-    fs::write(folder.join("in"), &whole[..ends[5]]).expect("a capture");
-    assert!(good(&run_in(&folder, &receive_words("in"))).contains("5 frames: "));
+}
+
+#[test]
+fn conversions_keep_what_came_before_a_cut() {
+    let folder = folder("cut_convert");
+    let frames = frames("to_compact");
+    let whole = captures::capture(USUAL, &frames);
+    fs::write(folder.join("in"), &whole[..whole.len() - 1]).expect("a capture");
+    let words = [&["compact", "in", "--out", "out"][..], &SETTINGS].concat();
+    let output = run_in(&folder, &words);
+    bad(&output, 1, "in, record 7, at byte ");
+    assert!(text(&output.stdout).contains("6 frames: 3 compacted, 3 left out\n"));
+    let wanted = folder.join("wanted");
+    fs::write(folder.join("in"), captures::capture(USUAL, &frames[..6])).expect("a capture");
+    let words = [&["compact", "in", "--out", "wanted"][..], &SETTINGS].concat();
+    good(&run_in(&folder, &words));
+    assert!(bytes(&folder.join("out")) == bytes(&wanted));
 }
 
 #[test]
@@ -388,12 +1099,13 @@ fn bad_captures_are_refused_with_a_message() {
         capture
     };
     // the first record begins at byte 24, and its two lengths, both 84, at 32
-    let cases: [(Vec<u8>, &str); 8] = [
+    let cases: [(Vec<u8>, &str); 9] = [
         (Vec::new(), "in ends inside its header: 0 of 24 bytes"),
-        (with(0, b"GIF8"), "in is no pcap capture: it begins 47 49 46 38"),
-        (with(0, &[0x0A, 0x0D, 0x0D, 0x0A]), "in is a pcapng capture"),
+        (with(0, b"GIF8"), "in is no pcap or pcapng capture: it begins 47 49 46 38"),
         (with(4, &[3]), "in has version 3.4 of the pcap format"),
-        (with(20, &[101]), "in has link type 0x65, not 1"),
+        (with(20, &[101]), "in has link type 101 (raw IP), not 1 (Ethernet without FCS)"),
+        (with(20, &[113]), "in has link type 113 (Linux cooked), not 1"),
+        (with(20, &[1, 0, 0, 0x24]), "in has link type 1 (Ethernet with an FCS), not 1"),
         (with(32, &[0, 0, 5]), "in, record 1, at byte 24: longer than any frame: 327680 of 262144 bytes"),
         (with(36, &[100]), "in, record 1, at byte 24: holds only a part of its frame (captured with a short snap length?): 84 of 100 bytes"),
         (with(36, &[80]), "in, record 1, at byte 24: holds more than its frame: 84 of 80 bytes"),
@@ -408,6 +1120,241 @@ fn bad_captures_are_refused_with_a_message() {
         1,
         "none cannot be opened: No such file",
     );
+}
+
+/// A pcapng file in the making, in one byte order.
+struct Blocks {
+    big_endian: bool,
+    bytes: Vec<u8>,
+}
+
+impl Blocks {
+    fn number(&self, value: u32) -> Vec<u8> {
+        self.turned(&value.to_be_bytes())
+    }
+
+    fn short(&self, value: u16) -> Vec<u8> {
+        self.turned(&value.to_be_bytes())
+    }
+
+    /// The bytes of a number, first byte first, in the order of the section.
+    fn turned(&self, bytes: &[u8]) -> Vec<u8> {
+        let mut bytes = bytes.to_vec();
+        if !self.big_endian {
+            bytes.reverse();
+        }
+        bytes
+    }
+
+    fn block(&mut self, kind: u32, body: &[Vec<u8>]) {
+        let mut body = body.concat();
+        body.resize(body.len().next_multiple_of(4), 0);
+        let length = self.number(body.len() as u32 + 12);
+        let block = [self.number(kind), length.clone(), body, length].concat();
+        self.bytes.extend(block);
+    }
+
+    fn section(&mut self, big_endian: bool) {
+        self.big_endian = big_endian;
+        let length = self.turned(&u64::MAX.to_be_bytes());
+        let body = [
+            self.number(0x1A2B_3C4D),
+            self.short(1),
+            self.short(0),
+            length,
+        ];
+        self.block(0x0A0D_0D0A, &body);
+    }
+
+    /// An option of a block.
+    fn option(&self, code: u16, value: &[u8]) -> Vec<u8> {
+        let mut option = [self.short(code), self.short(value.len() as u16)].concat();
+        option.extend(value);
+        option.resize(option.len().next_multiple_of(4), 0);
+        option
+    }
+
+    fn interface(&mut self, link: u16, options: &[Vec<u8>]) {
+        let front = [self.short(link), self.short(0), self.number(0)].concat();
+        let end = self.option(0, &[]);
+        self.block(1, &[front, options.concat(), end]);
+    }
+
+    /// An enhanced packet, or with the kind 2 an old one; `units` is its time in the interface's units.
+    fn packet(&mut self, kind: u32, interface: u16, units: u64, frame: &[u8]) {
+        let index = if kind == 6 {
+            self.number(u32::from(interface))
+        } else {
+            [self.short(interface), self.short(0xFFFF)].concat()
+        };
+        let time = [self.number((units >> 32) as u32), self.number(units as u32)].concat();
+        let length = self.number(frame.len() as u32);
+        let mut held = frame.to_vec();
+        held.resize(frame.len().next_multiple_of(4), 0);
+        let options = [self.option(1, b"a comment"), self.option(0, &[])].concat();
+        self.block(kind, &[index, time, length.clone(), length, held, options]);
+    }
+}
+
+#[test]
+fn pcapng_with_sections_interfaces_and_resolutions_reads_as_the_same_classic_capture() {
+    let frames = frames("hall");
+    // seconds and nanoseconds of each frame; those of the coarser interfaces are multiples of what they can tell
+    let time = |place: usize| -> (u64, u64) {
+        let fraction = match place % 4 {
+            0 => 123_456_789,
+            1 => 123_456_000,
+            2 => 250_000_000,
+            _ => 500_000_000,
+        };
+        (1_763_280_000 + place as u64, fraction)
+    };
+    for first_order in [false, true] {
+        let mut file = Blocks {
+            big_endian: first_order,
+            bytes: Vec::new(),
+        };
+        file.section(first_order);
+        for (place, frame) in frames.iter().enumerate() {
+            if place == 7 {
+                // another section, in the other order, with interfaces of its own
+                file.section(!first_order);
+            }
+            if place == 0 || place == 7 {
+                let offset = file.turned(&1_000_000_000i64.to_be_bytes());
+                file.interface(1, &[file.option(9, &[9])]);
+                file.interface(1, &[file.option(2, b"eth1")]);
+                // quarters of a second from an offset on; tenths of nanoseconds; an interface that no packet is of
+                file.interface(1, &[file.option(9, &[0x82]), file.option(14, &offset)]);
+                file.interface(1, &[file.option(9, &[10])]);
+                file.interface(101, &[]);
+            }
+            // blocks that are not known: custom, name resolution, statistics
+            file.block(0x0BAD, &[vec![1, 2, 3, 4, 5]]);
+            file.block(4, &[vec![0; 4]]);
+            file.block(5, &[vec![0; 12]]);
+            let (seconds, fraction) = time(place);
+            let (kind, interface, units) = match place % 4 {
+                0 => (6, 0, seconds * 1_000_000_000 + fraction),
+                1 => (6, 1, seconds * 1_000_000 + fraction / 1_000),
+                2 => (2, 2, (seconds - 1_000_000_000) * 4 + fraction / 250_000_000),
+                _ => (6, 3, seconds * 10_000_000_000 + fraction * 10),
+            };
+            file.packet(kind, interface, units, frame);
+        }
+        // a simple packet has no time: it keeps the one before
+        let last = frames[0].clone();
+        let mut body = file.number(last.len() as u32);
+        body.extend(&last);
+        file.block(3, &[body]);
+
+        let folder = folder(&format!("pcapng_{first_order}"));
+        fs::write(folder.join("in"), &file.bytes).expect("a capture");
+        let form = Form {
+            big_endian: first_order,
+            nanoseconds: true,
+        };
+        let classic = frames
+            .iter()
+            .enumerate()
+            .chain([(frames.len() - 1, &last)])
+            .flat_map(|(place, frame)| {
+                let (seconds, fraction) = time(place);
+                form.record((seconds as u32, fraction as u32), frame)
+            });
+        let classic: Vec<u8> = form.header().into_iter().chain(classic).collect();
+        let printed = good(&run_in(&folder, &receive_words("in")));
+        let out = bytes(&folder.join("out"));
+        let table = bytes(&folder.join("table"));
+        for name in ["table", "out"] {
+            fs::remove_file(folder.join(name)).expect("a file");
+        }
+        fs::write(folder.join("in"), classic).expect("a capture");
+        assert_eq!(printed, good(&run_in(&folder, &receive_words("in"))));
+        assert!(out == bytes(&folder.join("out")));
+        assert!(table == bytes(&folder.join("table")));
+    }
+}
+
+#[test]
+fn bad_pcapng_captures_are_refused_with_a_message() {
+    let folder = folder("bad_pcapng");
+    let frame = frames("hall").swap_remove(0);
+    let make = |build: &dyn Fn(&mut Blocks)| {
+        let mut file = Blocks {
+            big_endian: false,
+            bytes: Vec::new(),
+        };
+        file.section(false);
+        build(&mut file);
+        file.bytes
+    };
+    let with = |link: u16, options: &dyn Fn(&Blocks) -> Vec<u8>| {
+        make(&|file| {
+            let options = options(file);
+            file.interface(link, &[options]);
+            file.packet(6, 0, 1, &frame);
+        })
+    };
+    let good_file = with(1, &|_| Vec::new());
+    let changed = |at: usize, byte: u8| {
+        let mut file = good_file.clone();
+        file[at] = byte;
+        file
+    };
+    // the section has 28 bytes, the interface 24; the packet's lengths are at 72 and 76
+    let cases: Vec<(Vec<u8>, &str)> = vec![
+        (
+            changed(8, 0),
+            "in, at byte 0: a section with the byte order 00 3C 2B 1A",
+        ),
+        (changed(12, 2), "in has version 2.0 of the pcapng format"),
+        (changed(24, 1), "a block with two lengths: 1 of 28 bytes"),
+        (changed(32, 25), "a block's length is no multiple of 4"),
+        (changed(32, 8), "a block that is too short: 8 of 20 bytes"),
+        (
+            changed(60, 1),
+            "in, record 1: its interface is 1, and there are 1",
+        ),
+        (changed(72, 83), "holds only a part of its frame"),
+        (changed(76, 83), "holds more than its frame"),
+        (
+            with(113, &|_| Vec::new()),
+            "in, record 1: interface 0 has link type 113 (Linux cooked), not 1",
+        ),
+        (
+            with(1, &|file| file.option(13, &[32])),
+            "(Ethernet with an FCS)",
+        ),
+        (
+            with(1, &|file| file.option(9, &[20])),
+            "a time resolution that is too fine",
+        ),
+        (
+            with(1, &|file| {
+                file.option(14, &file.turned(&(-1i64).to_be_bytes()))
+            }),
+            "in, record 1: a time stamp outside the years 1970 to 2106",
+        ),
+    ];
+    for (capture, words) in cases {
+        fs::write(folder.join("in"), capture).expect("a capture");
+        bad(&run_in(&folder, &receive_words("in")), 1, words);
+        assert_eq!(names(&folder), ["in"], "{words}");
+    }
+    // cut in its last block, it counts up to there; cut in the first one there is nothing to count
+    for length in 4..good_file.len() {
+        fs::write(folder.join("in"), &good_file[..length]).expect("a capture");
+        let output = run_in(&folder, &receive_words("in"));
+        if length == 28 || length == 52 {
+            good(&output);
+        } else {
+            bad(&output, 1, "in, record 1, at byte ");
+            assert!(text(&output.stderr).contains("the capture ends inside the "));
+        }
+        assert_eq!(text(&output.stdout).contains("0 frames: "), length >= 28);
+        let _ = fs::remove_file(folder.join("table"));
+    }
 }
 
 #[test]
@@ -470,8 +1417,7 @@ fn files_are_replaced_whole_or_not_at_all() {
     stay(&["in", "table"]);
     // The output's folder is missing; a pipe is not replaced. The pipe stands for a device and lies in the test's own folder: a driver
     // that did replace it would do so to /dev/null as well, were it named here and the test run by root.
-    let pipe = Command::new("mkfifo").arg(folder.join("pipe")).status();
-    assert!(pipe.expect("mkfifo").success());
+    make_pipe(&folder.join("pipe"));
     for (out, said) in [
         ("no/out", "no/out cannot be written: No such file"),
         ("pipe", "pipe is not a regular file"),
@@ -490,55 +1436,196 @@ fn files_are_replaced_whole_or_not_at_all() {
     // and with nothing in the way it is replaced
     good(&run_in(&folder, &words));
     assert!(bytes(&folder.join("table")) != old);
-    assert_eq!(names(&folder), ["in", "out", "pipe", "table"]);
+    assert_eq!(names(&folder), ["in", "out", "pipe", "table", "table.aged"]);
 }
 
 #[test]
 fn a_signal_leaves_no_temporary_file_and_the_old_table() {
-    let folder = folder("signal");
-    let old = vec![0; 16 * RECORD];
-    fs::write(folder.join("table"), &old).expect("a table");
-    fs::create_dir(folder.join("made")).expect("a folder");
-    let made = Command::new("mkfifo").arg(folder.join("in")).status();
-    assert!(made.expect("mkfifo").success());
-    let driver = Command::new(program())
-        .current_dir(&folder)
-        .args(["receive", "in", "--table", "table", "--out", "made/out"])
-        .args(SETTINGS)
-        .stdout(Stdio::piped())
-        .stderr(Stdio::piped())
-        .spawn()
-        .expect("the driver");
-    // a capture that does not end yet
-    let mut pipe = fs::OpenOptions::new()
-        .write(true)
-        .open(folder.join("in"))
-        .expect("the pipe");
-    pipe.write_all(&captures::capture(USUAL, &frames("hall")))
-        .expect("frames");
-    // it is written beside the file it is to replace, so that the renaming is one step
-    let temporary = || {
-        names(&folder.join("made"))
-            .iter()
-            .any(|name| name.starts_with("out."))
-    };
-    let tries = (0..1_000).take_while(|_| {
-        thread::sleep(Duration::from_millis(5));
-        !temporary()
+    for name in [
+        "INT", "TERM", "HUP", "QUIT", "ALRM", "USR2", "VTALRM", "PROF", "XCPU", "IO", "34",
+    ] {
+        let folder = folder(&format!("signal_{name}"));
+        let old = vec![0; 16 * RECORD];
+        fs::write(folder.join("table"), &old).expect("a table");
+        fs::create_dir(folder.join("made")).expect("a folder");
+        make_pipe(&folder.join("in"));
+        let files = ["receive", "in", "--table", "table", "--out", "made/out"];
+        let driver = start_in(&folder, &[&files[..], &SETTINGS].concat());
+        // a capture that does not end yet
+        let mut pipe = open_pipe(&folder.join("in"));
+        pipe.write_all(&captures::capture(USUAL, &frames("hall")))
+            .expect("frames");
+        // it is written beside the file it is to replace, so that the renaming is one step
+        await_that("a temporary file in made/", || {
+            names(&folder.join("made"))
+                .iter()
+                .any(|name| name.starts_with("out."))
+        });
+        signal(&driver, name);
+        // where the signal came between two reads, the end of the capture comes next
+        drop(pipe);
+        let output = driver.wait_with_output().expect("the driver");
+        bad(&output, 1, "table stays as it was");
+        assert!(text(&output.stderr).contains("interrupted after "));
+        assert!(bytes(&folder.join("table")) == old);
+        assert_eq!(names(&folder), ["in", "made", "table"]);
+        assert_eq!(names(&folder.join("made")), [""; 0]);
+    }
+}
+
+#[test]
+fn what_a_killed_driver_leaves_is_taken_away_at_the_next_start() {
+    let folder = folder("killed");
+    fs::write(folder.join("table"), [0; 16 * RECORD]).expect("a table");
+    make_pipe(&folder.join("in"));
+    let mut driver = start_in(&folder, &receive_words("in"));
+    let mut pipe = open_pipe(&folder.join("in"));
+    pipe.write_all(&USUAL.header()).expect("a header");
+    let lock = "table.shinglebar-lock".to_string();
+    let left = "out.shinglebar-new".to_string();
+    await_that("the driver's files", || {
+        names(&folder).contains(&lock) && names(&folder).contains(&left)
     });
-    assert!(tries.count() < 1_000, "no temporary file in made/");
-    let killed = Command::new("kill")
-        .args(["-INT", &driver.id().to_string()])
-        .status();
-    assert!(killed.expect("kill").success());
-    // where the signal came between two reads, the end of the capture comes next
+    driver.kill().expect("kill");
+    driver.wait().expect("the driver");
     drop(pipe);
-    let output = driver.wait_with_output().expect("the driver");
-    bad(&output, 1, "table stays as it was");
-    assert!(text(&output.stderr).contains("interrupted after "));
+    assert_eq!(names(&folder).len(), 4);
+    // a save that was cut short
+    fs::write(folder.join("table.shinglebar-new"), "half").expect("a file");
+    fs::write(folder.join("table.aged.shinglebar-new"), "half").expect("a file");
+    fs::remove_file(folder.join("in")).expect("the pipe");
+    fs::write(folder.join("in"), captures::capture(USUAL, &frames("hall"))).expect("a capture");
+    good(&run_in(&folder, &receive_words("in")));
+    let mut table = vec![0; 16 * RECORD];
+    received(&frames("hall"), &mut table);
+    assert!(bytes(&folder.join("table")) == table);
+    assert_eq!(names(&folder), ["in", "out", "table", "table.aged"]);
+}
+
+#[test]
+fn the_second_of_two_processes_on_one_table_is_refused() {
+    let folder = folder("two");
+    let old = [&[0; 15 * RECORD][..], &record(true, vlan(9), 1, 1, 9)].concat();
+    fs::write(folder.join("table"), &old).expect("a table");
+    symlink("table", folder.join("link")).expect("a link");
+    make_pipe(&folder.join("in"));
+    let driver = start_in(&folder, &receive_words("in"));
+    let mut pipe = open_pipe(&folder.join("in"));
+    let said = format!("is in use by process {}", driver.id());
+    fs::write(folder.join("empty"), USUAL.header()).expect("a capture");
+    let other = ["receive", "empty", "--table", "table"];
+    for words in [
+        &[&other[..], &SETTINGS].concat()[..],
+        &["age", "--table", "table", "--by", "9"],
+        &["age", "--table", "link", "--by", "9"],
+    ] {
+        bad(&run_in(&folder, words), 1, &said);
+    }
+    // reading it is nobody's loss
+    good(&run_in(&folder, &["check", "--table", "table"]));
     assert!(bytes(&folder.join("table")) == old);
-    assert_eq!(names(&folder), ["in", "made", "table"]);
-    assert_eq!(names(&folder.join("made")), [""; 0]);
+    // the first has all it learned, and lets go
+    let frames = frames("hall");
+    pipe.write_all(&captures::capture(USUAL, &frames))
+        .expect("frames");
+    drop(pipe);
+    good(&driver.wait_with_output().expect("the driver"));
+    let mut table = old;
+    received(&frames, &mut table);
+    assert!(bytes(&folder.join("table")) == table);
+    good(&run_in(&folder, &["age", "--table", "link", "--by", "9"]));
+    assert_eq!(
+        names(&folder),
+        ["empty", "in", "link", "out", "table", "table.aged"]
+    );
+}
+
+#[test]
+fn the_second_of_two_processes_on_a_table_to_be_made_is_refused() {
+    let folder = folder("two_new");
+    make_pipe(&folder.join("in"));
+    let driver = start_in(&folder, &receive_words("in"));
+    let pipe = open_pipe(&folder.join("in"));
+    let other = [
+        "receive", "in", "--table", "./table", "--slots", "16", "--quiet",
+    ];
+    let output = run_in(&folder, &[&other[..], &SETTINGS].concat());
+    bad(&output, 1, "./table is in use by process ");
+    // and so is one that would write the same capture
+    let mut pipe = pipe;
+    pipe.write_all(&USUAL.header()).expect("a header");
+    await_that("the driver's output", || {
+        names(&folder).contains(&"out.shinglebar-new".to_string())
+    });
+    fs::write(folder.join("empty"), USUAL.header()).expect("a capture");
+    let other = [
+        "receive", "empty", "--table", "t", "--slots", "1", "--out", "out",
+    ];
+    let output = run_in(&folder, &[&other[..], &SETTINGS].concat());
+    bad(&output, 1, "out is being written by another process");
+    drop(pipe);
+    good(&driver.wait_with_output().expect("the driver"));
+    assert_eq!(names(&folder), ["empty", "in", "out", "table"]);
+}
+
+#[test]
+fn a_table_that_is_replaced_keeps_owner_group_and_mode() {
+    let folder = folder("owner");
+    let table = folder.join("table");
+    fs::write(&table, record(true, vlan(10), 1, 1, 9)).expect("a table");
+    // only root gives a file away; the mode is anybody's to choose
+    let root = fs::metadata(&table).expect("the table").uid() == 0;
+    if root {
+        chown(&table, Some(12_345), Some(23_456)).expect("chown");
+    }
+    fs::set_permissions(&table, fs::Permissions::from_mode(0o2660)).expect("chmod");
+    let old = fs::metadata(&table).expect("the table");
+    good(&run_in(&folder, &["age", "--table", "table", "--by", "9"]));
+    let new = fs::metadata(&table).expect("the table");
+    assert_eq!(bytes(&table), [0; RECORD]);
+    assert_ne!(new.ino(), old.ino());
+    assert_eq!(
+        (new.uid(), new.gid(), new.mode()),
+        (old.uid(), old.gid(), old.mode())
+    );
+    assert_eq!(new.uid() == 12_345, root);
+}
+
+#[test]
+fn whether_the_table_can_be_written_is_known_before_the_capture_is_read() {
+    let folder = folder("writable");
+    make_pipe(&folder.join("in"));
+    make_pipe(&folder.join("pipe"));
+    for (table, said) in [
+        ("no/table", "no/table cannot be written: No such file"),
+        ("pipe", "pipe is not a regular file, and is not replaced"),
+    ] {
+        let files = ["receive", "in", "--table", table, "--slots", "16"];
+        let words = [&files[..], &SETTINGS].concat();
+        // a driver that opened the capture would wait for it
+        let output = shell_in(&folder, "exec timeout 5 \"$@\"", &words);
+        bad(&output, 1, said);
+    }
+    assert_eq!(names(&folder), ["in", "pipe"]);
+}
+
+#[test]
+fn a_link_to_a_table_that_is_not_there_is_followed() {
+    let folder = folder("dangling");
+    fs::create_dir(folder.join("there")).expect("a folder");
+    symlink("there/next", folder.join("table")).expect("a link");
+    symlink("real", folder.join("there/next")).expect("a link");
+    fs::write(folder.join("in"), captures::capture(USUAL, &frames("hall"))).expect("a capture");
+    good(&run_in(&folder, &receive_words("in")));
+    let mut table = vec![0; 16 * RECORD];
+    received(&frames("hall"), &mut table);
+    assert!(bytes(&folder.join("there/real")) == table);
+    for link in ["table", "there/next"] {
+        let found = fs::symlink_metadata(folder.join(link)).expect("the link");
+        assert!(found.is_symlink(), "{link}");
+    }
+    assert_eq!(names(&folder.join("there")), ["next", "real", "real.aged"]);
+    assert_eq!(names(&folder), ["in", "out", "table", "there"]);
 }
 
 #[test]
@@ -546,7 +1633,7 @@ fn a_link_to_the_table_stays_a_link() {
     let folder = folder("link");
     fs::create_dir(folder.join("there")).expect("a folder");
     fs::write(folder.join("there/table"), record(true, vlan(10), 1, 1, 9)).expect("a table");
-    std::os::unix::fs::symlink("there/table", folder.join("table")).expect("a link");
+    symlink("there/table", folder.join("table")).expect("a link");
     good(&run_in(&folder, &["age", "--table", "table", "--by", "9"]));
     assert!(fs::symlink_metadata(folder.join("table"))
         .expect("the link")
@@ -574,10 +1661,22 @@ fn lookup_age_and_check_answer_of_a_table_file() {
     assert_eq!(lookup("--fgl", "70000", "02-00-00-00-00-02"), found);
     assert_eq!(lookup("--fgl", "0x11170", "02:00:00:00:00:02"), found);
     assert_eq!(lookup("--fgl", "70000", "020000000002"), found);
+    let words = [
+        "lookup",
+        "--table",
+        "table",
+        "--fgl",
+        "10",
+        "--mac",
+        "020000000001",
+    ];
+    let output = run_in(&folder, &words);
+    assert_eq!(output.status.code(), Some(1));
     assert_eq!(
-        lookup("--fgl", "10", "02-00-00-00-00-01"),
+        text(&output.stdout),
         "FGL 10 02-00-00-00-00-01 is not known\n"
     );
+    assert_eq!(text(&output.stderr), "");
 
     let printed = good(&run_in(
         &folder,
@@ -611,6 +1710,255 @@ fn lookup_age_and_check_answer_of_a_table_file() {
          slot 4: spoilt 40 00 00 20 60 00 00 00 00 22 46 80 00 09\n"
     );
     assert!(bytes(&folder.join("table")) == table);
+}
+
+#[test]
+fn a_dash_means_standard_input_and_output() {
+    let folder = folder("dash");
+    let frames = frames("hall");
+    fs::write(folder.join("in"), captures::capture(USUAL, &frames)).expect("a capture");
+    let files = [
+        "receive", "-", "--table", "table", "--slots", "16", "--out", "-",
+    ];
+    let words = [&files[..], &SETTINGS].concat();
+    let output = shell_in(&folder, "cat in | \"$@\"", &words);
+    assert!(output.status.success());
+    // the capture has standard output to itself
+    expect_text(&text(&output.stderr), "hall.expected");
+    let mut table = vec![0; 16 * RECORD];
+    let delivered = received(&frames, &mut table);
+    assert!(output.stdout == capture_of(USUAL, &delivered));
+    assert!(bytes(&folder.join("table")) == table);
+    assert_eq!(names(&folder), ["in", "table", "table.aged"]);
+    // what cannot be read is named, and what cannot be written
+    let output = shell_in(&folder, "head -c 30 in | \"$@\"", &words);
+    bad_line(
+        &output,
+        1,
+        "standard input, record 1, at byte 24: the capture ends inside",
+    );
+    let output = shell_in(&folder, "cat in | \"$@\" >/dev/full", &words);
+    bad_line(
+        &output,
+        1,
+        "standard output cannot be written: No space left",
+    );
+    let output = run_in(&folder, &["check", "--table", "-"]);
+    bad(
+        &output,
+        2,
+        "--table is a file, not standard input or output",
+    );
+    // a pipeline of both conversions
+    let small = data("to_compact.pcap");
+    let compact = ["compact", small.to_str().expect("UTF-8"), "--out", "small"];
+    good(&run_in(&folder, &[&compact[..], &SETTINGS].concat()));
+    let expand = [
+        "expand",
+        "small",
+        "--out",
+        "large",
+        "--source",
+        "02-00-00-00-00-B2",
+    ];
+    good(&run_in(&folder, &[&expand[..], &SETTINGS].concat()));
+    let line = format!(
+        "\"$1\" compact {} --out - --quiet {settings} | \"$1\" expand - --out - --quiet --source 0200000000B2 {settings}",
+        small.display(),
+        settings = SETTINGS.join(" ")
+    );
+    let output = shell_in(&folder, &line, &[]);
+    assert!(output.status.success(), "{}", text(&output.stderr));
+    assert!(output.stdout == bytes(&folder.join("large")));
+}
+
+#[test]
+fn the_line_of_a_frame_from_a_pipe_comes_before_the_next_frame() {
+    let folder = folder("prompt");
+    make_pipe(&folder.join("in"));
+    let mut driver = start_in(&folder, &receive_words("in"));
+    let mut pipe = open_pipe(&folder.join("in"));
+    let whole = captures::capture(USUAL, &frames("hall"));
+    let ends: Vec<usize> = (0..=2)
+        .map(|count| captures::capture(USUAL, &frames("hall")[..count]).len())
+        .collect();
+    let mut printed = BufReader::new(driver.stdout.take().expect("the lines"));
+    for (number, part) in [(1, &whole[..ends[1]]), (2, &whole[ends[1]..ends[2]])] {
+        pipe.write_all(part).expect("a frame");
+        let mut line = String::new();
+        printed.read_line(&mut line).expect("a line");
+        assert!(line.starts_with(&format!("frame {number}: ")), "{line}");
+        // a signal that asks `live` for a save breaks nothing off here
+        thread::sleep(Duration::from_millis(50));
+        signal(&driver, "USR1");
+    }
+    drop(pipe);
+    let mut rest = String::new();
+    printed.read_to_string(&mut rest).expect("the totals");
+    assert!(rest.starts_with("2 frames: 2 delivered "), "{rest}");
+    assert!(driver.wait().expect("the driver").success());
+}
+
+/// The same as `bad`, where lines stand before the message.
+fn bad_line(output: &Output, status: i32, words: &str) {
+    let said = text(&output.stderr);
+    assert_eq!(output.status.code(), Some(status), "{said}");
+    let told = |line: &str| line.starts_with("shinglebar-port: ") && line.contains(words);
+    assert!(said.lines().any(told), "`{words}` is not in: {said}");
+}
+
+#[test]
+fn help_and_version_are_told_in_every_usual_way() {
+    let folder = folder("version");
+    let all = good(&run_in(&folder, &["--help"]));
+    for words in [&["-h"][..], &["help"], &["help", "--help"]] {
+        assert_eq!(good(&run_in(&folder, words)), all, "{words:?}");
+    }
+    let live = good(&run_in(&folder, &["live", "--help"]));
+    assert!(live.starts_with("shinglebar-port live "));
+    for words in [&["help", "live"][..], &["live", "-h"]] {
+        assert_eq!(good(&run_in(&folder, words)), live, "{words:?}");
+    }
+    bad(
+        &run_in(&folder, &["help", "remove"]),
+        2,
+        "`remove` is no command",
+    );
+    let header = text(&bytes(&package().join("../include/shinglebar.h")));
+    let version = header
+        .lines()
+        .find_map(|line| line.strip_prefix("#define SHINGLEBAR_VERSION \""))
+        .and_then(|line| line.strip_suffix('"'))
+        .expect("a version");
+    let told = good(&run_in(&folder, &["--version"]));
+    assert_eq!(told, format!("shinglebar-port {version}\n"));
+}
+
+#[test]
+fn configured_records_are_made_and_removed() {
+    let folder = folder("set");
+    let mut table = [
+        record(true, vlan(10), 0x0200_0000_0001, 32, 300),
+        [0; RECORD],
+        [0; RECORD],
+    ]
+    .concat();
+    fs::write(folder.join("table"), &table).expect("a table");
+    let set = |words: &[&str]| {
+        let words = [
+            &["set", "--table", "table", "--nickname", "1234"][..],
+            words,
+        ]
+        .concat();
+        run_in(&folder, &words)
+    };
+    let expect = |table: &[u8]| assert!(bytes(&folder.join("table")) == table);
+    // a fine-grained label takes the lowest free slot, with the highest confidence
+    let fine = Label::fine(70_000).expect("a label");
+    assert_eq!(
+        good(&set(&["--fgl", "70000", "--mac", "020000000002"])),
+        "slot 1: free -> configured FGL 70000 02-00-00-00-00-02 behind 1234, confidence 255, 0 s\n"
+    );
+    table[RECORD..2 * RECORD].copy_from_slice(&record(false, fine, 0x0200_0000_0002, 255, 0));
+    expect(&table);
+    // the pair's own slot is taken, also a learned one
+    assert_eq!(
+        good(&set(&["--vlan", "10", "--mac", "020000000001", "--confidence", "7"])),
+        "slot 0: learned -> configured VLAN 10 02-00-00-00-00-01 behind 1234, confidence 32 -> 7, 300 -> 0 s\n"
+    );
+    table[..RECORD].copy_from_slice(&record(false, vlan(10), 0x0200_0000_0001, 7, 0));
+    expect(&table);
+    let dry = ["--vlan", "11", "--mac", "020000000001", "--dry-run"];
+    assert!(good(&set(&dry)).starts_with("slot 2: free -> configured VLAN 11"));
+    expect(&table);
+    good(&set(&["--vlan", "4094", "--mac", "020000000001"]));
+    table[2 * RECORD..].copy_from_slice(&record(false, vlan(4094), 0x0200_0000_0001, 255, 0));
+    expect(&table);
+    bad(
+        &set(&["--vlan", "11", "--mac", "020000000001"]),
+        1,
+        "table is full",
+    );
+    // what a good record is, the library says
+    for words in [
+        ["--vlan", "0", "--mac", "020000000001"],
+        ["--vlan", "4095", "--mac", "020000000001"],
+        ["--vlan", "1", "--mac", "030000000001"],
+    ] {
+        bad(&set(&words), 2, "no good record");
+    }
+    let words = [
+        "set",
+        "--table",
+        "table",
+        "--vlan",
+        "1",
+        "--mac",
+        "020000000001",
+        "--nickname",
+    ];
+    for nickname in ["0", "FFC0", "FFFF"] {
+        bad(
+            &run_in(&folder, &[&words[..], &[nickname]].concat()),
+            2,
+            "no good record",
+        );
+    }
+    expect(&table);
+    // a learned record stays where a frame comes: so does a configured one
+    fs::write(
+        folder.join("in"),
+        captures::capture(USUAL, &[frame_from(0x0200_0000_0001, 10, 0x1235)]),
+    )
+    .expect("a capture");
+    let receive = [&["receive", "in", "--table", "table"][..], &SETTINGS].concat();
+    assert!(good(&run_in(&folder, &receive))
+        .contains("kept | table unchanged (slot 0: configured VLAN 10"));
+
+    let unset = |words: &[&str]| {
+        run_in(
+            &folder,
+            &[&["unset", "--table", "table"][..], words].concat(),
+        )
+    };
+    let pair = ["--vlan", "10", "--mac", "020000000001"];
+    assert_eq!(
+        good(&unset(&pair)),
+        "slot 0: VLAN 10 02-00-00-00-00-01 behind 1234 -> free\n"
+    );
+    table[..RECORD].fill(0);
+    expect(&table);
+    bad(
+        &unset(&pair),
+        1,
+        "table has no record of that label and address",
+    );
+    table[..RECORD].copy_from_slice(&record(true, vlan(10), 0x0200_0000_0001, 7, 9));
+    fs::write(folder.join("table"), &table).expect("a table");
+    bad(&unset(&pair), 1, "table: slot 0 is learned, not configured");
+    expect(&table);
+    // a table is made where there is none
+    let words = [
+        "set",
+        "--table",
+        "new",
+        "--slots",
+        "2",
+        "--vlan",
+        "5",
+        "--mac",
+        "020000000001",
+        "--nickname",
+        "1234",
+        "--json",
+    ];
+    json_values(good(&run_in(&folder, &words)).trim_end());
+    let new = [
+        record(false, vlan(5), 0x0200_0000_0001, 255, 0),
+        [0; RECORD],
+    ]
+    .concat();
+    assert!(bytes(&folder.join("new")) == new);
 }
 
 #[test]
@@ -744,27 +2092,72 @@ fn each_command_has_help_on_each_of_its_options() {
         "--confidence",
         "--seconds",
     ];
-    let commands: [(&str, &[&str], bool); 8] = [
-        ("receive", &["--table", "--slots", "--out", "--quiet"], true),
-        ("compact", &["--out", "--quiet"], true),
-        ("expand", &["--out", "--source", "--tag", "--quiet"], true),
-        ("lookup", &["--table", "--vlan", "--fgl", "--mac"], false),
-        ("age", &["--table", "--by"], false),
-        ("check", &["--table"], false),
+    let commands: [(&str, &[&str], bool); 10] = [
+        (
+            "receive",
+            &[
+                "--table",
+                "--slots",
+                "--out",
+                "--no-ageing",
+                "--dry-run",
+                "--mac",
+                "--json",
+                "--quiet",
+            ],
+            true,
+        ),
+        ("compact", &["--out", "--json", "--quiet"], true),
+        (
+            "expand",
+            &["--out", "--source", "--tag", "--json", "--quiet"],
+            true,
+        ),
+        (
+            "lookup",
+            &["--table", "--vlan", "--fgl", "--mac", "--json"],
+            false,
+        ),
+        ("age", &["--table", "--by", "--dry-run", "--json"], false),
+        ("check", &["--table", "--json"], false),
+        (
+            "set",
+            &[
+                "--table",
+                "--slots",
+                "--vlan",
+                "--fgl",
+                "--mac",
+                "--nickname",
+                "--confidence",
+                "--dry-run",
+                "--json",
+            ],
+            false,
+        ),
+        (
+            "unset",
+            &["--table", "--vlan", "--fgl", "--mac", "--dry-run", "--json"],
+            false,
+        ),
         (
             "live",
             &[
                 "--interface",
                 "--frames",
                 "--for",
+                "--save",
+                "--dry-run",
                 "--table",
                 "--slots",
                 "--out",
+                "--mac",
+                "--json",
                 "--quiet",
             ],
             true,
         ),
-        ("send", &["--interface", "--quiet"], true),
+        ("send", &["--interface", "--json", "--quiet"], true),
     ];
     let all = good(&run_in(&folder, &["--help"]));
     for (command, options, with_settings) in commands {
@@ -832,25 +2225,77 @@ fn a_long_capture_has_a_progress_line_on_a_terminal_only() {
     assert!(text(&bytes(&folder.join("printed"))).starts_with("25000 frames: "));
 }
 
+/// The strings of the header are the words of its comments, in the order of the numbers; and so is what the driver prints of each
+/// refusal that a user can meet. Refusal 1 has a message of its own, which names options; the driver's areas leave no room for 16.
 #[test]
 fn the_words_for_refusals_are_those_of_the_header() {
-    let words = text(&bytes(&package().join("../driver/words.c")));
     let header = text(&bytes(&package().join("../include/shinglebar.h")));
     let lines: Vec<&str> = header.lines().map(str::trim).collect();
-    let mut from = 0;
-    let mut count = 0;
-    for pair in lines.windows(2) {
-        if !pair[1].starts_with("SHINGLEBAR_REFUSAL_") || !pair[1].contains(" = ") {
-            continue;
-        }
-        let comment = pair[0]
-            .strip_prefix("/* ")
-            .and_then(|line| line.strip_suffix(" */"))
-            .expect("the words");
-        // in the order of the numbers
-        let found = words[from..].find(&format!("\"{comment}\","));
-        from += found.unwrap_or_else(|| panic!("`{comment}` is not in driver/words.c"));
-        count += 1;
+    let numbered =
+        |pair: &&[&str]| pair[1].starts_with("SHINGLEBAR_REFUSAL_") && pair[1].contains(" = ");
+    let comment = |pair: &[&str]| {
+        let words = pair[0].strip_prefix("/* ")?.strip_suffix(" */")?;
+        Some(words.to_owned())
+    };
+    let words: Option<Vec<String>> = lines.windows(2).filter(numbered).map(comment).collect();
+    let words = words.expect("the words");
+    assert_eq!(words.len(), 18);
+    let strings: Vec<&str> = lines
+        .iter()
+        .skip_while(|line| **line != "\"no refusal\",")
+        .skip(1)
+        .map_while(|line| {
+            line.trim_end_matches(',')
+                .strip_prefix('"')?
+                .strip_suffix('"')
+        })
+        .collect();
+    assert_eq!(strings, words);
+
+    let folder = folder("words");
+    for name in ["refusals", "to_compact", "lab_to_left"] {
+        fs::copy(data(&format!("{name}.pcap")), folder.join(name)).expect("a capture");
     }
-    assert_eq!(count, 18);
+    let convert = |command, capture| [&[command, capture, "--out", "out"][..], &SETTINGS].concat();
+    let source = ["--source", "02-00-00-00-00-B2"];
+    let mut printed = good(&run_in(&folder, &receive_words("refusals")));
+    printed += &good(&run_in(&folder, &convert("compact", "to_compact")));
+    printed += &good(&run_in(
+        &folder,
+        &[&convert("expand", "lab_to_left")[..], &source].concat(),
+    ));
+    fs::write(folder.join("table"), [0; RECORD - 1]).expect("a table");
+    let output = run_in(&folder, &["check", "--table", "table"]);
+    assert_eq!(output.status.code(), Some(1));
+    printed += &text(&output.stderr);
+
+    let (mut answered, mut counted) = (BTreeSet::new(), BTreeSet::new());
+    for line in printed.lines() {
+        let Some((before, refused)) = line.split_once("refused ") else {
+            continue;
+        };
+        // the totals have the count of all, and a line for each with its count
+        let Some((number, said)) = refused.split_once(": ") else {
+            continue;
+        };
+        let number: usize = number.parse().expect("a number");
+        let words = &words[number - 1];
+        if before == "  " {
+            let (count, said) = said.split_once(' ').expect("a count");
+            assert!(count.parse::<usize>().is_ok(), "{line}");
+            assert_eq!(said, format!("({words})"), "{line}");
+            counted.insert(number);
+        } else {
+            let behind = said.strip_prefix(words.as_str());
+            let behind = behind.unwrap_or_else(|| panic!("`{words}` is not in: {line}"));
+            let more = number == 15 && behind.starts_with(": byte ");
+            assert!(
+                behind.is_empty() || behind.starts_with(" | ") || more,
+                "{line}"
+            );
+            answered.insert(number);
+        }
+    }
+    assert!(counted.into_iter().eq(3..=15));
+    assert!(answered.into_iter().eq((2..=15).chain([17, 18])));
 }

@@ -144,6 +144,14 @@ fn a_prefix_that_is_no_absolute_path_is_refused() {
     assert!(!root().join("here").exists());
 }
 
+/// Text as roff takes it.
+fn escaped(text: &str) -> String {
+    text.replace('\\', "\\e")
+        .replace('-', "\\-")
+        .replace('\'', "\\(aq")
+        .replace('`', "\\(ga")
+}
+
 #[test]
 fn the_man_page_has_every_command_and_option_of_help() {
     let folder = folder("man");
@@ -154,36 +162,62 @@ fn the_man_page_has_every_command_and_option_of_help() {
     let page = text(folder.join("installed/share/man/man1/shinglebar-port.1"));
     assert!(page.contains(&format!("\"Shinglebar {}\"", version())));
     assert!(!page.contains('@'), "{page}");
+    let has = |line: &str| {
+        let wanted = escaped(line);
+        let found = line.is_empty() || page.lines().any(|line| line == wanted);
+        assert!(found, "no line `{wanted}`");
+    };
 
     let driver = folder.join("installed/bin/shinglebar-port");
+    let told = help(&driver, &["--version"]);
+    assert_eq!(told, format!("shinglebar-port {}\n", version()));
     let general = help(&driver, &["--help"]);
+    let listed = |line: &&str| line.starts_with("  ");
+    for line in general.lines().skip(1).filter(|line| !listed(line)) {
+        has(line.strip_prefix("Exit status: ").unwrap_or(line));
+    }
     let commands: Vec<&str> = general
         .lines()
-        .filter_map(|line| line.strip_prefix("  shinglebar-port "))
-        .filter_map(|line| line.split(' ').next())
-        .filter(|word| word.chars().all(char::is_alphabetic) && *word != "help")
+        .filter(listed)
+        .filter_map(|line| line.split_whitespace().nth(1))
         .collect();
-    assert!(commands.len() >= 8, "{commands:?}");
-    let mut from = 0;
-    for command in commands {
-        // the sections are in the order of --help, each with its own options
-        let start = page.find(&format!("\n.SS {command}\n")).expect(command);
-        assert!(start > from, "{command}");
-        from = start;
-        let section = page[start + 1..].split("\n.S").next().expect("a section");
-        let described = help(&driver, &[command, "--help"]);
-        let options = described
-            .lines()
-            .filter(|line| line.starts_with("  -"))
-            .filter_map(|line| line.split_whitespace().next());
-        for option in options {
-            let escaped = option.replace('-', "\\-");
-            let whole = format!("\n.B {escaped}");
-            let found = section
-                .match_indices(&whole)
-                .any(|(at, _)| section[at + whole.len()..].starts_with(['\n', ' ']));
-            assert!(found, "{command} {option}");
+    assert!(commands.len() >= 10, "{commands:?}");
+    // the sections are in the order of --help
+    let sections: Vec<&str> = page.split("\n.SS ").skip(1).collect();
+    let names: Vec<&str> = sections
+        .iter()
+        .filter_map(|section| section.lines().next())
+        .collect();
+    assert_eq!(names, commands);
+    for (command, section) in commands.iter().zip(sections) {
+        let section = section.split("\n.SH ").next().expect("a section");
+        let described = help(&driver, &["help", command]);
+        let mut lines = described.lines();
+        let first = lines.next().expect("a line");
+        let (form, purpose) = first.split_once(" : ").expect("form and purpose");
+        let (start, rest) = purpose.split_at(1);
+        let purpose = escaped(&(start.to_uppercase() + rest));
+        assert!(section.contains(&format!("\n.B {}\n.PP\n{purpose}\n", escaped(form))));
+        // each with its own options, and nothing left out
+        let mut options = 0;
+        for line in lines {
+            let Some(option) = line.strip_prefix("  -") else {
+                has(line);
+                continue;
+            };
+            let (option, meaning) = option.split_once("  ").expect("a meaning");
+            let wanted = format!(
+                "\n.TP\n.B \\-{}\n{}\n",
+                escaped(option.trim()),
+                escaped(meaning.trim())
+            );
+            assert!(
+                format!("{section}\n").contains(&wanted),
+                "{command}: {wanted}"
+            );
+            options += 1;
         }
+        assert_eq!(section.matches("\n.TP\n").count(), options, "{command}");
     }
 }
 

@@ -1,5 +1,6 @@
 //! Hand-written versions of the calls, with the signatures of the C boundary: plain loops over the
-//! bytes with wide loads, early exits, and for a flush bit sets and sorted ranges on the heap.
+//! bytes with wide loads, early exits, and for a flush bit sets, lists of slots and sorted records, all
+//! on the stack.
 //!
 //! # Safety
 //!

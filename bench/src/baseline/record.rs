@@ -4,7 +4,8 @@
 use std::slice;
 
 pub const RECORD: usize = 14;
-const LONGEST_TABLE: usize = 57_344;
+pub const MOST_SLOTS: usize = 4096;
+const LONGEST_TABLE: usize = MOST_SLOTS * RECORD;
 
 pub const LEARNED: u64 = 1;
 pub const CONFIGURED: u64 = 2;
@@ -72,12 +73,22 @@ impl Bits {
         (self.high >> 37) as u32 & (FINE | 0xFF_FFFF)
     }
 
+    /// The label with its kind where the state is learned, else a number past every label.
+    pub fn learned_label(self) -> u32 {
+        (self.high >> 37) as u32 ^ (LEARNED as u32) << 25
+    }
+
     pub fn is_group(self) -> bool {
         self.high & (GROUP >> 11) != 0
     }
 
     pub fn mac(self) -> u64 {
         (self.high & 0x1F_FFFF_FFFF) << 11 | self.low >> 37 & 0x7FF
+    }
+
+    /// The low 27 bits of the MAC, which the last eight bytes have.
+    pub fn mac_low_bits(self) -> u32 {
+        (self.low >> 37) as u32
     }
 
     pub fn nickname(self) -> u16 {
@@ -96,6 +107,16 @@ impl Bits {
     pub fn entry_good(self) -> bool {
         label_good(self.label()) && !self.is_group() && nickname_good(u64::from(self.nickname()))
     }
+}
+
+/// The lowest bit of the nickname in the four bytes that hold it.
+pub const NICKNAME_SHIFT: u32 = 5;
+
+/// The four bytes that hold the nickname, as they lie in memory.
+#[inline(always)]
+pub fn nickname_bits(slot: &Slot) -> u32 {
+    // SAFETY: the four bytes are in the slot.
+    unsafe { slot.as_ptr().add(8).cast::<u32>().read_unaligned() }
 }
 
 /// Whether a slot is learned by its state, which its first byte tells; it may be spoilt.

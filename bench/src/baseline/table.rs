@@ -60,7 +60,7 @@ const ROUND: usize = 8;
 
 /// The lowest slot that passes both tests. The first is a single comparison that few slots pass.
 #[inline(always)]
-fn lowest(
+pub fn lowest(
     slots: &[Slot],
     first: impl Fn(&Slot) -> bool,
     second: impl Fn(&Slot) -> bool,

@@ -1,12 +1,12 @@
 -- Each outcome of expansion, from facts as the code finds them.
 -- Assumes nothing.
-use Prim.Native.Nat.{ℕ, _+_, _-_, _/_, _%_, _≤_}
+use Prim.Native.Nat.{ℕ, _+_, _-_, _≤_}
 use mathlib.Core.Bool.{Bool, true, false, not}
 use mathlib.Core.List.{List, append-assoc}
 use mathlib.Core.Path.{_≡_, refl, sym, ap, _∙_}
 use native.Mathlib.Omega.{arith}
 use lib.Dec.{leb}
-use lib.ListN.{length, take, drop, length-drop}
+use lib.ListN.{length, take, drop}
 use borrow.Author.Tests.{leb-true, leb-false, eq-eqb, ne-eqb, not-true, not-false}
 use Rattle.numbers.specs.Tests.{pick, both, between}
 use Rattle.numbers.specs.Result.{Result, refused, got, check, andThen, settled}
@@ -14,53 +14,54 @@ use Rattle.numbers.specs.After.{onArea}
 use Rattle.numbers.specs.Bytes.{num}
 use Rattle.numbers.proofs.Truth.{both-true, both-pass, both-left, both-right, between-in, between-is, between-below, between-above}
 use Rattle.numbers.proofs.Answers.{check-got}
-use Rattle.numbers.proofs.Lists.{part-prefix}
+use Rattle.frame.specs.Front.{allRBridges}
+use Rattle.frame.specs.Header.{multicastOf}
 use Rattle.frame.specs.Fields.{Fields}
-use Rattle.frame.specs.Formats.{longestFrame, sizeGood, compact}
+use Rattle.frame.specs.Formats.{taggedAddresses, shortestFrame, longestFrame, frameLengthGood, compact}
 use Rattle.frame.specs.declared.Settings.{Settings}
 use Rattle.frame.proofs.Parts.{compact-is}
 use Rattle.frame_fields.specs.Meaning.{frontAs, frontAt}
 use Rattle.frame_fields.specs.declared.Front.{Front}
 use Rattle.frame_fields.specs.declared.Front.the-variants as front
-use Rattle.frame_parse.specs.Meaning.{fieldsIn, parsedAs, parsedWithin}
+use Rattle.frame_parse.specs.Meaning.{fieldsIn, PartsOf, parsedAs, Reads}
 use Rattle.frame_parse.specs.declared.Parts.{Parts}
 use Rattle.frame_parse.specs.declared.Parsed.{Parsed}
 use Rattle.frame_parse.specs.declared.Parsed.the-variants as parsed
 use Rattle.frame_parse.proofs.Outcomes.{front-at}
-use Rattle.frame_parse.proofs.Places.{fields-within, fixed-bytes, label-bytes}
+use Rattle.frame_parse.proofs.Located.{parts-of, header-word}
 use Rattle.convert.specs.Compaction.{compactBytes}
 use Rattle.convert.specs.Expansion as spec
 use Rattle.convert.specs.declared.ConvertAnswer.{ConvertAnswer}
 use Rattle.convert.specs.declared.ConvertAnswer.the-variants.{Refused}
 use Rattle.convert.proofs.Fronts as fronts
-use Rattle.convert_compact.specs.Meaning.{Copyable, compactLength, putOn}
+use Rattle.convert_compact.specs.Meaning.{compactLength, putOn}
 use Rattle.convert_compact.proofs.Laws.{compact-long}
-use Rattle.convert_expand.specs.Meaning.{outerGood, sizesGood, compactFields, destinationOf, outerFront, generalTo}
+use Rattle.convert_expand.specs.Meaning.{outerGood, lengthsGood, compactFields, destinationOf, outerFront, generalTo}
 
 -- ---- both lengths
 
-module _ (n more : ℕ) (few : more ≤ 16) where
-  sizes-cases : (a b : Bool) → leb 14 n ≡ a → leb n (9216 - more) ≡ b → both a b ≡ sizesGood n more
-  unfolding sizesGood sizeGood both
-  sizes-cases true true p q =
-      let lo = leb-true 14 n p in
-      let hi = leb-true n (9216 - more) q in
-      sym (both-pass (between 14 9216 n) (between 14 9216 (n + more)) (between-in 14 9216 n lo (omega arith)) (between-in 14 9216 (n + more) (omega arith) (omega arith)))
-  sizes-cases true false p q =
-      let hi = leb-false n (9216 - more) q in
-      sym (both-right (between 14 9216 n) (between 14 9216 (n + more)) (between-above 14 9216 (n + more) (omega arith)))
-  sizes-cases false b p q =
-      let lo = leb-false 14 n p in
-      sym (both-left (between 14 9216 n) (between 14 9216 (n + more)) (between-below 14 9216 n (omega arith)))
+module _ (n more : ℕ) (few : more ≤ taggedAddresses) where
+  lengths-cases : (a b : Bool) → leb shortestFrame n ≡ a → leb n (longestFrame - more) ≡ b → both a b ≡ lengthsGood n more
+  unfolding lengthsGood frameLengthGood both
+  lengths-cases true true p q =
+      let lo = leb-true shortestFrame n p in
+      let hi = leb-true n (longestFrame - more) q in
+      sym (both-pass (between shortestFrame longestFrame n) (between shortestFrame longestFrame (n + more)) (between-in shortestFrame longestFrame n lo (omega arith)) (between-in shortestFrame longestFrame (n + more) (omega arith) (omega arith)))
+  lengths-cases true false p q =
+      let hi = leb-false n (longestFrame - more) q in
+      sym (both-right (between shortestFrame longestFrame n) (between shortestFrame longestFrame (n + more)) (between-above shortestFrame longestFrame (n + more) (omega arith)))
+  lengths-cases false b p q =
+      let lo = leb-false shortestFrame n p in
+      sym (both-left (between shortestFrame longestFrame n) (between shortestFrame longestFrame (n + more)) (between-below shortestFrame longestFrame n (omega arith)))
 
-  pub sizes-same : both (leb 14 n) (leb n (9216 - more)) ≡ sizesGood n more
-  sizes-same = sizes-cases (leb 14 n) (leb n (9216 - more)) refl refl
+  pub lengths-same : both (leb shortestFrame n) (leb n (longestFrame - more)) ≡ lengthsGood n more
+  lengths-same = lengths-cases (leb shortestFrame n) (leb n (longestFrame - more)) refl refl
 
-pub sizes-are : (n more : ℕ) → sizesGood n more ≡ true → (14 ≤ n) × (n + more ≤ longestFrame)
-unfolding sizesGood sizeGood
-sizes-are n more h =
-    let b = both-true (between 14 9216 n) (between 14 9216 (n + more)) h in
-    (between-is 14 9216 n (b .0) .0, between-is 14 9216 (n + more) (b .1) .1)
+pub lengths-are : (n more : ℕ) → lengthsGood n more ≡ true → (shortestFrame ≤ n) × (n + more ≤ longestFrame)
+unfolding lengthsGood frameLengthGood
+lengths-are n more h =
+    let b = both-true (between shortestFrame longestFrame n) (between shortestFrame longestFrame (n + more)) h in
+    (between-is shortestFrame longestFrame n (b .0) .0, between-is shortestFrame longestFrame (n + more) (b .1) .1)
 
 -- ---- the parts of a Compact frame
 
@@ -69,17 +70,20 @@ module _ (s : Settings) (u : spec.Outer) (f : List ℕ) (g : Bool) (eg : g ≡ o
   unfolding compactFields check
   bad-outer h = rw (← eg, not-true g h)
 
-  module _ (ok : not g ≡ false) (more : ℕ) (em : more ≡ spec.outerBytes u) (z : Bool) (ez : z ≡ sizesGood (length f) more) where
-    pub bad-sizes : not z ≡ true → refused 3 ≡ compactFields s u f
+  module _ (ok : not g ≡ false) (more : ℕ) (em : more ≡ spec.outerBytes u) (z : Bool) (ez : z ≡ lengthsGood (length f) more) where
+    pub bad-lengths : not z ≡ true → refused 3 ≡ compactFields s u f
     unfolding compactFields check
-    bad-sizes h = rw (← eg, not-false g ok, ← em, ← ez, not-true z h)
+    bad-lengths h = rw (← eg, not-false g ok, ← em, ← ez, not-true z h)
 
     module _ (fit : not z ≡ false) where
       pub address-there : 6 ≤ length f
-      address-there = let a = sizes-are (length f) more (sym ez ∙ not-false z fit) .0 in omega arith
+      address-there = let a = lengths-are (length f) more (sym ez ∙ not-false z fit) .0 in omega arith
 
       pub addresses-there : 12 ≤ length f
-      addresses-there = let a = sizes-are (length f) more (sym ez ∙ not-false z fit) .0 in omega arith
+      addresses-there = let a = lengths-are (length f) more (sym ez ∙ not-false z fit) .0 in omega arith
+
+      pub not-long : length f ≤ longestFrame
+      not-long = let a = lengths-are (length f) more (sym ez ∙ not-false z fit) .1 in omega arith
 
       module _ (a : ℕ) (ea : a ≡ num (take 6 f)) (r : Front) (er : frontAs r ≡ frontAt (s .port) a) where
         pub to-port : r ≡ front.Unicast → refused 18 ≡ compactFields s u f
@@ -94,27 +98,23 @@ module _ (s : Settings) (u : spec.Outer) (f : List ℕ) (g : Bool) (eg : g ≡ o
         unfolding compactFields spec.compactOnly check
         not-here p = rw (← eg, not-false g ok, ← em, ← ez, not-false z fit, ← ea, ← front-at s a, ← er, p)
 
-        pub compact-front : (x : Parsed) → r ≡ front.Inner → parsedAs f x ≡ compact f → parsedAs f x ≡ compactFields s u f
+        pub compact-front : r ≡ front.Inner → compact f ≡ compactFields s u f
         unfolding compactFields spec.compactOnly check
-        compact-front x p e = rw (← eg, not-false g ok, ← em, ← ez, not-false z fit, ← ea, ← front-at s a, ← er, p) e
+        compact-front p = rw (← eg, not-false g ok, ← em, ← ez, not-false z fit, ← ea, ← front-at s a, ← er, p)
 
 -- ---- the outer destination
 
-module _ (s : Settings) (f : List ℕ) (p : Parts) (w : Copyable (length f) p) (x : ℕ) (ex : x ≡ num (take 2 (drop (p .header) f))) where
-  header-word : num (take 2 (fieldsIn f p .header)) ≡ x
-  header-word =
-      let a = w .within .header in
-      let six = w .header in
-      let d = length-drop (p .header) f in
-      sym (ex ∙ ap num (part-prefix (drop (p .header) f) 0 2 (p .size) (omega arith) (omega arith)))
+module _ (s : Settings) (f : List ℕ) (p : Parts) (w : PartsOf f p) (m : ℕ) (em : m ≡ multicastOf (drop (p .«header_offset») f)) where
+  m-in : multicastOf (fieldsIn f p .header) ≡ m
+  m-in = rw (← header-word f p w 0 (omega arith)) (sym em)
 
-  pub to-many : x / 0x800 % 2 ≡ 1 → 0x0180_C200_0040 ≡ destinationOf s (fieldsIn f p)
+  pub to-many : m ≡ 1 → allRBridges ≡ destinationOf s (fieldsIn f p)
   unfolding pick
-  to-many h = rw (header-word, eq-eqb (x / 0x800 % 2) 1 h)
+  to-many h = rw (m-in, eq-eqb m 1 h)
 
-  pub to-one : (x / 0x800 % 2 ≡ 1 → ⊥) → s .port ≡ destinationOf s (fieldsIn f p)
+  pub to-one : (m ≡ 1 → ⊥) → s .port ≡ destinationOf s (fieldsIn f p)
   unfolding pick
-  to-one h = rw (header-word, ne-eqb (x / 0x800 % 2) 1 h)
+  to-one h = rw (m-in, ne-eqb m 1 h)
 
 -- ---- the call
 
@@ -130,21 +130,21 @@ check-then false n r k = refl
 
 module _ (s : Settings) (u : spec.Outer) (f : List ℕ) where
   expanding-is : spec.expanding s u f ≡ (andThen (compactFields s u f) λ p. got (spec.generalBytes s u p))
-  unfolding spec.expanding compactFields outerGood sizesGood
+  unfolding spec.expanding compactFields outerGood lengthsGood
   expanding-is = simp (check-both, check-then)
 
   bytes-are : (p : Fields) → generalTo (destinationOf s p) u p ≡ spec.generalBytes s u p
   unfolding generalTo outerFront spec.generalBytes spec.outerDestination
   bytes-are p = simp append-assoc
 
-  module _ (area : List ℕ) (x : Parsed) (ex : parsedAs f x ≡ compactFields s u f) where
+  module _ (area : List ℕ) (x : Parsed) (ex : Reads f (compactFields s u f) x) where
     pub call-refused : (n : ℕ) → x ≡ parsed.Refused n → onArea (Refused n) area ≡ spec.expanded s u f area
     unfolding spec.expanded settled andThen
-    call-refused n e = rw (expanding-is, ← ex, e)
+    call-refused n e = rw (expanding-is, ← ex .fields, e)
 
     module _ (p : Parts) (e : x ≡ parsed.Fields p) where
       fields-got : compactFields s u f ≡ got (fieldsIn f p)
-      fields-got = sym ex ∙ ap (parsedAs f) e
+      fields-got = sym (ex .fields) ∙ ap (parsedAs f) e
 
       pub call-put : (d : ℕ) → d ≡ destinationOf s (fieldsIn f p) → (r : ConvertAnswer) (o : List ℕ) → onArea r o ≡ putOn (generalTo d u (fieldsIn f p)) area → onArea r o ≡ spec.expanded s u f area
       unfolding spec.expanded settled andThen putOn
@@ -153,20 +153,12 @@ module _ (s : Settings) (u : spec.Outer) (f : List ℕ) where
       -- an accepted frame's result is not too long, and its parts are all of it
       pub result-short : length f + spec.outerBytes u ≤ longestFrame
       unfolding compactFields
-      result-short = sizes-are (length f) (spec.outerBytes u) (check-got _ _ _ _ (check-got _ _ _ _ fields-got .1) .0) .1
+      result-short = lengths-are (length f) (spec.outerBytes u) (check-got _ _ _ _ (check-got _ _ _ _ fields-got .1) .0) .1
 
       compact-got : compact f ≡ got (fieldsIn f p)
       unfolding compactFields
       compact-got = fronts.compact-front _ f (fieldsIn f p) (check-got _ _ _ _ (check-got _ _ _ _ fields-got .1) .1) .1
 
-      module _ (w : parsedWithin (length f) x) where
-        pub parts-all : compactLength (length f) p ≡ length f
-        unfolding compactBytes
-        parts-all = sym (compact-long f p (fields-within (length f) x p w e)) ∙ ap length (sym (compact-is f (fieldsIn f p) compact-got .whole))
-
-        pub fields-copyable : Copyable (length f) p
-        fields-copyable =
-            let v = fields-within (length f) x p w e in
-            let g = compact-is f (fieldsIn f p) compact-got .good in
-            let l = result-short in
-            record { within = v; label = label-bytes f p v g; header = fixed-bytes f p v g; short = omega arith }
+      pub parts-all : compactLength (length f) p ≡ length f
+      unfolding compactBytes
+      parts-all = sym (compact-long f p (parts-of f x p (ex .parts) e)) ∙ ap length (sym (compact-is f (fieldsIn f p) compact-got .whole))

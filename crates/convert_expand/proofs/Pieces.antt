@@ -1,4 +1,4 @@
--- The pieces that expansion writes, one behind the other, are the General frame.
+-- The pieces that expansion writes, one after the other, are the General frame.
 -- Assumes nothing.
 use Prim.Native.Nat.{ℕ, _+_, _≤_}
 use mathlib.Core.Bool.{Bool, true, false}
@@ -13,16 +13,21 @@ use Rattle.numbers.specs.Bytes.{bytesOf, laid}
 use Rattle.numbers.proofs.Bytes.{length-bytesOf}
 use Rattle.frame.specs.Labels.{trillType, tagType}
 use Rattle.frame.specs.Fields.{Fields}
-use Rattle.frame_parse.specs.Meaning.{Within, fieldsIn}
+use Rattle.frame_parse.specs.Meaning.{fieldsIn, PartsOf}
 use Rattle.frame_parse.specs.declared.Parts.{Parts}
-use Rattle.frame_parse.proofs.Places.{inner-piece, inner-long, header-long}
+use Rattle.frame_parse.proofs.Located.{inner-piece, inner-long, header-long}
 use Rattle.frame_copy.specs.Areas.{pasted}
-use Rattle.frame_copy.proofs.Copying.{paste-next, paste-behind, paste-laid}
+use Rattle.frame_copy.proofs.Copying.{paste-next, paste-after, paste-laid}
 use Rattle.convert.specs.Expansion as spec
 use Rattle.convert_compact.specs.Meaning.{compactLength}
+use Rattle.convert_compact.proofs.Laws.{trill-bytes}
 use Rattle.convert_expand.specs.Meaning.{outerFront, generalTo}
 
 -- ---- outer addresses and tag
+
+tag-type : bytesOf 2 0x8100 ≡ tagType
+unfolding bytesOf
+tag-type = refl
 
 module _ (u : spec.Outer) where
   pub none-bytes : u .tagged ≡ 0 → 12 ≡ spec.outerBytes u
@@ -55,11 +60,11 @@ module _ (u : spec.Outer) where
       pub tag-room : 16 ≤ length o
       tag-room = let b = tag-bytes some in omega arith
 
-      pub tag-written : (o₁ o₂ : List ℕ) → o₁ ≡ pasted o 12 tagType → o₂ ≡ pasted o₁ 14 (bytesOf 2 (u .tag)) → o₂ ≡ pasted o 12 (spec.outerTag u)
+      pub tag-written : (o₁ o₂ : List ℕ) → o₁ ≡ pasted o 12 (bytesOf 2 0x8100) → o₂ ≡ pasted o₁ 14 (bytesOf 2 (u .tag)) → o₂ ≡ pasted o 12 (spec.outerTag u)
       unfolding spec.outerTag pick
       tag-written o₁ o₂ w₁ w₂ =
           let r = tag-room in
-          rw (ne-eqb (u .tagged) 0 some, w₂, w₁) (paste-next o tagType (bytesOf 2 (u .tag)) 12 14 (omega arith) refl)
+          rw (ne-eqb (u .tagged) 0 some, w₂, w₁, tag-type) (paste-next o tagType (bytesOf 2 (u .tag)) 12 14 (omega arith) refl)
 
   module _ (dst : ℕ) where
     pub outer-written : (o o₁ o₂ o₃ : List ℕ) → o₁ ≡ pasted o 0 (bytesOf 6 dst) → o₂ ≡ pasted o₁ 6 (bytesOf 6 (u .source)) → o₃ ≡ pasted o₂ 12 (spec.outerTag u) → o₃ ≡ pasted o 0 (outerFront dst u)
@@ -70,7 +75,7 @@ module _ (u : spec.Outer) where
         let la : length a ≡ 6 = length-bytesOf 6 dst in
         let lb : length b ≡ 6 = length-bytesOf 6 (u .source) in
         let lab : length (a ++ b) ≡ 12 = rw (length-append, la, lb) (omega arith) in
-        rw (w₃, w₂, w₁, paste-behind o a b 6 la, paste-behind o (a ++ b) (spec.outerTag u) 12 lab) (ap (pasted o 0) (append-assoc a b (spec.outerTag u)))
+        rw (w₃, w₂, w₁, paste-after o a b 6 la, paste-after o (a ++ b) (spec.outerTag u) 12 lab) (ap (pasted o 0) (append-assoc a b (spec.outerTag u)))
 
     outer-long : length (outerFront dst u) ≡ spec.outerBytes u
     unfolding outerFront
@@ -80,14 +85,14 @@ module _ (u : spec.Outer) where
         let l = tag-long in
         rw (length-append, length-append, la, lb) (omega arith)
 
--- ---- what is behind them
+-- ---- what is after them
 
 joined : (t h a b c d : List ℕ) → ((t ++ h) ++ (a ++ (b ++ c))) ++ d ≡ t ++ (h ++ (a ++ (b ++ (c ++ d))))
 joined t h a b c d = simp append-assoc
 
-module _ (f : List ℕ) (p : Parts) (w : Within (length f) p) where
+module _ (f : List ℕ) (p : Parts) (w : PartsOf f p) where
   tail-pieces : List ℕ
-  tail-pieces = ((trillType ++ take (p .size) (drop (p .header) f)) ++ take (12 + p .label) (drop (p .dst) f)) ++ drop (p .content) f
+  tail-pieces = ((trillType ++ take (p .«header_length») (drop (p .«header_offset») f)) ++ take (12 + p .«label_length») (drop (p .«dst_offset») f)) ++ drop (p .«content_offset») f
 
   tail-is : tail-pieces ≡ spec.generalTail (fieldsIn f p)
   unfolding tail-pieces spec.generalTail
@@ -99,30 +104,30 @@ module _ (f : List ℕ) (p : Parts) (w : Within (length f) p) where
   unfolding tail-pieces
   tail-long =
       rw (← tail-is)
-      (simp (length-append, inner-long f p w, header-long f p w, length-drop (p .content) f) (omega arith))
+      (simp (length-append, inner-long f p w, header-long f p w, length-drop (p .«content_offset») f) (omega arith))
 
   pub tail-written : (out c o₁ o₂ o₃ o₄ : List ℕ) (at : ℕ)
       → at + compactLength (length f) p ≤ length out
-      → o₁ ≡ pasted out at trillType
-      → o₂ ≡ pasted o₁ (at + 2) (take (p .size) (drop (p .header) f))
-      → o₃ ≡ pasted o₂ (at + 2 + p .size) (take (12 + p .label) (drop (p .dst) f))
-      → c ≡ drop (p .content) f
-      → o₄ ≡ pasted o₃ (at + 2 + p .size + (12 + p .label)) c
+      → o₁ ≡ pasted out at (bytesOf 2 0x22F3)
+      → o₂ ≡ pasted o₁ (at + 2) (take (p .«header_length») (drop (p .«header_offset») f))
+      → o₃ ≡ pasted o₂ (at + 2 + p .«header_length») (take (12 + p .«label_length») (drop (p .«dst_offset») f))
+      → c ≡ drop (p .«content_offset») f
+      → o₄ ≡ pasted o₃ (at + 2 + p .«header_length» + (12 + p .«label_length»)) c
       → o₄ ≡ pasted out at (spec.generalTail (fieldsIn f p))
   unfolding tail-pieces
   tail-written out c o₁ o₂ o₃ o₄ at room w₁ w₂ w₃ e w₄ =
-      let n : ℕ = 12 + p .label in
-      let h : List ℕ = take (p .size) (drop (p .header) f) in
-      let i : List ℕ = take n (drop (p .dst) f) in
+      let n : ℕ = 12 + p .«label_length» in
+      let h : List ℕ = take (p .«header_length») (drop (p .«header_offset») f) in
+      let i : List ℕ = take n (drop (p .«dst_offset») f) in
       let x₂ : List ℕ = trillType ++ h in
       let x₃ : List ℕ = x₂ ++ i in
       let start : at ≤ length out = omega arith in
-      let lh : length h ≡ p .size = header-long f p w in
+      let lh : length h ≡ p .«header_length» = header-long f p w in
       let li : length i ≡ n = inner-long f p w in
       let l₁ : at + length trillType ≡ at + 2 = refl in
-      let l₂ : at + length x₂ ≡ at + 2 + p .size = rw (length-append, lh) (omega arith) in
-      let l₃ : at + length x₃ ≡ at + 2 + p .size + n = rw (length-append, length-append, lh, li) (omega arith) in
-      simp (w₄, w₃, w₂, w₁, e, paste-next out trillType h at (at + 2) start l₁, paste-next out x₂ i at (at + 2 + p .size) start l₂, paste-next out x₃ (drop (p .content) f) at (at + 2 + p .size + n) start l₃)
+      let l₂ : at + length x₂ ≡ at + 2 + p .«header_length» = rw (length-append, lh) (omega arith) in
+      let l₃ : at + length x₃ ≡ at + 2 + p .«header_length» + n = rw (length-append, length-append, lh, li) (omega arith) in
+      simp (w₄, w₃, w₂, w₁, e, trill-bytes, paste-next out trillType h at (at + 2) start l₁, paste-next out x₂ i at (at + 2 + p .«header_length») start l₂, paste-next out x₃ (drop (p .«content_offset») f) at (at + 2 + p .«header_length» + n) start l₃)
       (ap (pasted out at) tail-is)
 
   module _ (dst : ℕ) (u : spec.Outer) (k : ℕ) (ek : k ≡ spec.outerBytes u) where
@@ -137,4 +142,4 @@ module _ (f : List ℕ) (p : Parts) (w : Within (length f) p) where
     unfolding generalTo
     general-written o o₁ o₂ w₁ w₂ =
         let l = outer-long u dst in
-        rw (w₂, w₁, paste-behind o (outerFront dst u) (spec.generalTail (fieldsIn f p)) k (omega arith)) (paste-laid o (outerFront dst u ++ spec.generalTail (fieldsIn f p)))
+        rw (w₂, w₁, paste-after o (outerFront dst u) (spec.generalTail (fieldsIn f p)) k (omega arith)) (paste-laid o (outerFront dst u ++ spec.generalTail (fieldsIn f p)))

@@ -14,7 +14,7 @@ use Rattle.frame.specs.Settings.{settingsGood}
 use Rattle.frame.specs.Front.{addressBytes, addressIn, allRBridges, frontOf}
 use Rattle.frame.specs.Header.{multicastOf}
 use Rattle.frame.specs.Fields.{Fields}
-use Rattle.frame.specs.Formats.{sizeGood}
+use Rattle.frame.specs.Formats.{frameLengthGood}
 use Rattle.frame.specs.declared.Settings.{Settings}
 use Rattle.convert.specs.Expansion as spec
 use Rattle.convert_expand.specs.declared.Outer.{Outer}
@@ -27,14 +27,14 @@ outerAs u = record { source = u .source; tagged = u .tagged; tag = u .tag }
 unfoldable pub outerGood : Settings → spec.Outer → Bool
 outerGood s u = both (settingsGood s) (both (individual (u .source)) (spec.tagGood u))
 
-unfoldable pub sizesGood : ℕ → ℕ → Bool
-sizesGood n more = both (sizeGood n) (sizeGood (n + more))
+unfoldable pub lengthsGood : ℕ → ℕ → Bool
+lengthsGood n more = both (frameLengthGood n) (frameLengthGood (n + more))
 
 -- the fields of a Compact frame that expansion accepts, before 16
 unfoldable pub compactFields : Settings → spec.Outer → List ℕ → Result Fields
 compactFields s u f =
     check (outerGood s u) settings-bad
-    (check (sizesGood (length f) (spec.outerBytes u)) frame-length-bad
+    (check (lengthsGood (length f) (spec.outerBytes u)) frame-length-bad
     (spec.compactOnly (frontOf s (addressIn f)) f))
 
 -- the outer destination, as a number

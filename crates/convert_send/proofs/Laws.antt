@@ -13,7 +13,7 @@ use Rattle.numbers.specs.After.{OnArea, onArea, areaAs}
 use Rattle.numbers.specs.Bytes.{num, laid}
 use Rattle.frame.specs.Settings.{settingsGood, compactOn}
 use Rattle.frame.specs.declared.Settings.{Settings}
-use Rattle.frame_parse.specs.Meaning.{fieldsIn, parsedAs}
+use Rattle.frame_parse.specs.Meaning.{fieldsIn, parsedAs, Reads}
 use Rattle.frame_parse.specs.declared.Parts.{Parts}
 use Rattle.frame_parse.specs.declared.Parsed.{Parsed}
 use Rattle.frame_parse.specs.declared.Parsed.the-variants as parsed
@@ -44,15 +44,15 @@ module _ (on : Bool) (s : Settings) (f work : List ℕ) (g : Bool) (eg : g ≡ s
   unfolding sentWhere sending settled andThen
   send-settings h = rw (bad-settings s f g eg h)
 
-module _ (on : Bool) (s : Settings) (f work : List ℕ) (g : Bool) (eg : g ≡ settingsGood s) (ok : not g ≡ false) (x : Parsed) (ef : parsedAs f x ≡ fieldsAt (s .port) f) where
+module _ (on : Bool) (s : Settings) (f work : List ℕ) (g : Bool) (eg : g ≡ settingsGood s) (ok : not g ≡ false) (x : Parsed) (ef : Reads f (fieldsAt (s .port) f) x) where
   ex : parsedAs f x ≡ generalFields s f
-  ex = ef ∙ good-settings s f g eg ok
+  ex = ef .fields ∙ good-settings s f g eg ok
 
   pub send-refused : (n : ℕ) → x ≡ parsed.Refused n → onArea (Refused n) work ≡ sentWhere on s f work
   unfolding sentWhere sending settled andThen
   send-refused n e = rw (← ex, e)
 
-  module _ (p : Parts) (e : x ≡ parsed.Fields p) (a : ℕ) (ea : a ≡ num (take 6 (drop (p .dst) f))) (m : Bool) (em : m ≡ both on (not (staysGeneral s a))) where
+  module _ (p : Parts) (e : x ≡ parsed.Fields p) (a : ℕ) (ea : a ≡ num (take 6 (drop (p .«dst_offset») f))) (m : Bool) (em : m ≡ both on (not (staysGeneral s a))) where
     fields-got : generalFields s f ≡ got (fieldsIn f p)
     fields-got = sym ex ∙ ap (parsedAs f) e
 
@@ -64,7 +64,7 @@ module _ (on : Bool) (s : Settings) (f work : List ℕ) (g : Bool) (eg : g ≡ s
     unfolding sentWhere sending settled andThen pick
     send-put h r o ran q eq = rw (fields-got, ← ea, ← em, not-false m h, eq) (ap (areaAs sendOf) ran ∙ put-sent (compactBytes (fieldsIn f p)) work)
 
--- sending asks the far port's Compact
+-- sending tests the far port's Compact
 pub where-sent : (s : Settings) (f work : List ℕ) (a : OnArea SendAnswer) → a ≡ sentWhere (compactOn s) s f work → a ≡ sent s f work
 unfolding sent sentWhere
 where-sent s f work a e = e

@@ -9,6 +9,7 @@ ghost use Rattle.convert.specs.Sending.{sent, chosen};
 ghost use Rattle.convert_send.specs.Meaning.{sendOf, sentWhere};
 use convert::ConvertAnswer;
 use convert::SendAnswer;
+use frame::COMPACT_ON;
 use frame::Settings;
 use frame_parse::Parsed;
 use numbers::refusals::SETTINGS_BAD;
@@ -40,7 +41,7 @@ pub fn send_where(on: bool, s: Settings, frame: &[u8], work: &mut [u8]) -> SendA
     match convert_compact::general_fields(s.port, frame) {
         Parsed::Refused(n) => SendAnswer::Refused(n),
         Parsed::Fields(p) => {
-            if !may_compact(on, s, numbers::be6(frame, p.dst)) {
+            if !may_compact(on, s, numbers::be6(frame, p.dst_offset)) {
                 return SendAnswer::Itself;
             }
             send_of(convert_compact::put_compact(frame, p, work))
@@ -52,7 +53,7 @@ pub fn send_where(on: bool, s: Settings, frame: &[u8], work: &mut [u8]) -> SendA
 pub fn send(s: Settings, frame: &[u8], work: &mut [u8]) -> SendAnswer
     ensures { λ r. ⌜ onArea r (now (work .exit)) ≡ sent s (now (frame .entry)) (now (work .entry)) ⌝ }
 {
-    send_where(s.compact == 1, s, frame, work)
+    send_where(s.compact == COMPACT_ON, s, frame, work)
 }
 
 // The first n bytes, or all where there are fewer.

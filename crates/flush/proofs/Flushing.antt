@@ -8,14 +8,13 @@ use mathlib.Core.Logic.{_↔_}
 use mathlib.Core.Path.{_≡_, refl, sym, ap, subst, _∙_}
 use native.Mathlib.Nat.{zero-add}
 use native.Mathlib.Omega.{arith}
-use Rattle.numbers.specs.Tests.{pick, both}
+use Rattle.numbers.specs.Tests.{both}
 use Rattle.numbers.specs.Result.{Result, refused, got, check, andThen, settled}
 use Rattle.numbers.specs.Refusals.{table-length-bad}
 use Rattle.numbers.specs.After.{OnTable, onTable}
-use Rattle.numbers.specs.Bytes.{num, bytesOf}
 use Rattle.numbers.proofs.Answers.{got-got, check-got, then-got}
 use Rattle.numbers.proofs.Truth.{not-true-false, both-true, both-pass, pick-true, pick-false}
-use Rattle.table.specs.Record.{slotOf, unpacked, isFree, isLearned}
+use Rattle.table.specs.Record.{unpacked, isFree, isLearned}
 use Rattle.table.specs.Slots.{tableGood, slotsOf, slotAt, freed, onSlots, countSlots}
 use Rattle.table.specs.Claims.{Unique}
 use Rattle.table.specs.declared.Entry.{Entry}
@@ -23,6 +22,7 @@ use Rattle.table.specs.declared.Slot.{Slot}
 use Rattle.table.specs.declared.Slot.the-variants.{Free, Spoilt, Learned, Configured}
 use Rattle.table.proofs.Slots.{Keeps, length-allSlots, slot-allSlots}
 use Rattle.table.proofs.Refusals.{refusal-keeps}
+use Rattle.table.proofs.Contents.{unpacked-freed}
 use Rattle.table.proofs.Unique.{unique-allSlots, freed-less, freed-keeps}
 use Rattle.flush.specs.Payload.{everyType, Payload, payloadOf}
 use Rattle.flush.specs.Meaning.{nicknameMeant, labelMeant, macMeant, entryMeant}
@@ -36,10 +36,6 @@ use Rattle.flush.proofs.Sets.{nickname-agrees, label-agrees, mac-agrees
 use Rattle.flush.proofs.Payloads.{payload-facts}
 
 -- ---- a slot that is freed or left as it was
-
-pub unpacked-freed : unpacked freed ≡ Free
-unfolding unpacked slotOf num bytesOf pick
-unpacked-freed = refl
 
 not-both : (s : Slot) → both (isLearned s) (isFree s) ≡ false
 unfolding both

@@ -41,7 +41,7 @@ fn mask(i: usize, j: usize) -> u8
 }
 
 // Fills the bytes from a to before b.
-fn fill(s: &mut [u8], a: usize, b: usize)
+pub fn fill(s: &mut [u8], a: usize, b: usize)
     requires { ⌜ (a ≤ b) × (b ≤ length (now s)) ⌝ }
     ensures { λ _. ⌜ Ranged (now (s .entry)) (now (s .exit)) (8 * a) (8 * b) ⌝ }
 {

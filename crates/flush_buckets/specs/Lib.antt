@@ -1,1 +1,1 @@
-pub mod Sieves
+pub mod Buckets

@@ -1,85 +1,94 @@
-// A sieve in front of the search in intervals: a bit for each stretch of 512 numbers, counted round. A number whose bit is not set lies in
-// no interval; most numbers that are asked for end there.
-ghost use Prim.Native.Nat.{ℕ, _/_, _^_, _<_};
-ghost use mathlib.Core.Bool.{true};
+// Filter bits: a bit for each bucket of 32 numbers, counted round. A number whose bit is not set is none of those that were added; most
+// numbers that are tested end there.
+ghost use Prim.Native.Nat.{ℕ, _/_, _^_, _≤_, _<_};
+ghost use mathlib.Core.Bool.{true, false};
 ghost use mathlib.Core.Path.{_≡_};
 ghost use lib.ListN.{length};
 ghost use Rattle.numbers.specs.Numberings.{bitAt};
-ghost use Rattle.flush_ranges.specs.Ranges.{covered};
-ghost use Rattle.flush_buckets.specs.Sieves.{sieveBytes, spotOf, Keeps, Marked, Sieved};
+ghost use Rattle.flush_buckets.specs.Buckets.{bucketBytes, bucketOf, Keeps, Added};
 
-// The numbers that share a bit, and how many bits there are.
-const STRETCH: u64 = 512;
+// The bits, and a byte after them that is not used.
+pub const BUCKET_BYTES: usize = 4097;
 
-const SPOTS: u64 = 0x8000;
+// The numbers of a bucket, and how many buckets there are.
+const BUCKET: u64 = 32;
 
-// A longer interval marks every number: it would take as long to mark as a search takes.
-const LONGEST_MARKED: u64 = 64 * STRETCH;
+const BUCKETS: u64 = 0x8000;
 
-// The place of a number's bit.
-fn spot_of(x: u64) -> u64
-    ensures { λ r. ⌜ (r ≡ spotOf x) × (r < 2 ^ 15) ⌝ }
+// A longer interval adds every number: it would take as long to add as a search takes.
+const LONGEST_ADDED: u64 = 512 * BUCKET;
+
+// The bucket of a number.
+fn bucket_of(x: u64) -> u64
+    ensures { λ r. ⌜ (r ≡ bucketOf x) × (r < 2 ^ 15) ⌝ }
 {
-    x / STRETCH % SPOTS
+    x / BUCKET % BUCKETS
 }
 
-// Marks the numbers from s to before e. Where they are many it answers false and marks nothing.
-fn mark(s: u64, e: u64, sieve: &mut [u8]) -> bool
-    requires { ⌜ length (now sieve) ≡ sieveBytes ⌝ }
-    ensures { λ r. ⌜ Keeps (now (sieve .entry)) (now (sieve .exit)) × (r ≡ true → Marked s e (now (sieve .exit))) ⌝ }
+// Whether a number's bit is set.
+pub fn has_bit(bits: &[u8], x: u64) -> bool
+    requires { ⌜ length (now bits) ≡ bucketBytes ⌝ }
+    ensures { λ r. ⌜ r ≡ bitAt (bucketOf x) (now (bits .entry)) ⌝ }
+{
+    flush_bits::has(bits, bucket_of(x))
+}
+
+// Whether the bit of the numbers in bucket h, counted without end, is set.
+pub fn has_bucket(bits: &[u8], h: u64) -> bool
+    requires { ⌜ length (now bits) ≡ bucketBytes ⌝ }
+    ensures { λ r. ⌜ ((x : ℕ) → h ≡ x / 32 → r ≡ bitAt (bucketOf x) (now (bits .entry))) ⌝ }
+{
+    flush_bits::has(bits, h % BUCKETS)
+}
+
+// Whether the bit of a number from s to before e may be set. Of a short range the first and the last decide.
+pub fn may_meet(bits: &[u8], s: u64, e: u64) -> bool
+    requires { ⌜ length (now bits) ≡ bucketBytes ⌝ }
+    ensures { λ r. ⌜ (r ≡ false → (x : ℕ) → s ≤ x → x < e → bitAt (bucketOf x) (now (bits .entry)) ≡ false) ⌝ }
+{
+    if e <= s {
+        return false;
+    }
+    let last = e - 1;
+    if BUCKET <= last - s {
+        return true;
+    }
+    has_bit(bits, s) | has_bit(bits, last)
+}
+
+// Adds the bucket h of numbers, counted without end.
+pub fn add_bucket(h: u64, bits: &mut [u8])
+    requires { ⌜ length (now bits) ≡ bucketBytes ⌝ }
+    ensures { λ _. ⌜ Keeps (now (bits .entry)) (now (bits .exit)) × ((x : ℕ) → h ≡ x / 32 → bitAt (bucketOf x) (now (bits .exit)) ≡ true) ⌝ }
+{
+    flush_bits::add_one(bits, (h % BUCKETS) as usize);
+}
+
+// Adds the numbers from s to before e. Where they are many it answers false and adds nothing.
+pub fn add_short(s: u64, e: u64, bits: &mut [u8]) -> bool
+    requires { ⌜ length (now bits) ≡ bucketBytes ⌝ }
+    ensures { λ r. ⌜ Keeps (now (bits .entry)) (now (bits .exit)) × (r ≡ true → Added s e (now (bits .exit))) ⌝ }
 {
     if e <= s {
         return true;
     }
     let last = e - 1;
-    if LONGEST_MARKED <= last - s {
+    if LONGEST_ADDED <= last - s {
         return false;
     }
-    let i = spot_of(s);
-    let j = spot_of(last);
+    let i = bucket_of(s);
+    let j = bucket_of(last);
     if j < i {
         return false;
     }
-    flush_bits::add_range(sieve, i as usize, j as usize + 1);
+    flush_bits::add_range(bits, i as usize, j as usize + 1);
     true
 }
 
-// Marks a stretch, which is given by its number.
-pub fn mark_stretch(h: u64, sieve: &mut [u8])
-    requires { ⌜ length (now sieve) ≡ sieveBytes ⌝ }
-    ensures { λ _. ⌜ Keeps (now (sieve .entry)) (now (sieve .exit)) × ((x : ℕ) → h ≡ x / 512 → bitAt (spotOf x) (now (sieve .exit)) ≡ true) ⌝ }
+// Adds every number.
+pub fn add_all(bits: &mut [u8])
+    requires { ⌜ length (now bits) ≡ bucketBytes ⌝ }
+    ensures { λ _. ⌜ Keeps (now (bits .entry)) (now (bits .exit)) × ((s e : ℕ) → Added s e (now (bits .exit))) ⌝ }
 {
-    flush_bits::add_one(sieve, (h % SPOTS) as usize);
-}
-
-// Marks every number.
-pub fn mark_all(sieve: &mut [u8])
-    requires { ⌜ length (now sieve) ≡ sieveBytes ⌝ }
-    ensures { λ _. ⌜ Keeps (now (sieve .entry)) (now (sieve .exit)) × ((s e : ℕ) → Marked s e (now (sieve .exit))) ⌝ }
-{
-    flush_bits::add_range(sieve, 0, SPOTS as usize);
-}
-
-// Marks the numbers in intervals.
-pub fn mark_intervals(keys: &[u64], past: &[u64], sieve: &mut [u8])
-    requires { ⌜ length (now sieve) ≡ sieveBytes ⌝ }
-    ensures { λ _. ⌜ Keeps (now (sieve .entry)) (now (sieve .exit)) × Sieved (λ x. covered (now (past .entry)) x (now (keys .entry))) (now (sieve .exit)) ⌝ }
-{
-    let mut i = 0;
-    while i < keys.len() {
-        let v = keys[i];
-        if !mark(v / 4096, flush_ranges::past_of(past, v), sieve) {
-            mark_all(sieve);
-            return;
-        }
-        i += 1;
-    }
-}
-
-// Whether a number may be in an interval.
-pub fn may_have(sieve: &[u8], x: u64) -> bool
-    requires { ⌜ length (now sieve) ≡ sieveBytes ⌝ }
-    ensures { λ r. ⌜ r ≡ bitAt (spotOf x) (now (sieve .entry)) ⌝ }
-{
-    flush_bits::has(sieve, spot_of(x))
+    flush_bits::add_range(bits, 0, BUCKETS as usize);
 }

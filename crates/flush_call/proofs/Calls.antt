@@ -15,48 +15,71 @@ use Rattle.numbers.specs.After.{OnTable, onTable}
 use Rattle.numbers.proofs.Truth.{both-true, between-is}
 use Rattle.numbers.proofs.Answers.{got-got, then-got}
 use Rattle.table.specs.Slots.{slotBytes, mostSlots, tableGood, slotsOf, slotAt, countSlots}
-use Rattle.flush.specs.Payload.{everyType, nickBytes, blockCount, blockBytes, made, payloadOf}
+use Rattle.flush.specs.Payload.{everyType, nickBytes, blockCount, behind, blockBytes, piecesOf, made, payloadOf}
 use Rattle.flush.specs.Flush.{slotMeant, clearedBy, clearing, flushed}
 use Rattle.flush.specs.Validity.{Valid}
 use Rattle.flush.specs.declared.FlushAnswer.the-variants as answer
 use Rattle.flush.proofs.Validity.{validity}
 use Rattle.flush_payload.proofs.Laws.{rest-is}
-use Rattle.flush_sweep.specs.Clearing.{payloadFrom}
-use Rattle.flush_call.specs.Clearing.{clearedOn}
+use Rattle.flush_payload.specs.Judging.{Noted, JudgedPayload}
+use Rattle.flush_payload.specs.declared.Kinds.{Kinds}
+use Rattle.flush_payload.specs.declared.Judged.{Judged}
+use Rattle.flush_payload.specs.declared.Judged.the-variants.{Corrupt, Good}
+use Rattle.flush_marks.specs.Marks.{Chosen, clearedMarks, clearedIn}
+use Rattle.flush_marks.specs.Filters.{Within}
+use Rattle.flush_marks.proofs.Clearing.{chosen-cleared}
+use Rattle.flush_call.specs.Clearing.{payloadFrom, clearingIn, clearedOn}
 use Rattle.flush_call.specs.declared.Cleared.{Cleared}
 use Rattle.flush_call.specs.declared.Cleared.the-variants.{Refused, Count}
 
+-- ---- the marked slots cleared
+
+pub range-cleared : (meant : List ℕ → Bool) (from count : ℕ) (t m : List ℕ) → Within from count t → Chosen meant from count t m → (n : ℕ) (u : List ℕ) → onTable n u ≡ clearedMarks m t → onTable n u ≡ clearedIn meant from count t
+range-cleared meant from count t m within chosen n u e = e ∙ chosen-cleared meant from count t m (within .room) chosen
+
+-- a flush over the range of all slots is a flush
+pub portion-whole : (ingress : ℕ) (l t : List ℕ) (x : OnTable Cleared) → x ≡ clearedOn t (clearingIn everyType ingress l 0 (slotsOf t) t) → x ≡ clearedOn t (clearing everyType ingress l t)
+unfolding clearingIn clearing clearedIn clearedBy
+portion-whole ingress l t x e = e
+
+pub whole-within : (t : List ℕ) → slotsOf t ≤ mostSlots → Within 0 (slotsOf t) t
+whole-within t few = record { few = few; room = omega arith }
+
 -- ---- judged, and cleared
 
-module _ (l : List ℕ) (j : Bool) (judged : check j payload-corrupt (got (made l)) ≡ payloadOf everyType l) where
-  module _ (good : j ≡ true) where
-    judged-got : payloadOf everyType l ≡ got (made l)
-    unfolding check
-    judged-got = sym judged ∙ rw good
+noted-there : (n m : ℕ) (r s : List ℕ) (f : Kinds) → n ≡ m → r ≡ s → Noted everyType m (piecesOf m s) f → Noted everyType n (piecesOf n r) f
+noted-there n m r s f e g x = rw (e, g) x
 
+module _ (l : List ℕ) (j : Judged) (judged : JudgedPayload everyType l j) where
+  module _ (f : Kinds) (good : j ≡ Good f) where
     valid : Valid l
-    valid = validity .valid l .0 judged-got
+    valid = validity .valid l .0 (judged .good f good)
 
     pub good-front : 2 + nickBytes l ≤ length l
     good-front = valid .counts
 
-    pub good-blocks : (k n : ℕ) → k ≡ nickBytes l → n ≡ blockCount l → blockBytes * n ≤ length (take (length l - (2 + k)) (drop (2 + k) l))
-    good-blocks k n e f =
+    pub good-blocks : (k : ℕ) → k ≡ nickBytes l → blockBytes * f .blocks ≤ length (take (length l - (2 + k)) (drop (2 + k) l))
+    good-blocks k e =
         let b = valid .blocks in
-        rw (rest-is (2 + k) l, e, f) b
+        rw (rest-is (2 + k) l, e, judged .noted f good .blocks) b
 
-  module _ (ingress : ℕ) (t : List ℕ) where
-    pub meant-refused : j ≡ false → onTable (Refused payload-corrupt) t ≡ clearedOn t (clearing everyType ingress l t)
-    unfolding clearing clearedOn andThen check
-    meant-refused h = rw (← judged, h)
+    pub good-kinds : (k : ℕ) → k ≡ nickBytes l → Noted everyType (f .blocks) (piecesOf (f .blocks) (take (length l - (2 + k)) (drop (2 + k) l))) f
+    good-kinds k e =
+        let n = judged .noted f good in
+        noted-there (f .blocks) (blockCount l) _ (behind l) f (n .blocks) (rest-is (2 + k) l ∙ rw e) n
 
-    pub meant-cleared : j ≡ true → (k n : ℕ) → k ≡ nickBytes l → n ≡ blockCount l → (c : ℕ) (u : List ℕ)
-        → onTable c u ≡ clearedBy (slotMeant everyType (payloadFrom (take (1 + k - 1) (drop 1 l)) n (take (length l - (2 + k)) (drop (2 + k) l))) ingress) t
-        → onTable (Count c) u ≡ clearedOn t (clearing everyType ingress l t)
-    unfolding clearing clearedOn andThen
-    meant-cleared h k n e f c u ran =
-        let same : onTable c u ≡ clearedBy (slotMeant everyType (made l) ingress) t = rw (add-sub-cancel-left 1 k, rest-is (2 + k) l, e, f) at ran in
-        rw (judged-got h, ← same)
+    module _ (ingress from count : ℕ) (t : List ℕ) where
+      pub meant-cleared : (k : ℕ) → k ≡ nickBytes l → (c : ℕ) (u : List ℕ)
+          → onTable c u ≡ clearedIn (slotMeant everyType (payloadFrom (take (1 + k - 1) (drop 1 l)) (f .blocks) (take (length l - (2 + k)) (drop (2 + k) l))) ingress) from count t
+          → onTable (Count c) u ≡ clearedOn t (clearingIn everyType ingress l from count t)
+      unfolding clearingIn clearedOn andThen
+      meant-cleared k e c u ran =
+          let same : onTable c u ≡ clearedIn (slotMeant everyType (made l) ingress) from count t = rw (add-sub-cancel-left 1 k, rest-is (2 + k) l, e, judged .noted f good .blocks) at ran in
+          rw (judged .good f good, ← same)
+
+  pub meant-refused : j ≡ Corrupt → (ingress from count : ℕ) (t : List ℕ) → onTable (Refused payload-corrupt) t ≡ clearedOn t (clearingIn everyType ingress l from count t)
+  unfolding clearingIn clearedOn andThen
+  meant-refused h ingress from count t = rw (judged .bad h)
 
 -- ---- what an answer says of the definition
 
@@ -110,6 +133,9 @@ good-slots t h =
     let b = both-true (between 1 (slotBytes * mostSlots) (length t)) (eqb (length t % slotBytes) 0) h in
     let c = between-is 1 (slotBytes * mostSlots) (length t) (b .0) in
     omega arith
+
+pub flush-slots : (t : List ℕ) (g : Bool) → g ≡ tableGood t → g ≡ true → slotsOf t ≤ mostSlots
+flush-slots t g good ok = good-slots t (sym good ∙ ok)
 
 -- ---- the flush call
 

@@ -1,12 +1,91 @@
-// An Address Flush over the table: the payload is judged whole, and then what it means is cleared.
+// An Address Flush over the table: the payload is judged whole, then the slots that it means are marked, filter by filter, and then
+// cleared.
+ghost use Prim.Native.Nat.{_*_, _≤_};
 ghost use mathlib.Core.Path.{_≡_};
+ghost use lib.ListN.{length};
 ghost use Rattle.numbers.specs.After.{onTable};
-ghost use Rattle.flush.specs.Payload.{everyType};
-ghost use Rattle.flush.specs.Flush.{clearing, flushed};
-ghost use Rattle.flush_call.specs.Clearing.{clearedOn};
+ghost use Rattle.table.specs.Slots.{mostSlots, slotsOf};
+ghost use Rattle.flush.specs.Payload.{everyType, blockBytes, piecesOf};
+ghost use Rattle.flush.specs.Flush.{slotMeant, clearing, flushed};
+ghost use Rattle.flush_payload.specs.Judging.{Noted};
+ghost use Rattle.flush_marks.specs.Marks.{Filtered, Chosen, clearedIn};
+ghost use Rattle.flush_marks.specs.Filters.{slotAddressed, Filtering, Within, Marking};
+ghost use Rattle.flush_nicknames.specs.First.{fineNoted};
+ghost use Rattle.flush_call.specs.Clearing.{payloadFrom, fineLeft, clearingIn, clearedOn};
 use flush::FlushAnswer;
+use flush::Model;
+use flush_marks::MARK_BYTES;
+use flush_payload::Judged;
+use flush_payload::Kinds;
 use numbers::refusals::PAYLOAD_CORRUPT;
 use numbers::refusals::TABLE_LENGTH_BAD;
+use table::SLOT_BYTES;
+
+// Of the marked slots with a fine-grained label those stay marked whose label is meant. Where every label is meant, or none is named,
+// the first pass has decided.
+fn keep_labels(table: &[u8], rest: &[u8], f: Kinds, marks: &mut [u8])
+    requires { ⌜ Filtering (now table) (now marks) × Noted everyType (f .blocks) (piecesOf (f .blocks) (now rest)) f ⌝ }
+    ensures { λ _. ⌜ Filtered (fineLeft (fineNoted f) (piecesOf (f .blocks) (now (rest .entry)))) (now (table .entry)) (now (marks .entry)) (now (marks .exit)) ⌝ }
+{
+    if f.every {
+        return;
+    }
+    if !(f.lists | f.maps) {
+        return;
+    }
+    flush_labels::keep_fines(table, rest, f.lists, f.maps, marks);
+}
+
+// Of the marked slots those stay marked whose MAC is meant: without a TLV of MACs every one is.
+fn keep_macs(table: &[u8], rest: &[u8], f: Kinds, marks: &mut [u8])
+    requires { ⌜ Filtering (now table) (now marks) × Noted everyType (f .blocks) (piecesOf (f .blocks) (now rest)) f ⌝ }
+    ensures { λ _. ⌜ Filtered (slotAddressed (piecesOf (f .blocks) (now (rest .entry)))) (now (table .entry)) (now (marks .entry)) (now (marks .exit)) ⌝ }
+{
+    if !f.macs {
+        return;
+    }
+    flush_macs::keep_macs(table, rest, marks);
+}
+
+// Marks the slots of a range that a good payload means. Where the first pass leaves no mark the filters have nothing to do.
+fn mark_meant(
+    ingress: u32,
+    nicks: &[u8],
+    rest: &[u8],
+    f: Kinds,
+    table: &[u8],
+    from: usize,
+    count: usize,
+    marks: &mut [u8],
+)
+    requires { ⌜ Marking from count (now table) (now marks) × ((blockBytes * f .blocks ≤ length (now rest)) × Noted everyType (f .blocks) (piecesOf (f .blocks) (now rest)) f) ⌝ }
+    ensures { λ _. ⌜ Chosen (slotMeant everyType (payloadFrom (now (nicks .entry)) (f .blocks) (now (rest .entry))) ingress) from count (now (table .entry)) (now (marks .exit)) ⌝ }
+{
+    flush_nicknames::mark(ingress, nicks, rest, f, table, from, count, marks);
+    if !flush_marks::any_marked(marks, table.len() / SLOT_BYTES) {
+        return;
+    }
+    keep_labels(table, rest, f, marks);
+    keep_macs(table, rest, f, marks);
+}
+
+// Clears the slots of a range that a good payload means.
+fn clear_range(
+    ingress: u32,
+    nicks: &[u8],
+    rest: &[u8],
+    f: Kinds,
+    from: usize,
+    count: usize,
+    table: &mut [u8],
+) -> usize
+    requires { ⌜ Within from count (now table) × ((blockBytes * f .blocks ≤ length (now rest)) × Noted everyType (f .blocks) (piecesOf (f .blocks) (now rest)) f) ⌝ }
+    ensures { λ n. ⌜ onTable n (now (table .exit)) ≡ clearedIn (slotMeant everyType (payloadFrom (now (nicks .entry)) (f .blocks) (now (rest .entry))) ingress) from count (now (table .entry)) ⌝ }
+{
+    let mut marks = [0u8; MARK_BYTES];
+    mark_meant(ingress, nicks, rest, f, table, from, count, &mut marks);
+    flush_marks::clear_marked(table, &marks)
+}
 
 // What clearing came to: a refusal number, or how many records were cleared.
 pub enum Cleared {
@@ -14,24 +93,43 @@ pub enum Cleared {
     Count(usize),
 }
 
-// Judges a payload, and clears what it means; a corrupt one changes nothing.
+// Judges a payload, and clears what it means in a range of slots; a corrupt one changes nothing.
+pub fn clear_portion(
+    ingress: u32,
+    payload: &[u8],
+    from: usize,
+    count: usize,
+    table: &mut [u8],
+) -> Cleared
+    requires { ⌜ Within from count (now table) ⌝ }
+    ensures { λ r. ⌜ onTable r (now (table .exit)) ≡ clearedOn (now (table .entry)) (clearingIn everyType ingress (now (payload .entry)) from count (now (table .entry))) ⌝ }
+{
+    match flush_payload::judge(Model::Full, payload) {
+        Judged::Corrupt => Cleared::Refused(PAYLOAD_CORRUPT),
+        Judged::Good(f) => {
+            let k = flush_payload::nick_bytes(payload);
+            let a = 1 + k;
+            let s = 2 + k;
+            Cleared::Count(clear_range(
+                ingress,
+                &payload[1..a],
+                &payload[s..],
+                f,
+                from,
+                count,
+                table,
+            ))
+        }
+    }
+}
+
+// The same in all slots.
 pub fn clear_meant(ingress: u32, payload: &[u8], table: &mut [u8]) -> Cleared
+    requires { ⌜ slotsOf (now table) ≤ mostSlots ⌝ }
     ensures { λ r. ⌜ onTable r (now (table .exit)) ≡ clearedOn (now (table .entry)) (clearing everyType ingress (now (payload .entry)) (now (table .entry))) ⌝ }
 {
-    if !flush_payload::judge(payload) {
-        return Cleared::Refused(PAYLOAD_CORRUPT);
-    }
-    let k = flush_payload::nick_bytes(payload);
-    let a = 1 + k;
-    let s = 2 + k;
-    let blocks = flush_payload::block_count(payload);
-    Cleared::Count(flush_prepare::clear_pieces(
-        ingress,
-        &payload[1..a],
-        &payload[s..],
-        blocks,
-        table,
-    ))
+    let n = table.len() / SLOT_BYTES;
+    clear_portion(ingress, payload, 0, n, table)
 }
 
 // The flush call.

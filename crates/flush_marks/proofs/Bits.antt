@@ -5,17 +5,17 @@ use mathlib.Core.Bool.{Bool, true, false, not}
 use mathlib.Core.List.{List}
 use mathlib.Core.Path.{_≡_, refl, sym, ap, _∙_}
 use native.Mathlib.Decide.{ℕ-discrete}
-use native.Mathlib.Nat.{mod-lt}
+use native.Mathlib.Nat.{mod-lt, zero-div}
 use native.Mathlib.Omega.{arith}
 use lib.Bits.{bitAnd, and-shr, and-step}
 use lib.Dec.{eqb, leb}
-use lib.ListN.{length, getD, set, length-set}
+use lib.ListN.{length, getD, set, replicate, length-set, length-replicate}
 use borrow.Author.Tests.{eq-eqb, ne-eqb, leb-true}
 use Rattle.numbers.specs.Tests.{both}
 use Rattle.numbers.specs.Numberings.{bitOf, bitAt}
 use Rattle.numbers.proofs.Truth.{both-right}
 use Rattle.flush_bits.proofs.Laws.{every, every-at, alike, alike-same, byte-same, byte-other}
-use Rattle.flush_marks.specs.Marks.{markBytes, Removed, Narrowed}
+use Rattle.flush_marks.specs.Marks.{markBytes, NoMarks, Removed, Narrowed}
 
 min-digit : (x y : ℕ) → x < 2 → y < 2 → eqb (min x y) 1 ≡ both (eqb x 1) (eqb y 1)
 unfolding both
@@ -108,3 +108,17 @@ kept-mark s k b e = record { long = refl; here = rw e (sym (both-all (bitAt k s)
 
 pub lost-mark : (s t : List ℕ) (k : ℕ) (b : Bool) → b ≡ false → Removed s t k → Narrowed s t k b
 lost-mark s t k b e r = record { long = r .long; here = r .gone ∙ sym (both-right (bitAt k s) b e); rest = r .rest }
+
+-- ---- sets of bits that are all 0
+
+zeros : (n i : ℕ) → _≡_ {A = ℕ} (getD (replicate n 0) i 0) 0
+zeros zero i = refl
+zeros (suc n) zero = refl
+zeros (suc n) (suc i) = zeros n i
+
+pub zeros-none : (n x : ℕ) → bitAt x (replicate n 0) ≡ false
+unfolding bitAt bitOf
+zeros-none n x = rw (zeros n (x / 8), zero-div)
+
+pub zeros-unmarked : NoMarks (replicate markBytes 0)
+zeros-unmarked = record { long = length-replicate {A = ℕ} markBytes 0; none = zeros-none markBytes }

@@ -41,42 +41,6 @@ module _ (m : List ℕ) where
 
 -- ---- the walk
 
--- how many are marked
-module _ (m : List ℕ) where
-  pub record CountedTo (i c : ℕ) : Type 0 where
-    pub count : c ≡ countMarks m i
-    pub few : c ≤ i
-
-  pub counted-none : CountedTo 0 0
-  unfolding countMarks
-  counted-none = record { count = refl; few = omega arith }
-
-  module _ (i c n : ℕ) (so-far : CountedTo i c) where
-    counted-skip : (k : ℕ) → i ≤ k → Unmarked m i k → CountedTo k c
-    counted-skip k far none =
-        let sum : i + (k - i) ≡ k = omega arith in
-        let few = so-far .few in
-        record { count = so-far .count ∙ sym (rw sum at (count-skip m (k - i) i (rw sum none))); few = omega arith }
-
-    pub counted-ends : i ≤ n → n ≤ i → c ≡ countMarks m n
-    counted-ends a b = let same : i ≡ n = omega arith in rw same at (so-far .count)
-
-    module _ (p : Place) (next : NextMark m i n p) where
-      pub counted-rest : i ≤ n → p ≡ Nowhere → c ≡ countMarks m n
-      counted-rest h e = counted-skip n h (next .miss e) .count
-
-      pub counted-within : (k : ℕ) → p ≡ At k → (i ≤ k) × (k < n)
-      counted-within k e = (next .hit k e .behind, next .hit k e .within)
-
-      pub counted-next : (k : ℕ) → p ≡ At k → CountedTo (k + 1) (c + 1)
-      unfolding countMarks pick
-      counted-next k e =
-          let f = next .hit k e in
-          let s = counted-skip k (f .behind) (f .passed) in
-          let few = s .few in
-          record { count = rw (add-one k, f .marked, ← s .count); few = omega arith }
-
--- clearing
 freed-long : length freed ≡ slotBytes
 unfolding bytesOf
 freed-long = refl

@@ -1,4 +1,4 @@
-// Marks: one bit for each slot of a table. They are looked through and counted, one is removed, and the marked slots are cleared.
+// Marks: one bit for each slot of a table. They are looked through, one is removed, and the marked slots are cleared and counted.
 ghost use Prim.Native.Nat.{_-_, _*_, _/_, _%_, _^_, _<_, _≤_};
 ghost use mathlib.Core.Bool.{false};
 ghost use mathlib.Core.Path.{_≡_};
@@ -6,10 +6,13 @@ ghost use lib.Count.{leadingZeros};
 ghost use lib.ListN.{length};
 ghost use Rattle.numbers.specs.After.{onTable};
 ghost use Rattle.table.specs.Slots.{mostSlots, slotsOf};
-ghost use Rattle.flush_marks.specs.Marks.{markBytes, restOf, Unmarked, Passing, NextMark, Removed, Narrowed, countMarks, clearedMarks};
+ghost use Rattle.flush_marks.specs.Marks.{markBytes, restOf, Unmarked, Passing, NextMark, Removed, Narrowed, clearedMarks};
 use table::MOST_SLOTS;
 use table::Place;
 use table::SLOT_BYTES;
+
+// A bit for each slot.
+pub const MARK_BYTES: usize = 512;
 
 // A byte without the bits before bit f.
 fn rest_of(b: u8, f: usize) -> u8
@@ -108,27 +111,6 @@ pub fn any_marked(marks: &[u8], n: usize) -> bool
         Place::At(_) => true,
         Place::Nowhere => false,
     }
-}
-
-// How many slots before slot n are marked.
-pub fn count_marked(marks: &[u8], n: usize) -> usize
-    requires { ⌜ (length (now marks) ≡ markBytes) × (n ≤ mostSlots) ⌝ }
-    ensures { λ r. ⌜ r ≡ countMarks (now (marks .entry)) n ⌝ }
-{
-    let mut count = 0;
-    let mut k = 0;
-    while k < n {
-        match next_marked(marks, k, n) {
-            Place::At(j) => {
-                count += 1;
-                k = j + 1;
-            }
-            Place::Nowhere => {
-                return count;
-            }
-        }
-    }
-    count
 }
 
 // How many bits are set. It only decides by which way a filter goes, so nothing is promised of it but its size.

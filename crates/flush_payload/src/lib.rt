@@ -3,11 +3,30 @@ ghost use Prim.Native.Nat.{_+_, _*_, _<_, _≤_};
 ghost use mathlib.Core.Path.{_≡_};
 ghost use lib.ListN.{length};
 ghost use Rattle.numbers.specs.Tests.{anyOf};
-ghost use Rattle.numbers.specs.Result.{check, got};
-ghost use Rattle.numbers.specs.Refusals.{payload-corrupt};
 ghost use Rattle.table.specs.Record.{labelFrom};
-ghost use Rattle.flush.specs.Payload.{everyType, tlv, tlvs, lengthGood, corrupt, nickBytes, blockCount, blockBytes, piecesOf, made, payloadOf};
+ghost use Rattle.flush.specs.Payload.{everyType, typesOf, tlvs, lengthGood, nickBytes, blockCount, blockBytes, piecesOf};
 ghost use Rattle.flush.specs.Meaning.{gathersMac, nicknameMeant, labelMeant, macMeant};
+ghost use Rattle.flush_payload.specs.Judging.{ruled, NotedMore, Nothing, JudgedTlvs, JudgedPayload};
+use flush::Model;
+
+// The last type that document 01's table has.
+const LAST_TYPE: u8 = 8;
+
+// What a good payload has: how many VLAN blocks (K-VLBs), or which kinds of TLVs.
+pub struct Kinds {
+    pub blocks: usize,
+    pub every: bool,
+    pub vlans: bool,
+    pub lists: bool,
+    pub maps: bool,
+    pub macs: bool,
+}
+
+// What judging a payload found.
+pub enum Judged {
+    Corrupt,
+    Good(Kinds),
+}
 
 // The bytes of the nicknames.
 pub fn nick_bytes(p: &[u8]) -> usize
@@ -26,74 +45,105 @@ pub fn block_count(p: &[u8]) -> usize
     numbers::wide(p[1 + k]) as usize
 }
 
+// Whether a type is implemented and has a length rule.
+fn ruled_type(model: Model, k: u8) -> bool
+    ensures { λ r. ⌜ r ≡ ruled (typesOf model) k ⌝ }
+{
+    match model {
+        Model::Full => (1 <= k) & (k <= LAST_TYPE),
+        Model::VlanOnly => (k == 1) | ((k == 2) | (k == 6)),
+    }
+}
+
 // The column "Length rule".
 fn length_good(k: u8, n: usize) -> bool
     ensures { λ r. ⌜ r ≡ lengthGood k n ⌝ }
 {
-    let vlan_blocks = (k != 1) | (n % 4 == 0);
-    let vlan_map = (k != 2) | (2 <= n);
-    let fine_blocks = (k != 3) | (n % 6 == 0);
-    let fines = (k != 4) | (n % 3 == 0);
-    let fine_map = (k != 5) | (3 <= n);
-    let all_labels = (k != 6) | (n == 0);
-    let macs = (k != 7) | (n % 6 == 0);
-    let mac_blocks = (k != 8) | (n % 12 == 0);
-    vlan_blocks
-        & (vlan_map & (fine_blocks & (fines & (fine_map & (all_labels & (macs & mac_blocks))))))
+    match k {
+        1 => n % 4 == 0,
+        2 => 2 <= n,
+        3 => n % 6 == 0,
+        4 => n % 3 == 0,
+        5 => 3 <= n,
+        6 => n == 0,
+        7 => n % 6 == 0,
+        8 => n % 12 == 0,
+        _ => true,
+    }
 }
 
-// Whether a TLV breaks its length rule.
-fn tlv_corrupt(k: u8, v: &[u8]) -> bool
-    ensures { λ r. ⌜ r ≡ corrupt everyType (tlv k (now (v .entry))) ⌝ }
+// What was noted, and the kind of one TLV more.
+fn note(f: Kinds, k: u8) -> Kinds
+    ensures { λ r. ⌜ NotedMore k f r ⌝ }
 {
-    !length_good(k, v.len())
+    Kinds {
+        blocks: f.blocks,
+        every: f.every | (k == 6),
+        vlans: f.vlans | ((k == 1) | (k == 2)),
+        lists: f.lists | ((k == 3) | (k == 4)),
+        maps: f.maps | (k == 5),
+        macs: f.macs | ((k == 7) | (k == 8)),
+    }
 }
 
-// Whether some TLV is corrupt; bytes that make no TLV are.
-fn tlvs_corrupt(l: &[u8]) -> bool
-    ensures { λ r. ⌜ r ≡ anyOf (corrupt everyType) (tlvs (now (l .entry))) ⌝ }
+// A message with this many VLAN blocks, and no TLVs yet.
+fn blocks_alone(blocks: usize) -> Kinds
+    ensures { λ r. ⌜ Nothing blocks r ⌝ }
 {
+    Kinds {
+        blocks,
+        every: false,
+        vlans: false,
+        lists: false,
+        maps: false,
+        macs: false,
+    }
+}
+
+// Judges TLVs to their end. Bytes that make no TLV are corrupt, and so is a broken length rule of a type that is implemented.
+fn judge_tlvs(model: Model, l: &[u8]) -> Judged
+    ensures { λ r. ⌜ JudgedTlvs (typesOf model) (tlvs (now (l .entry))) r ⌝ }
+{
+    let mut f = blocks_alone(0);
     let mut at = 0;
     while at < l.len() {
         let e = flush_tlvs::end_of(l, at);
         if l.len() < e {
-            return true;
+            return Judged::Corrupt;
         }
-        let s = at + 2;
-        if tlv_corrupt(l[at], &l[s..e]) {
-            return true;
+        let k = l[at];
+        if ruled_type(model, k) {
+            if !length_good(k, e - (at + 2)) {
+                return Judged::Corrupt;
+            }
+            f = note(f, k);
+            at = e;
+        } else {
+            at = e;
         }
-        at = e;
     }
-    false
+    Judged::Good(f)
 }
 
-// Whether some piece behind K-VLBs is corrupt: VLAN blocks are not.
-fn some_corrupt(rest: &[u8], blocks: usize) -> bool
-    ensures { λ r. ⌜ r ≡ anyOf (corrupt everyType) (piecesOf blocks (now (rest .entry))) ⌝ }
-{
-    if blocks != 0 {
-        return false;
-    }
-    tlvs_corrupt(rest)
-}
-
-// Judges a payload, from its first byte to its last, before any record is touched: good, or refusal 15.
-pub fn judge(p: &[u8]) -> bool
-    ensures { λ r. ⌜ check r payload-corrupt (got (made (now (p .entry)))) ≡ payloadOf everyType (now (p .entry)) ⌝ }
+// Judges a payload, from its first byte to its last, before any record is touched, and notes what it has.
+pub fn judge(model: Model, p: &[u8]) -> Judged
+    ensures { λ r. ⌜ JudgedPayload (typesOf model) (now (p .entry)) r ⌝ }
 {
     if p.len() < 2 {
-        return false;
+        return Judged::Corrupt;
     }
     let s = 2 + nick_bytes(p);
     if p.len() < s {
-        return false;
+        return Judged::Corrupt;
     }
     let blocks = block_count(p);
     if p.len() - s < 4 * blocks {
-        return false;
+        return Judged::Corrupt;
     }
-    !some_corrupt(&p[s..], blocks)
+    if blocks != 0 {
+        return Judged::Good(blocks_alone(blocks));
+    }
+    judge_tlvs(model, &p[s..])
 }
 
 // Whether some piece behind K-VLBs gathers a MAC.

@@ -19,7 +19,7 @@ use Rattle.flush.proofs.Lists.{parts-end, parts-more}
 use Rattle.flush_members.proofs.Laws.{Near, item-near, block-near}
 use Rattle.flush_bits.specs.Ranged.{Ranged}
 use Rattle.flush_bits.proofs.Laws.{range-tells}
-use Rattle.flush_sets.specs.Gains.{Gains, None, inNicknames, inVlanBlock, inVlanBlocks, NicknamesTold}
+use Rattle.flush_sets.specs.Gains.{Gains, None, inNicknames, inVlanBlock, inVlanBlocks}
 
 pub either-none : (a : Bool) → either a false ≡ a
 unfolding either
@@ -112,31 +112,7 @@ eqb-swap a b = go (eqb b a) refl
     go true e = let q = eqb-true b a e in rw q
     go false e = ne-eqb a b (λ q. eqb-false b a e (sym q)) ∙ sym e
 
-module _ (ingress : ℕ) (nicks s : List ℕ) (long : length s ≡ 8192) (none : None s) where
-  gained : (t : List ℕ) (p : ℕ → Bool) → Gains s t p → (x : ℕ) → bitAt x t ≡ p x
-  unfolding either
-  gained t p g x = g .each x ∙ rw (none x)
-
-  pub told-list : (length nicks ≡ 0 → ⊥) → (t : List ℕ) → Gains s t (inNicknames nicks) → NicknamesTold ingress nicks t
-  unfolding nicknameMeant pick inNicknames
-  told-list h t g = record { long = g .long ∙ long; each = λ x few. rw (ne-eqb (length nicks) 0 h) (gained t _ g x) }
-
-  module _ (empty : length nicks ≡ 0) where
-    pub told-ingress : (t : List ℕ) → Ranged s t ingress (ingress + 1) → NicknamesTold ingress nicks t
-    unfolding nicknameMeant pick
-    told-ingress t r =
-        let g = one-gains s t ingress r in
-        record { long = g .long ∙ long; each = λ x few. rw (eq-eqb (length nicks) 0 empty) (gained t (eqb ingress) g x ∙ eqb-swap ingress x) }
-
-    pub told-none : 2 ^ 16 ≤ ingress → NicknamesTold ingress nicks s
-    unfolding nicknameMeant pick
-    told-none h = record { long = long; each = λ x few. rw (eq-eqb (length nicks) 0 empty) (none x ∙ sym (ne-eqb x ingress (λ e. omega arith))) }
-
 -- ---- one nickname
-
-pub single-ingress : (ingress : ℕ) (nicks : List ℕ) → length nicks ≡ 0 → ingress < 2 ^ 16 → (x : ℕ) → eqb x ingress ≡ nicknameMeant ingress nicks x
-unfolding nicknameMeant pick
-single-ingress ingress nicks h few x = rw (eq-eqb (length nicks) 0 h)
 
 pub single-listed : (ingress : ℕ) (nicks : List ℕ) → length nicks ≡ 2 → (n : ℕ) → n ≡ num (take 2 (drop 0 nicks)) → n < 2 ^ 16 → (x : ℕ) → eqb x n ≡ nicknameMeant ingress nicks x
 unfolding nicknameMeant pick inList anyOf numberOf either

@@ -1,4 +1,4 @@
--- What is added to a set of bits, and what the set of nicknames says.
+-- What is added to a set of bits.
 -- Assumes nothing.
 use Prim.Native.Nat.{ℕ, suc, _+_, _-_, _*_, _/_, _%_, _^_, _<_}
 use mathlib.Core.Bool.{Bool, false}
@@ -8,7 +8,6 @@ use lib.Dec.{leb, eqb}
 use lib.ListN.{length}
 use Rattle.numbers.specs.Tests.{both, either, between}
 use Rattle.numbers.specs.Numberings.{vlans, nicknames, inList, inBlock, inBlocks, inMap, bitOf, bitAt}
-use Rattle.flush.specs.Meaning.{nicknameMeant}
 
 -- the set s has become t: what passes the test is in it, and what was
 pub record Gains (s t : List ℕ) (p : ℕ → Bool) : Type 0 where
@@ -52,8 +51,3 @@ inShifted n m x = both (leb n x) (both (leb (suc x) (n + 8)) (bitOf m (x - n)))
 
 unfoldable pub vlanInShifted : ℕ → ℕ → ℕ → Bool
 vlanInShifted n m x = both (between 1 0xFFE x) (inShifted n m x)
-
--- the set has the nicknames meant
-pub record NicknamesTold (ingress : ℕ) (nicks s : List ℕ) : Type 0 where
-  pub long : length s ≡ 8192
-  pub each : (x : ℕ) → x < 2 ^ 16 → bitAt x s ≡ nicknameMeant ingress nicks x

@@ -1,50 +1,8 @@
-// The nicknames and the VLANs that a flush payload means, as sets of bits: made once for a message, asked for each record.
+// The VLANs of blocks and of bit maps, added to a set of bits.
 ghost use Prim.Native.Nat.{ℕ, _+_, _-_, _*_, _^_, _≤_, _<_};
 ghost use mathlib.Core.Path.{_≡_};
-ghost use lib.Dec.{eqb};
 ghost use lib.ListN.{length, drop};
-ghost use Rattle.flush.specs.Meaning.{nicknameMeant};
-ghost use Rattle.flush_sets.specs.Gains.{Gains, None, inNicknames, inVlanBlock, inVlanBlocks, inVlanMap, Edged, vlanInByte, vlanInShifted, NicknamesTold};
-
-// Adds the nicknames of a list.
-fn add_nicknames(nicks: &[u8], s: &mut [u8])
-    requires { ⌜ length (now s) ≡ 8192 ⌝ }
-    ensures { λ _. ⌜ Gains (now (s .entry)) (now (s .exit)) (inNicknames (now (nicks .entry))) ⌝ }
-{
-    let mut at = 0;
-    while 2 <= nicks.len() - at {
-        let x = numbers::be2(nicks, at);
-        flush_bits::add_one(s, x as usize);
-        at += 2;
-    }
-}
-
-// The nicknames meant: without a list only the ingress nickname is, which may be none that a record can hold.
-pub fn nickname_set(nicks: &[u8], ingress: u32, s: &mut [u8])
-    requires { ⌜ (length (now s) ≡ 8192) × None (now s) ⌝ }
-    ensures { λ _. ⌜ NicknamesTold ingress (now (nicks .entry)) (now (s .exit)) ⌝ }
-{
-    if nicks.len() != 0 {
-        add_nicknames(nicks, s);
-        return;
-    }
-    if ingress < 0x1_0000 {
-        flush_bits::add_one(s, ingress as usize);
-    }
-}
-
-// The one nickname that is meant, where it is one: the only one of a list, or without a list the ingress nickname. Else 0x10000 or more.
-pub fn single_of(nicks: &[u8], ingress: u32) -> u64
-    ensures { λ (r : ℕ). ⌜ (r < 2 ^ 16 → (x : ℕ) → eqb x r ≡ nicknameMeant ingress (now (nicks .entry)) x) ⌝ }
-{
-    if nicks.len() == 0 {
-        return ingress as u64;
-    }
-    if nicks.len() == 2 {
-        return numbers::be2(nicks, 0);
-    }
-    0x1_0000
-}
+ghost use Rattle.flush_sets.specs.Gains.{Gains, inVlanBlock, inVlanBlocks, inVlanMap, Edged, vlanInByte, vlanInShifted};
 
 // Adds the VLANs of the block at a place.
 fn add_block(v: &[u8], at: usize, s: &mut [u8])

@@ -57,7 +57,7 @@ module _ (ask : Piece → Bool) (l : List ℕ) (at : ℕ) (x : Bool) (inv : x �
         sym (inv ∙ ap (anyOf ask) (tlvs-stump (drop at l) (omega arith) (omega arith)) ∙ rw (← said, either-false h))
 
     module _ (fits : e ≤ length l) (h : Bool) (here : h ≡ ask (tlv (getD l at 0) (take (e - (at + 2)) (drop (at + 2) l)))) where
-      tlv-here : x ≡ either h (anyOf ask (tlvs (drop e l)))
+      pub tlv-here : x ≡ either h (anyOf ask (tlvs (drop e l)))
       unfolding anyOf
       tlv-here =
           let d : length (drop at l) ≡ length l - at = length-drop at l in

@@ -13,44 +13,50 @@ use lib.Bits.{bitOr, or-lt}
 use lib.Dec.{leb}
 use lib.ListN.{length, take, drop, getD, set, length-set, length-drop}
 use lib.Seq.{take-suc-set, take-set-le, drop-drop, getD-drop}
-use borrow.Author.Tests.{le-leb, lt-leb, leb-true, leb-false, eq-eqb, ne-eqb}
+use borrow.Author.Tests.{le-leb, lt-leb, leb-true, leb-false, eq-eqb, ne-eqb, eqb-true}
 use Rattle.numbers.specs.Tests.{pick, both, either, anyOf, between}
 use Rattle.numbers.specs.Bytes.{num}
 use Rattle.numbers.specs.Numberings.{numberOf, bitAt, inMap}
-use Rattle.numbers.proofs.Truth.{both-left, both-right, between-in, between-above}
+use Rattle.numbers.proofs.Truth.{both-true, both-left, both-right, between-in, between-above}
 use Rattle.numbers.proofs.Widths.{bit-past}
 use Rattle.flush.specs.Payload.{tlv, tlvEnd, tlvs}
+use Rattle.flush.proofs.Lists.{false-true}
 use Rattle.flush.proofs.Validity.{tlvs-end, tlvs-stump, tlvs-more}
 use Rattle.flush_sort.proofs.Laws.{any-append, either-none, either-assoc}
-use Rattle.flush_words.specs.Words.{inFineMap, mapIn, mapsOf, inWord, marks, marked, FirstBits, Grown, Gathered}
+use Rattle.flush_buckets.specs.Buckets.{bucketOf, Keeps, HasBits}
+use Rattle.flush_intervals.specs.declared.Room.{Room}
+use Rattle.flush_intervals.specs.declared.Room.the-variants.{Held}
+use Rattle.flush_words.specs.Words.{inFineMap, mapIn, mapsOf, inWord, marks, marked, FirstBits, Adding, Added, Collected}
 use Rattle.flush_words.proofs.Shifts.{both-either, or-in, marks-is, none-in, other-in, chunk-is, from, from-next}
 
 -- ---- one word more
 
-module _ (keys : List ℕ) (n w y : ℕ) (room : n < length keys) where
-  pub put-some : y < 2 ^ 32 → Grown (inWord w y) keys n (set keys n (w * 2 ^ 32 + y)) (n + 1)
-  unfolding marked anyOf
-  put-some few =
-      let l : length (set keys n (w * 2 ^ 32 + y)) ≡ length keys = length-set keys n (w * 2 ^ 32 + y) in
-      record {
-        within = omega arith;
-        same = l;
-        means = λ x.
-            rw (add-one n, take-suc-set keys n (w * 2 ^ 32 + y) room)
-            (any-append (marks x) (take n keys) ((w * 2 ^ 32 + y) ∷ [])
-            ∙ ap (either (anyOf (marks x) (take n keys))) (either-none (marks x (w * 2 ^ 32 + y)) ∙ marks-is x w y few));
-      }
+-- a word that is not counted has no wanted label
+pub none-wanted : (wanted : List ℕ) (w y : ℕ) → y ≡ 0 → (x : ℕ) → bitAt (bucketOf x) wanted ≡ true → inWord w y x ≡ false
+none-wanted wanted w y e x want = rw e (none-in w x)
 
-  pub put-none : y ≡ 0 → Grown (inWord w y) keys n (set keys n (w * 2 ^ 32 + y)) n
-  put-none e =
+pub not-wanted : (wanted : List ℕ) (w y : ℕ) (b : Bool) → ((x : ℕ) → w ≡ x / 32 → b ≡ bitAt (bucketOf x) wanted) → b ≡ false → (x : ℕ) → bitAt (bucketOf x) wanted ≡ true → inWord w y x ≡ false
+not-wanted wanted w y b told e x want = other-in w y x (λ q. false-true (sym e ∙ told x q ∙ want))
+
+module _ (wanted keys : List ℕ) (n w y : ℕ) (room : n < length keys) (few : y < 2 ^ 32) where
+  put-means : (x : ℕ) → marked x (take (n + 1) (set keys n (w * 2 ^ 32 + y))) ≡ either (marked x (take n keys)) (inWord w y x)
+  unfolding marked anyOf
+  put-means x =
+      rw (add-one n, take-suc-set keys n (w * 2 ^ 32 + y) room)
+      (any-append (marks x) (take n keys) ((w * 2 ^ 32 + y) ∷ [])
+      ∙ ap (either (anyOf (marks x) (take n keys))) (either-none (marks x (w * 2 ^ 32 + y)) ∙ marks-is x w y few))
+
+  pub put-added : (r : ℕ) → (r ≤ 1) × (r ≡ 0 → (x : ℕ) → bitAt (bucketOf x) wanted ≡ true → inWord w y x ≡ false) → Added wanted (inWord w y) keys n (set keys n (w * 2 ^ 32 + y)) (n + r)
+  put-added r count =
       let l : length (set keys n (w * 2 ^ 32 + y)) ≡ length keys = length-set keys n (w * 2 ^ 32 + y) in
-      record {
-        within = omega arith;
-        same = l;
-        means = λ x.
-            ap (marked x) (take-set-le n keys n (w * 2 ^ 32 + y) (omega arith))
-            ∙ sym (ap (either (marked x (take n keys))) (ap (λ (z : ℕ). inWord w z x) e ∙ none-in w x) ∙ either-none (marked x (take n keys)));
-      }
+      record { within = omega (arith, count .0); same = l; means = λ x want. go x want (ℕ-discrete r 0) }
+    where
+      go : (x : ℕ) → bitAt (bucketOf x) wanted ≡ true → Dec (r ≡ 0) → marked x (take (n + r) (set keys n (w * 2 ^ 32 + y))) ≡ either (marked x (take n keys)) (inWord w y x)
+      go x want (no d) = let one : r ≡ 1 = omega (arith, count .0) in rw one (put-means x)
+      go x want (yes z) =
+          rw (z, add-zero n)
+          (ap (marked x) (take-set-le n keys n (w * 2 ^ 32 + y) (omega arith))
+          ∙ sym (ap (either (marked x (take n keys))) (count .1 z x want) ∙ either-none (marked x (take n keys))))
 
 -- ---- a bit map
 
@@ -115,49 +121,55 @@ waits-past m w y k x h = go (leb x 0xFFFFFF) refl
 pub or-fits : (y s : ℕ) → y < 2 ^ 32 → s < 2 ^ 64 → bitOr y (s / 2 ^ 32) < 2 ^ 32
 or-fits y s h g = or-lt 32 y (s / 2 ^ 32) h (omega arith)
 
-pub record Mapping (v keys₀ : List ℕ) (n₀ : ℕ) (keys : List ℕ) (k w y n at : ℕ) : Type 0 where
+pub record Mapping (wanted v keys₀ : List ℕ) (n₀ : ℕ) (keys : List ℕ) (k w y n at : ℕ) : Type 0 where
   pub bit : k < 32
   pub word : w ≤ 2 ^ 19
   pub bits : y < 2 ^ 32
   pub within : n ≤ length keys
   pub same : length keys ≡ length keys₀
   pub place : at ≤ length v + 3
-  pub means : (x : ℕ) → either (marked x (take n₀ keys₀)) (inFineMap v x) ≡ either (marked x (take n keys)) (waits w y k (drop at v) x)
+  pub means : (x : ℕ) → bitAt (bucketOf x) wanted ≡ true → either (marked x (take n₀ keys₀)) (inFineMap v x) ≡ either (marked x (take n keys)) (waits w y k (drop at v) x)
 
-module _ (v keys₀ : List ℕ) (n₀ : ℕ) (room : n₀ ≤ length keys₀) where
-  pub map-none : length v < 3 → Grown (inFineMap v) keys₀ n₀ keys₀ n₀
+module _ (wanted v keys₀ : List ℕ) (n₀ : ℕ) (room : Adding wanted keys₀ n₀) where
+  pub map-none : length v < 3 → (m : ℕ) → Held n₀ ≡ Held m → Added wanted (inFineMap v) keys₀ n₀ keys₀ m
   unfolding inFineMap inMap
-  map-none h = record {
-    within = room;
-    same = refl;
-    means = λ x. sym (ap (either (marked x (take n₀ keys₀))) (both-left _ _ (lt-leb 3 (length v) h)) ∙ either-none (marked x (take n₀ keys₀)));
-  }
+  map-none h m e =
+      let same : n₀ ≡ m = cc in
+      rw (← same)
+      (record {
+        within = room .within;
+        same = refl;
+        means = λ x want. sym (ap (either (marked x (take n₀ keys₀))) (both-left _ _ (lt-leb 3 (length v) h)) ∙ either-none (marked x (take n₀ keys₀)));
+      })
 
-  pub map-start : 3 ≤ length v → (a : ℕ) → a ≡ num (take 3 (drop 0 v)) → a < 2 ^ 24 → Mapping v keys₀ n₀ keys₀ (a % 32) (a / 32) 0 n₀ 3
+  pub map-start : 3 ≤ length v → (a : ℕ) → a ≡ num (take 3 (drop 0 v)) → a < 2 ^ 24 → Mapping wanted v keys₀ n₀ keys₀ (a % 32) (a / 32) 0 n₀ 3
   unfolding inFineMap inMap numberOf waits from both either
   map-start h a e few = record {
     bit = omega arith;
     word = omega arith;
     bits = omega arith;
-    within = room;
+    within = room .within;
     same = refl;
     place = omega arith;
-    means = λ x.
+    means = λ x want.
         let s : num (take 3 v) % 2 ^ 24 ≡ a / 32 * 32 + a % 32 = rw (← e) (mod-eq-of-lt few ∙ omega arith) in
         rw (le-leb 3 (length v) h, s, none-in (a / 32) x);
   }
 
-  module _ (keys : List ℕ) (k w y n at : ℕ) (g : Mapping v keys₀ n₀ keys k w y n at) where
-    pub map-past : 0x7FFFF < w → Grown (inFineMap v) keys₀ n₀ keys n
-    map-past h = record {
-      within = g .within;
-      same = g .same;
-      means = λ x. sym (g .means x ∙ ap (either (marked x (take n keys))) (waits-past (drop at v) w y k x h) ∙ either-none (marked x (take n keys)));
-    }
+  module _ (keys : List ℕ) (k w y n at : ℕ) (g : Mapping wanted v keys₀ n₀ keys k w y n at) where
+    pub map-past : 0x7FFFF < w → (m : ℕ) → Held n ≡ Held m → Added wanted (inFineMap v) keys₀ n₀ keys m
+    map-past h m e =
+        let same : n ≡ m = cc in
+        rw (← same)
+        (record {
+          within = g .within;
+          same = g .same;
+          means = λ x want. sym (g .means x want ∙ ap (either (marked x (take n keys))) (waits-past (drop at v) w y k x h) ∙ either-none (marked x (take n keys)));
+        })
 
     module _ (few : w ≤ 0x7FFFF) where
-      pub map-next : at < length v → (c : ℕ) → FirstBits (drop at v) c → (s : ℕ) → s ≡ c * 2 ^ (32 - k) → (u : List ℕ) (r : ℕ) → Grown (inWord w (bitOr y (s / 2 ^ 32))) keys n u r
-          → Mapping v keys₀ n₀ u k (w + 1) (s % 2 ^ 32) r (at + 4)
+      pub map-next : at < length v → (c : ℕ) → FirstBits (drop at v) c → (s : ℕ) → s ≡ c * 2 ^ (32 - k) → (u : List ℕ) (r : ℕ) → Added wanted (inWord w (bitOr y (s / 2 ^ 32))) keys n u r
+          → Mapping wanted v keys₀ n₀ u k (w + 1) (s % 2 ^ 32) r (at + 4)
       map-next h c first s es u r grown =
           let b = g .bit in
           record {
@@ -167,70 +179,85 @@ module _ (v keys₀ : List ℕ) (n₀ : ℕ) (room : n₀ ≤ length keys₀) wh
             within = grown .within;
             same = grown .same ∙ g .same;
             place = omega arith;
-            means = λ x.
+            means = λ x want.
                 let e : waits w y k (drop at v) x ≡ either (inWord w (bitOr y (s / 2 ^ 32)) x) (waits (w + 1) (s % 2 ^ 32) k (drop (at + 4) v) x) =
                 rw es (waits-next v at w y k c x first b (omega arith)) in
-                g .means x
+                g .means x want
                 ∙ ap (either (marked x (take n keys))) e
-                ∙ rw (grown .means x) (sym (either-assoc (marked x (take n keys)) _ _));
+                ∙ rw (grown .means x want) (sym (either-assoc (marked x (take n keys)) _ _));
           }
 
-      pub map-done : length v ≤ at → (u : List ℕ) (r : ℕ) → Grown (inWord w y) keys n u r → Grown (inFineMap v) keys₀ n₀ u r
-      map-done h u r grown = record {
-        within = grown .within;
-        same = grown .same ∙ g .same;
-        means = λ x. grown .means x ∙ sym (g .means x ∙ ap (either (marked x (take n keys))) (waits-end v at w y k x h (omega arith)));
-      }
+      pub map-done : length v ≤ at → (u : List ℕ) (r : ℕ) → Added wanted (inWord w y) keys n u r → (m : ℕ) → Held r ≡ Held m → Added wanted (inFineMap v) keys₀ n₀ u m
+      map-done h u r grown m e =
+          let same : r ≡ m = cc in
+          rw (← same)
+          (record {
+            within = grown .within;
+            same = grown .same ∙ g .same;
+            means = λ x want. grown .means x want ∙ sym (g .means x want ∙ ap (either (marked x (take n keys))) (waits-end v at w y k x h (omega arith)));
+          })
 
 -- ---- a TLV
 
-grown-same : (p q : ℕ → Bool) (keys₀ : List ℕ) (n₀ : ℕ) (keys : List ℕ) (n : ℕ) → ((x : ℕ) → p x ≡ q x) → Grown p keys₀ n₀ keys n → Grown q keys₀ n₀ keys n
-grown-same p q keys₀ n₀ keys n e g = record { within = g .within; same = g .same; means = λ x. g .means x ∙ ap (either (marked x (take n₀ keys₀))) (e x) }
+added-same : (wanted : List ℕ) (p q : ℕ → Bool) (keys₀ : List ℕ) (n₀ : ℕ) (keys : List ℕ) (n : ℕ) → ((x : ℕ) → p x ≡ q x) → Added wanted p keys₀ n₀ keys n → Added wanted q keys₀ n₀ keys n
+added-same wanted p q keys₀ n₀ keys n e g = record { within = g .within; same = g .same; means = λ x want. g .means x want ∙ ap (either (marked x (take n₀ keys₀))) (e x) }
 
-module _ (k : ℕ) (v keys₀ : List ℕ) (n₀ : ℕ) where
-  pub value-map : k ≡ 5 → (keys : List ℕ) (n : ℕ) → (n ≤ 4096 → Grown (inFineMap v) keys₀ n₀ keys n) → n ≤ 4096 → Grown (mapIn (tlv k v)) keys₀ n₀ keys n
+module _ (k : ℕ) (v wanted keys₀ : List ℕ) (n₀ : ℕ) where
+  pub value-map : k ≡ 5 → (keys : List ℕ) (r : Room) → ((m : ℕ) → r ≡ Held m → Added wanted (inFineMap v) keys₀ n₀ keys m) → (m : ℕ) → r ≡ Held m → Added wanted (mapIn (tlv k v)) keys₀ n₀ keys m
   unfolding mapIn pick
-  value-map h keys n g few = grown-same _ _ keys₀ n₀ keys n (λ x. rw (eq-eqb k 5 h)) (g few)
+  value-map h keys r g m e = added-same wanted _ _ keys₀ n₀ keys m (λ x. rw (eq-eqb k 5 h)) (g m e)
 
-  pub value-other : (k ≡ 5 → ⊥) → n₀ ≤ length keys₀ → Grown (mapIn (tlv k v)) keys₀ n₀ keys₀ n₀
+  pub value-other : (k ≡ 5 → ⊥) → Adding wanted keys₀ n₀ → (m : ℕ) → Held n₀ ≡ Held m → Added wanted (mapIn (tlv k v)) keys₀ n₀ keys₀ m
   unfolding mapIn pick
-  value-other h within = record {
-    within = within;
-    same = refl;
-    means = λ x. rw (ne-eqb k 5 h) (sym (either-none (marked x (take n₀ keys₀))));
-  }
+  value-other h g m e =
+      let same : n₀ ≡ m = cc in
+      rw (← same)
+      (record {
+        within = g .within;
+        same = refl;
+        means = λ x want. rw (ne-eqb k 5 h) (sym (either-none (marked x (take n₀ keys₀))));
+      })
 
 -- ---- the walk
 
-pub record Walking (l keys₀ keys : List ℕ) (n at : ℕ) : Type 0 where
+pub record Walking (wanted l keys₀ keys : List ℕ) (n at : ℕ) : Type 0 where
   pub place : at ≤ length l
   pub within : n ≤ length keys
   pub same : length keys ≡ length keys₀
-  pub means : (x : ℕ) → mapsOf (tlvs l) x ≡ either (marked x (take n keys)) (mapsOf (tlvs (drop at l)) x)
+  pub means : (x : ℕ) → bitAt (bucketOf x) wanted ≡ true → mapsOf (tlvs l) x ≡ either (marked x (take n keys)) (mapsOf (tlvs (drop at l)) x)
 
-module _ (l keys₀ : List ℕ) where
-  pub walk-start : Walking l keys₀ keys₀ 0 0
+module _ (wanted l keys₀ : List ℕ) where
+  pub walk-start : Walking wanted l keys₀ keys₀ 0 0
   unfolding marked anyOf either
-  walk-start = record { place = omega arith; within = omega arith; same = refl; means = λ x. refl }
+  walk-start = record { place = omega arith; within = omega arith; same = refl; means = λ x want. refl }
 
-  module _ (keys : List ℕ) (n at : ℕ) (g : Walking l keys₀ keys n at) where
-    pub walk-done : length l ≤ at → Gathered (mapsOf (tlvs l)) keys n
+  -- there are no such TLVs
+  pub walk-none : (some : Bool) → (some ≡ false → (x : ℕ) → mapsOf (tlvs l) x ≡ false) → some ≡ false → (m : ℕ) → Held 0 ≡ Held m → Collected wanted (mapsOf (tlvs l)) keys₀ m
+  unfolding marked anyOf
+  walk-none some none h m e =
+      let same : 0 ≡ m = cc in
+      rw (← same) (record { within = omega arith; means = λ x want. none h x })
+
+  module _ (keys : List ℕ) (n at : ℕ) (g : Walking wanted l keys₀ keys n at) where
+    pub walk-done : length l ≤ at → (m : ℕ) → Held n ≡ Held m → Collected wanted (mapsOf (tlvs l)) keys m
     unfolding mapsOf anyOf
-    walk-done h =
+    walk-done h m e =
         let d : length (drop at l) ≡ length l - at = length-drop at l in
-        record { within = g .within; means = λ x. g .means x ∙ rw (tlvs-end (drop at l) (omega arith)) (either-none (marked x (take n keys))) }
+        let same : n ≡ m = cc in
+        rw (← same) (record { within = g .within; means = λ x want. g .means x want ∙ rw (tlvs-end (drop at l) (omega arith)) (either-none (marked x (take n keys))) })
 
     module _ (more : at < length l) (e : ℕ) (end : e ≡ at + tlvEnd (drop at l)) where
-      pub walk-cut : length l < e → Gathered (mapsOf (tlvs l)) keys n
+      pub walk-cut : length l < e → (m : ℕ) → Held n ≡ Held m → Collected wanted (mapsOf (tlvs l)) keys m
       unfolding mapsOf anyOf mapIn either
-      walk-cut h =
+      walk-cut h m q =
           let d : length (drop at l) ≡ length l - at = length-drop at l in
-          record { within = g .within; means = λ x. g .means x ∙ rw (tlvs-stump (drop at l) (omega arith) (omega arith)) (either-none (marked x (take n keys))) }
+          let same : n ≡ m = cc in
+          rw (← same) (record { within = g .within; means = λ x want. g .means x want ∙ rw (tlvs-stump (drop at l) (omega arith) (omega arith)) (either-none (marked x (take n keys))) })
 
-      pub walk-next : e ≤ length l → (u : List ℕ) (r : ℕ) → (r ≤ 4096 → Grown (mapIn (tlv (getD l at 0) (take (e - (at + 2)) (drop (at + 2) l)))) keys n u r) → r ≤ 4096 → Walking l keys₀ u r e
+      pub walk-next : e ≤ length l → (u : List ℕ) (r : Room) → ((m : ℕ) → r ≡ Held m → Added wanted (mapIn (tlv (getD l at 0) (take (e - (at + 2)) (drop (at + 2) l)))) keys n u m) → (m : ℕ) → r ≡ Held m → Walking wanted l keys₀ u m e
       unfolding mapsOf anyOf
-      walk-next fits u r grown few =
-          let h = grown few in
+      walk-next fits u r grown m held =
+          let h = grown m held in
           let d : length (drop at l) ≡ length l - at = length-drop at l in
           let f : getD (drop at l) 0 0 ≡ getD l at 0 = getD-drop at l 0 0 ∙ rw (add-zero at) in
           let z : e - (at + 2) ≡ getD (drop at l) 1 0 = omega arith in
@@ -238,9 +265,20 @@ module _ (l keys₀ : List ℕ) where
             place = fits;
             within = h .within;
             same = h .same ∙ g .same;
-            means = λ x.
-                g .means x
+            means = λ x want.
+                g .means x want
                 ∙ rw (tlvs-more (drop at l) (omega arith))
-                (rw (f, drop-drop 2 at l, drop-drop (tlvEnd (drop at l)) at l, ← end, ← z, h .means x)
+                (rw (f, drop-drop 2 at l, drop-drop (tlvEnd (drop at l)) at l, ← end, ← z, h .means x want)
                 (sym (either-assoc (marked x (take n keys)) _ _)));
           }
+
+-- ---- filter bits
+
+-- what a word has is added
+pub word-added : (v : ℕ) (u : List ℕ) → ((x : ℕ) → v / 2 ^ 32 ≡ x / 32 → bitAt (bucketOf x) u ≡ true) → (x : ℕ) → marks x v ≡ true → bitAt (bucketOf x) u ≡ true
+unfolding marks inWord
+word-added v u told x h = told x (eqb-true (v / 2 ^ 32) (x / 32) (both-true _ _ h .0))
+
+pub words-added : (keys s₀ u : List ℕ) → Keeps s₀ u × HasBits (λ x. anyOf (marks x) keys) u → Keeps s₀ u × HasBits (λ x. marked x keys) u
+unfolding marked
+words-added keys s₀ u g = g

@@ -15,15 +15,16 @@ use lib.ListN.{length, take, drop, getD, set, length-set, drop-of-length-le}
 use lib.Seq.{take-suc-set, append-snoc, drop-cons, drop-set-lt, take-all, length-take-le, getD-take}
 use borrow.Author.Tests.{eq-eqb, ne-eqb}
 use Rattle.numbers.specs.Tests.{pick, either, anyOf}
-use Rattle.numbers.specs.Bytes.{parts}
 use Rattle.numbers.proofs.Truth.{and-both}
-use Rattle.flush.specs.Payload.{block, tlvs, blockBytes, piecesOf}
 use Rattle.flush_sort.specs.Sorting.{All, Sorted, SortOf}
 use Rattle.flush_sort.proofs.Laws.{either-none, either-assoc}
 use Rattle.flush_sort.proofs.Parts.{back-front, back-whole}
-use Rattle.flush_ranges.specs.Ranges.{Splits}
-use Rattle.flush_ranges.proofs.Laws.{all-map}
-use Rattle.flush_words.specs.Words.{mapIn, mapsOf, wordBit, inWord, marks, marked, Gathered, joined, united, Ordered, WordsTold}
+use Rattle.flush_intervals.specs.Ranges.{Splits}
+use Rattle.flush_intervals.proofs.Ranges.{all-map}
+use Rattle.flush_buckets.specs.Buckets.{bucketOf, HasBits}
+use Rattle.flush_intervals.specs.declared.Room.{Room}
+use Rattle.flush_intervals.specs.declared.Room.the-variants.{Held}
+use Rattle.flush_words.specs.Words.{wordBit, inWord, marks, marked, Collected, joined, united, Ordered, Words, WordsPrepared}
 use Rattle.flush_words.proofs.Shifts.{or-in, none-in, other-in}
 
 -- ---- two words
@@ -178,7 +179,7 @@ module _ (keys : List ℕ) (n x k : ℕ) (found : Splits (take n keys) ((x / 32 
       let l = length-take-le n keys h in
       omega arith
 
-  module _ (q : ℕ → Bool) (told : WordsTold q keys n) where
+  module _ (q : ℕ → Bool) (told : Words q keys n) where
     asked : marks x (getD (0 ∷ take n keys) k 0) ≡ q x
     unfolding Sorted either
     asked =
@@ -233,36 +234,30 @@ module _ (keys : List ℕ) (n : ℕ) (room : n ≤ length keys) where
   pub lent-room : (work : List ℕ) → length keys ≤ length work → length (take n keys) ≤ length work
   lent-room work h = let l = length-take-le n keys room in omega arith
 
-  pub words-told : (r : List ℕ) → length r ≡ length (take n keys) → Ordered (take n keys) r → (q : ℕ → Bool) → Gathered q keys n → WordsTold q (r ++ drop n keys) n
-  unfolding marked
-  words-told r e o q g =
-      let l = back-whole n keys room r e in
-      let f = back-front n keys room r e in
-      record {
-        within = omega arith;
-        sorted = rw (f, o .units) (united-sorted 0 (o .base) (o .sort .sorted));
-        base = o .base;
-        units = f ∙ o .units;
-        means = λ x. g .means x ∙ o .sort .same (marks x) ∙ sym (rw (f, o .units) (whole-marked x (o .base)));
-      }
+  module _ (r : List ℕ) (e : length r ≡ length (take n keys)) (o : Ordered (take n keys) r) (s : ℕ → Bool) (means : (x : ℕ) → s x ≡ marked x (take n keys)) where
+    united-means : (x : ℕ) → s x ≡ marked x r
+    unfolding marked
+    united-means x = means x ∙ o .sort .same (marks x) ∙ sym (rw (o .units) (whole-marked x (o .base)))
 
--- VLAN blocks are no maps
-blocks-none : (x : ℕ) (l : List (List ℕ)) → mapsOf (map block l) x ≡ false
-unfolding mapsOf mapIn anyOf either
-blocks-none x [] = refl
-blocks-none x (b ∷ l) = blocks-none x l
+    pub ready-words : Words s (r ++ drop n keys) n
+    ready-words =
+        let l = back-whole n keys room r e in
+        let f = back-front n keys room r e in
+        record {
+          within = omega arith;
+          sorted = rw (f, o .units) (united-sorted 0 (o .base) (o .sort .sorted));
+          base = o .base;
+          units = f ∙ o .units;
+          means = λ x. united-means x ∙ sym (rw f);
+        }
 
-pub told-none : (c : ℕ) (l keys : List ℕ) → (c ≡ 0 → ⊥) → WordsTold (mapsOf (piecesOf c l)) keys 0
-unfolding piecesOf pick united Sorted marked anyOf
-told-none c l keys d = record {
-  within = omega arith;
-  sorted = tt;
-  base = [];
-  units = refl;
-  means = λ x. rw (ne-eqb c 0 d) (blocks-none x (parts blockBytes (take (blockBytes * c) l)));
-}
+    -- and the bits of the united words are theirs
+    pub ready-bits : (u : List ℕ) → HasBits (λ x. marked x (take n (r ++ drop n keys))) u → HasBits s u
+    ready-bits u bits = record { long = bits .long; each = λ x h. bits .each x (rw (back-front n keys room r e) (sym (united-means x) ∙ h)) }
 
-pub told-tlvs : (c : ℕ) (l keys : List ℕ) (n : ℕ) → c ≡ 0 → (n ≤ 4096 → Gathered (mapsOf (tlvs l)) keys n) → n ≤ 4096
-    → (k : List ℕ) → ((q : ℕ → Bool) → Gathered q keys n → WordsTold q k n) → WordsTold (mapsOf (piecesOf c l)) k n
-unfolding piecesOf pick
-told-tlvs c l keys n z g few k told = rw (eq-eqb c 0 z) (told (mapsOf (tlvs l)) (g few))
+pub gathered : (q : ℕ → Bool) (wanted keys : List ℕ) (r : Room) → ((m : ℕ) → r ≡ Held m → Collected wanted q keys m) → (n : ℕ) → r ≡ Held n → (k b : List ℕ)
+    → ((s : ℕ → Bool) → ((x : ℕ) → s x ≡ marked x (take n keys)) → Words s k n × HasBits s b) → (m : ℕ) → Held n ≡ Held m → WordsPrepared q wanted k b m
+gathered q wanted keys r got n e k b ready m f =
+    let same : n ≡ m = cc in
+    let both = ready (λ x. marked x (take n keys)) (λ x. refl) in
+    rw (← same) (record { set = λ x. marked x (take n keys); words = both .0; has = both .1; means = got n e .means })

@@ -2,7 +2,7 @@
 -- bit first.
 -- Assumes nothing.
 use Prim.Native.Nat.{ℕ, _-_, _/_, _%_, _^_, _≤_, _<_}
-use mathlib.Core.Bool.{Bool, false}
+use mathlib.Core.Bool.{Bool, true, false}
 use mathlib.Core.List.{List, [], _∷_}
 use mathlib.Core.Path.{_≡_}
 use lib.Bits.{bitOr}
@@ -12,6 +12,7 @@ use Rattle.numbers.specs.Tests.{pick, both, either, anyOf}
 use Rattle.numbers.specs.Numberings.{fines, bitAt, inMap}
 use Rattle.flush.specs.Payload.{Piece, tlv, block, stump}
 use Rattle.flush_sort.specs.Sorting.{Sorted, SortOf}
+use Rattle.flush_buckets.specs.Buckets.{bucketBytes, bucketOf, HasBits}
 
 -- x is in the bit map of the value
 unfoldable pub inFineMap : List ℕ → ℕ → Bool
@@ -52,16 +53,21 @@ pub record FirstBits (m : List ℕ) (c : ℕ) : Type 0 where
 
 -- ---- words of a list
 
--- the first n words mean what the first n₀ meant, and what passes the test
-pub record Grown (q : ℕ → Bool) (keys₀ : List ℕ) (n₀ : ℕ) (keys : List ℕ) (n : ℕ) : Type 0 where
+-- an area in which there are n words, and filter bits of the wanted labels
+pub record Adding (wanted keys : List ℕ) (n : ℕ) : Type 0 where
+  pub bits : length wanted ≡ bucketBytes
+  pub within : n ≤ length keys
+
+-- of the wanted labels the first n words have those that the first n₀ had, and those that pass the test
+pub record Added (wanted : List ℕ) (q : ℕ → Bool) (keys₀ : List ℕ) (n₀ : ℕ) (keys : List ℕ) (n : ℕ) : Type 0 where
   pub within : n ≤ length keys
   pub same : length keys ≡ length keys₀
-  pub means : (x : ℕ) → marked x (take n keys) ≡ either (marked x (take n₀ keys₀)) (q x)
+  pub means : (x : ℕ) → bitAt (bucketOf x) wanted ≡ true → marked x (take n keys) ≡ either (marked x (take n₀ keys₀)) (q x)
 
--- the first n words mean what passes the test
-pub record Gathered (q : ℕ → Bool) (keys : List ℕ) (n : ℕ) : Type 0 where
+-- of the wanted labels the first n words have those that pass the test
+pub record Collected (wanted : List ℕ) (q : ℕ → Bool) (keys : List ℕ) (n : ℕ) : Type 0 where
   pub within : n ≤ length keys
-  pub means : (x : ℕ) → q x ≡ marked x (take n keys)
+  pub means : (x : ℕ) → bitAt (bucketOf x) wanted ≡ true → q x ≡ marked x (take n keys)
 
 -- the word v, with the bits of the word p if it has the same labels
 unfoldable pub joined : ℕ → ℕ → ℕ
@@ -78,10 +84,17 @@ pub record Ordered (l m : List ℕ) : Type 0 where
   pub sort : SortOf l base
   pub units : m ≡ united 0 base
 
--- the first n words are in order, the last of some labels has all their bits, and they tell what passes the test
-pub record WordsTold (q : ℕ → Bool) (keys : List ℕ) (n : ℕ) : Type 0 where
+-- the first n words are in order, the last of some labels has all their bits, and they have the labels of a set
+pub record Words (s : ℕ → Bool) (keys : List ℕ) (n : ℕ) : Type 0 where
   pub within : n ≤ length keys
   pub sorted : Sorted (take n keys)
   pub base : List ℕ
   pub units : take n keys ≡ united 0 base
-  pub means : (x : ℕ) → q x ≡ marked x (take n keys)
+  pub means : (x : ℕ) → s x ≡ marked x (take n keys)
+
+-- the first n words have the labels of a set, of which the bits are set; of the wanted labels those that pass the test are in it
+pub record WordsPrepared (q : ℕ → Bool) (wanted keys bits : List ℕ) (n : ℕ) : Type 0 where
+  pub set : ℕ → Bool
+  pub words : Words set keys n
+  pub has : HasBits set bits
+  pub means : (x : ℕ) → bitAt (bucketOf x) wanted ≡ true → q x ≡ set x

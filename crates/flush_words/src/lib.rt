@@ -1,17 +1,21 @@
-// The fine-grained labels that the bit maps of a flush payload mean, as sorted words of 32 labels: made once for a message, asked for
-// each record. A count of 4097 says that they found no room.
+// The fine-grained labels that the bit maps of a message mean, as sorted words of 32 labels: made once for a message, searched for each
+// record. Only words of which a label may be wanted are gathered.
 ghost use Prim.Native.Nat.{ℕ, _+_, _-_, _*_, _^_, _<_, _≤_};
-ghost use mathlib.Core.Bool.{Bool};
+ghost use mathlib.Core.Bool.{Bool, true, false};
 ghost use mathlib.Core.Path.{_≡_};
 ghost use lib.ListN.{length, take, drop};
-ghost use Rattle.flush.specs.Payload.{tlv, tlvs, piecesOf};
+ghost use Rattle.numbers.specs.Numberings.{bitAt};
+ghost use Rattle.flush.specs.Payload.{tlv, tlvs};
 ghost use Rattle.flush_sort.specs.Sorting.{Sorted};
-ghost use Rattle.flush_words.specs.Words.{inFineMap, mapIn, mapsOf, inWord, marks, FirstBits, Grown, Gathered, joined, united, Ordered, WordsTold};
+ghost use Rattle.flush_buckets.specs.Buckets.{bucketBytes, bucketOf, Keeps, HasBits};
+ghost use Rattle.flush_intervals.specs.declared.Room.the-variants.{Held};
+ghost use Rattle.flush_words.specs.Words.{inFineMap, mapIn, mapsOf, inWord, marks, marked, FirstBits, Adding, Added, Collected, joined, united, Ordered, Words, WordsPrepared};
+use flush_intervals::Room;
 
 // The last word of labels, up to FFFFFF.
 const LAST_WORD: u64 = 0x7_ffff;
 
-// The four bytes of a map at a place as one number; past the end they are 0.
+// The four bytes of a map at an offset as one number; past the end they are 0.
 fn chunk_at(v: &[u8], at: usize) -> u64
     requires { ⌜ at < length (now v) ⌝ }
     ensures { λ r. ⌜ FirstBits (drop at (now (v .entry))) r ⌝ }
@@ -37,25 +41,36 @@ fn shifted(c: u64, k: u64) -> u64
     c << (32 - k)
 }
 
-// Stores a word behind the first n, unless it has no bits.
-fn put(keys: &mut [u64], n: usize, w: u64, bits: u64) -> usize
-    requires { ⌜ (n < length (now keys)) × ((w < 2 ^ 19) × (bits < 2 ^ 32)) ⌝ }
-    ensures { λ (r : ℕ). ⌜ Grown (inWord w bits) (now (keys .entry)) n (now (keys .exit)) r ⌝ }
+// 1 where a word has bits and one of its labels may be wanted, else 0.
+fn counted(wanted: &[u8], w: u64, bits: u64) -> usize
+    requires { ⌜ length (now wanted) ≡ bucketBytes ⌝ }
+    ensures { λ (r : ℕ). ⌜ (r ≤ 1) × (r ≡ 0 → (x : ℕ) → bitAt (bucketOf x) (now (wanted .entry)) ≡ true → inWord w bits x ≡ false) ⌝ }
 {
-    keys[n] = w * 0x1_0000_0000 + bits;
     if bits == 0 {
-        return n;
+        return 0;
     }
-    n + 1
+    if flush_buckets::has_bucket(wanted, w) {
+        return 1;
+    }
+    0
 }
 
-// Gathers the labels of a start with a bit map behind it. A word waits until the next four bytes have given it their bits.
-fn add_map(v: &[u8], keys: &mut [u64], n: usize) -> usize
-    requires { ⌜ n ≤ length (now keys) ⌝ }
-    ensures { λ (r : ℕ). ⌜ (r ≤ 4096 → Grown (inFineMap (now (v .entry))) (now (keys .entry)) n (now (keys .exit)) r) ⌝ }
+// Stores a word after the first n, and counts it where it is wanted.
+fn put(wanted: &[u8], keys: &mut [u64], n: usize, w: u64, bits: u64) -> usize
+    requires { ⌜ ((n < length (now keys)) × (length (now wanted) ≡ bucketBytes)) × ((w < 2 ^ 19) × (bits < 2 ^ 32)) ⌝ }
+    ensures { λ (r : ℕ). ⌜ Added (now (wanted .entry)) (inWord w bits) (now (keys .entry)) n (now (keys .exit)) r ⌝ }
+{
+    keys[n] = w * 0x1_0000_0000 + bits;
+    n + counted(wanted, w, bits)
+}
+
+// Gathers the labels of a start with a bit map after it. A word waits until the next four bytes have given it their bits.
+fn add_map(v: &[u8], wanted: &[u8], keys: &mut [u64], n: usize) -> Room
+    requires { ⌜ Adding (now wanted) (now keys) n ⌝ }
+    ensures { λ r. ⌜ ((m : ℕ) → r ≡ Held m → Added (now (wanted .entry)) (inFineMap (now (v .entry))) (now (keys .entry)) n (now (keys .exit)) m) ⌝ }
 {
     if v.len() < 3 {
-        return n;
+        return Room::Held(n);
     }
     let start = numbers::be3(v, 0);
     let k = start % 32;
@@ -65,58 +80,64 @@ fn add_map(v: &[u8], keys: &mut [u64], n: usize) -> usize
     let mut at = 3;
     while at < v.len() {
         if LAST_WORD < w {
-            return m;
+            return Room::Held(m);
         }
         if m == keys.len() {
-            return 4097;
+            return Room::Full;
         }
         let two = shifted(chunk_at(v, at), k);
-        m = put(keys, m, w, bits | two / 0x1_0000_0000);
+        m = put(wanted, keys, m, w, bits | two / 0x1_0000_0000);
         bits = two % 0x1_0000_0000;
         w += 1;
         at += 4;
     }
     if LAST_WORD < w {
-        return m;
+        return Room::Held(m);
     }
     if m == keys.len() {
-        return 4097;
+        return Room::Full;
     }
-    put(keys, m, w, bits)
+    Room::Held(put(wanted, keys, m, w, bits))
 }
 
 // Gathers the labels that a TLV means by a bit map.
-fn add_value(k: u8, v: &[u8], keys: &mut [u64], n: usize) -> usize
-    requires { ⌜ n ≤ length (now keys) ⌝ }
-    ensures { λ (r : ℕ). ⌜ (r ≤ 4096 → Grown (mapIn (tlv k (now (v .entry)))) (now (keys .entry)) n (now (keys .exit)) r) ⌝ }
+fn add_value(k: u8, v: &[u8], wanted: &[u8], keys: &mut [u64], n: usize) -> Room
+    requires { ⌜ Adding (now wanted) (now keys) n ⌝ }
+    ensures { λ r. ⌜ ((m : ℕ) → r ≡ Held m → Added (now (wanted .entry)) (mapIn (tlv k (now (v .entry)))) (now (keys .entry)) n (now (keys .exit)) m) ⌝ }
 {
     if k == 5 {
-        return add_map(v, keys, n);
+        return add_map(v, wanted, keys, n);
     }
-    n
+    Room::Held(n)
 }
 
-// Gathers the labels that TLVs mean by bit maps.
-fn add_tlvs(l: &[u8], keys: &mut [u64]) -> usize
-    requires { ⌜ length (now keys) ≤ 4096 ⌝ }
-    ensures { λ (r : ℕ). ⌜ (r ≤ 4096 → Gathered (mapsOf (tlvs (now (l .entry)))) (now (keys .exit)) r) ⌝ }
+// Gathers the labels that TLVs mean by bit maps, where there are such TLVs.
+fn add_tlvs(l: &[u8], some: bool, wanted: &[u8], keys: &mut [u64]) -> Room
+    requires { ⌜ (length (now wanted) ≡ bucketBytes) × (some ≡ false → (x : ℕ) → mapsOf (tlvs (now l)) x ≡ false) ⌝ }
+    ensures { λ r. ⌜ ((m : ℕ) → r ≡ Held m → Collected (now (wanted .entry)) (mapsOf (tlvs (now (l .entry)))) (now (keys .exit)) m) ⌝ }
 {
+    if !some {
+        return Room::Held(0);
+    }
     let mut n = 0;
     let mut at = 0;
     while at < l.len() {
         let e = flush_tlvs::end_of(l, at);
         if l.len() < e {
-            return n;
+            return Room::Held(n);
         }
         let f = at + 2;
-        let m = add_value(l[at], &l[f..e], keys, n);
-        if 4096 < m {
-            return 4097;
+        match add_value(l[at], &l[f..e], wanted, keys, n) {
+            Room::Held(m) => {
+                n = m;
+                at = e;
+            }
+            Room::Full => {
+                return Room::Full;
+            }
         }
-        n = m;
-        at = e;
     }
-    n
+    Room::Held(n)
 }
 
 // A word with the bits of another, if they have the same labels.
@@ -151,28 +172,46 @@ fn order(keys: &mut [u64], work: &mut [u64])
     unite(keys);
 }
 
-// Makes the first n words ready to be asked.
-fn make_ready(keys: &mut [u64], work: &mut [u64], n: usize)
-    requires { ⌜ (n ≤ length (now keys)) × (length (now keys) ≤ length (now work)) ⌝ }
-    ensures { λ _. ⌜ ((q : ℕ → Bool) → Gathered q (now (keys .entry)) n → WordsTold q (now (keys .exit)) n) ⌝ }
+// Adds the labels of words to filter bits: the 32 labels of a word are a bucket.
+fn add_words(keys: &[u64], bits: &mut [u8])
+    requires { ⌜ length (now bits) ≡ bucketBytes ⌝ }
+    ensures { λ _. ⌜ Keeps (now (bits .entry)) (now (bits .exit)) × HasBits (λ x. marked x (now (keys .entry))) (now (bits .exit)) ⌝ }
 {
-    order(&mut keys[..n], work);
+    let mut i = 0;
+    while i < keys.len() {
+        flush_buckets::add_bucket(keys[i] / 0x1_0000_0000, bits);
+        i += 1;
+    }
 }
 
-// The labels that the pieces behind K-VLBs mean by bit maps: how many words there are.
-pub fn word_set(rest: &[u8], count: usize, keys: &mut [u64], work: &mut [u64]) -> usize
-    requires { ⌜ (length (now keys) ≤ 4096) × (length (now keys) ≤ length (now work)) ⌝ }
-    ensures { λ (r : ℕ). ⌜ (r ≤ 4096 → WordsTold (mapsOf (piecesOf count (now (rest .entry)))) (now (keys .exit)) r) ⌝ }
+// Makes the first n words ready to be searched, and adds them to filter bits.
+fn make_ready(keys: &mut [u64], work: &mut [u64], bits: &mut [u8], n: usize)
+    requires { ⌜ ((n ≤ length (now keys)) × (length (now keys) ≤ length (now work))) × (length (now bits) ≡ bucketBytes) ⌝ }
+    ensures { λ _. ⌜ Keeps (now (bits .entry)) (now (bits .exit)) × ((s : ℕ → Bool) → ((x : ℕ) → s x ≡ marked x (take n (now (keys .entry)))) → Words s (now (keys .exit)) n × HasBits s (now (bits .exit))) ⌝ }
 {
-    if count != 0 {
-        return 0;
+    order(&mut keys[..n], work);
+    add_words(&keys[..n], bits);
+}
+
+// Gathers and prepares the wanted labels that TLVs mean by bit maps, where there are such TLVs.
+pub fn gather(
+    rest: &[u8],
+    some: bool,
+    wanted: &[u8],
+    keys: &mut [u64],
+    work: &mut [u64],
+    bits: &mut [u8],
+) -> Room
+    requires { ⌜ ((length (now wanted) ≡ bucketBytes) × (some ≡ false → (x : ℕ) → mapsOf (tlvs (now rest)) x ≡ false)) × ((length (now keys) ≤ length (now work)) × (length (now bits) ≡ bucketBytes)) ⌝ }
+    ensures { λ r. ⌜ Keeps (now (bits .entry)) (now (bits .exit)) × ((n : ℕ) → r ≡ Held n → WordsPrepared (mapsOf (tlvs (now (rest .entry)))) (now (wanted .entry)) (now (keys .exit)) (now (bits .exit)) n) ⌝ }
+{
+    match add_tlvs(rest, some, wanted, keys) {
+        Room::Held(n) => {
+            make_ready(keys, work, bits, n);
+            Room::Held(n)
+        }
+        Room::Full => Room::Full,
     }
-    let n = add_tlvs(rest, keys);
-    if keys.len() < n {
-        return 4097;
-    }
-    make_ready(keys, work, n);
-    n
 }
 
 // Whether a label is in a word.
@@ -182,12 +221,12 @@ fn marks(v: u64, x: u64) -> bool
     (v / 0x1_0000_0000 == x / 32) & ((v >> (31 - x % 32)) % 2 == 1)
 }
 
-// Whether a label is in some word: of the words that are not above it the last one tells.
+// Whether a label is in some word: of the words that are not above it the last one decides.
 pub fn has_label(keys: &[u64], n: usize, x: u64) -> bool
     requires { ⌜ (n ≤ length (now keys)) × (Sorted (take n (now keys)) × (x < 2 ^ 32)) ⌝ }
-    ensures { λ r. ⌜ ((q : ℕ → Bool) → WordsTold q (now (keys .entry)) n → r ≡ q x) ⌝ }
+    ensures { λ r. ⌜ ((s : ℕ → Bool) → Words s (now (keys .entry)) n → r ≡ s x) ⌝ }
 {
-    let k = flush_ranges::count_below(&keys[..n], (x / 32 + 1) * 0x10_0000);
+    let k = flush_intervals::count_below(&keys[..n], (x / 32 + 1) * 0x10_0000);
     if k == 0 {
         return false;
     }

@@ -12,15 +12,24 @@ unfoldable pub addressesGood : Settings → Bool
 addressesGood s = both (individual (s .port)) (both (individual (s .inner)) (not (eqb (s .port) (s .inner))))
 
 -- "learning seconds 10 to 8191, or 0 for the default"
+abbrev pub leastSeconds : ℕ
+leastSeconds = 10
+
+abbrev pub mostSeconds : ℕ
+mostSeconds = 8191
+
 unfoldable pub secondsGood : ℕ → Bool
-secondsGood n = either (eqb n 0) (between 10 8191 n)
+secondsGood n = either (eqb n 0) (between leastSeconds mostSeconds n)
 
 -- "own nickname 0001 to FFBF, Compact on or off, learning confidence 0 to 255"
+abbrev pub mostConfidence : ℕ
+mostConfidence = 255
+
 unfoldable pub numbersGood : Settings → Bool
 numbersGood s =
     both (nicknameGood (s .nickname))
     (both (leb (s .compact) 1)
-    (both (leb (s .confidence) 255)
+    (both (leb (s .confidence) mostConfidence)
     (secondsGood (s .seconds))))
 
 unfoldable pub settingsGood : Settings → Bool

@@ -1,4 +1,4 @@
--- The copy of a list into another, a byte at a time; copies one behind the other; a copy at the start.
+-- The copy of a list into another, a byte at a time; copies one after the other; a copy at the start.
 -- Assumes nothing.
 use Prim.Native.Nat.{ℕ, _+_, _-_, _≤_, _<_}
 use native.Mathlib.Omega.{arith}
@@ -31,7 +31,7 @@ paste-whole d at s j o e h k =
     let q : j ≡ length s = omega arith in
     e ∙ ap (λ (n : ℕ). paste d at s n) q ∙ ap (λ (l : List ℕ). take at d ++ l ++ drop (at + length s) d) (take-length s)
 
--- the bytes from a place to a number of bytes after it
+-- the bytes from an offset to a number of bytes after it
 pub part-is : (f : List ℕ) (start len : ℕ) → start + len ≤ length f
     → (take (start + len - start) (drop start f) ≡ take len (drop start f)) × (length (take (start + len - start) (drop start f)) ≡ len)
 part-is f start len h =
@@ -39,7 +39,7 @@ part-is f start len h =
     let l = length-drop start f in
     simp e (refl, length-take-le len (drop start f) (omega arith))
 
--- a copy right behind the bytes that were written makes one longer copy
+-- a copy right after the bytes that were written makes one longer copy
 pub paste-next : (o w x : List ℕ) (a k : ℕ) → a ≤ length o → a + length w ≡ k → pasted (pasted o a w) k x ≡ pasted o a (w ++ x)
 unfolding pasted
 paste-next o w x a k h e =
@@ -54,8 +54,8 @@ paste-next o w x a k h e =
     ∙ ap (λ (n : ℕ). drop n o) sum in
     rw (first, last) (simp append-assoc)
 
-pub paste-behind : (o w x : List ℕ) (k : ℕ) → length w ≡ k → pasted (pasted o 0 w) k x ≡ pasted o 0 (w ++ x)
-paste-behind o w x k e = paste-next o w x 0 k (omega arith) (omega arith)
+pub paste-after : (o w x : List ℕ) (k : ℕ) → length w ≡ k → pasted (pasted o 0 w) k x ≡ pasted o 0 (w ++ x)
+paste-after o w x k e = paste-next o w x 0 k (omega arith) (omega arith)
 
 -- a copy at the start of an area is what a call lays there
 pub paste-laid : (o w : List ℕ) → pasted o 0 w ≡ laid w o

@@ -7,8 +7,8 @@ use Rattle.numbers.specs.Result.{Result, refused, got}
 use Rattle.frame.specs.Front as spec
 use Rattle.frame_fields.specs.declared.Front.{Front}
 use Rattle.frame_fields.specs.declared.Front.the-variants as front
-use Rattle.frame_fields.specs.declared.Size.{Size}
-use Rattle.frame_fields.specs.declared.Size.the-variants as size
+use Rattle.frame_fields.specs.declared.Length.{Length}
+use Rattle.frame_fields.specs.declared.Length.the-variants as len
 
 abbrev pub frontAs : Front → spec.Front
 frontAs front.Unicast = spec.unicast
@@ -23,6 +23,6 @@ frontAt port a =
     (pick (eqb a spec.allRBridges) spec.multicast
     (pick (spec.frontRefused a) spec.refusedFront spec.inner))
 
-abbrev pub sizeAs : Size → Result ℕ
-sizeAs (size.Refused n) = refused n
-sizeAs (size.Bytes n) = got n
+abbrev pub lengthAs : Length → Result ℕ
+lengthAs (len.Refused n) = refused n
+lengthAs (len.Bytes n) = got n

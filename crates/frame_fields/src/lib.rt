@@ -1,16 +1,45 @@
-// The fields of a frame, one by one: settings, the destination in front, and how many bytes a header, a label and the outer part take.
-ghost use Prim.Native.Nat.{_+_, _-_, _%_, _^_, _<_, _≤_};
+// The fields of a frame, one by one: settings, the destination in front, Ethertypes, the header's fields, and how many bytes a header, a
+// label and the outer part take.
+ghost use Prim.Native.Nat.{_+_, _-_, _/_, _%_, _^_, _<_, _≤_};
 ghost use mathlib.Core.Path.{_≡_};
 ghost use lib.ListN.{length, drop};
 ghost use Rattle.numbers.specs.Bytes.{startsWith};
 ghost use Rattle.numbers.specs.Ranges.{vlanGood};
 ghost use Rattle.frame.specs.Formats.{outerLength};
 ghost use Rattle.frame.specs.Front.{trillGroup};
-ghost use Rattle.frame.specs.Header.{agrees, headerLength};
-ghost use Rattle.frame.specs.Labels.{low12, labelLength};
+ghost use Rattle.frame.specs.Header.{versionOf, multicastOf, optionLength, hopCount, egressOf, ingressOf, fixedBytes, headerBytes, agrees, headerLength};
+ghost use Rattle.frame.specs.Labels.{tagBytes, low12, labelLength};
 ghost use Rattle.frame.specs.Settings.{addressesGood, secondsGood, numbersGood, settingsGood};
-ghost use Rattle.frame_fields.specs.Meaning.{frontAs, frontAt, sizeAs};
+ghost use Rattle.frame_fields.specs.Meaning.{frontAs, frontAt, lengthAs};
+use frame::ADDRESSES_BYTES;
+use frame::ALL_RBRIDGES;
+use frame::COMPACT_ON;
+use frame::EGRESS_OFFSET;
+use frame::ETHERTYPE_BYTES;
+use frame::FINE_BYTES;
+use frame::FINE_ETHERTYPE;
+use frame::FIXED_HEADER_BYTES;
+use frame::HOP_COUNT_VALUES;
+use frame::INGRESS_OFFSET;
+use frame::LABEL_PART;
+use frame::LAST_TRILL_GROUP;
+use frame::LEAST_SECONDS;
+use frame::MOST_CONFIDENCE;
+use frame::MOST_SECONDS;
+use frame::MULTICAST_BIT;
+use frame::MULTICAST_VALUES;
+use frame::OPTION_BYTES;
+use frame::OPTION_LENGTH_BIT;
+use frame::OPTION_LENGTH_VALUES;
 use frame::Settings;
+use frame::TAG_BYTES;
+use frame::TAG_ETHERTYPE;
+use frame::TAGGED_ADDRESSES_BYTES;
+use frame::TAGGED_OUTER_BYTES;
+use frame::TRILL_ETHERTYPE;
+use frame::UNTAGGED_OUTER_BYTES;
+use frame::VERSION_BIT;
+use frame::VERSION_VALUES;
 use numbers::refusals::CUT_SHORT;
 use numbers::refusals::LABEL_BAD;
 use numbers::refusals::MULTICAST_DISAGREES;
@@ -27,7 +56,7 @@ pub enum Front {
 }
 
 // How many bytes a part takes, or the refusal number.
-pub enum Size {
+pub enum Length {
     Refused(u8),
     Bytes(usize),
 }
@@ -41,14 +70,15 @@ fn addresses_good(s: Settings) -> bool
 fn seconds_good(n: u32) -> bool
     ensures { λ r. ⌜ r ≡ secondsGood n ⌝ }
 {
-    (n == 0) | ((10 <= n) & (n <= 8191))
+    (n == 0) | ((LEAST_SECONDS <= n) & (n <= MOST_SECONDS))
 }
 
 fn numbers_good(s: Settings) -> bool
     ensures { λ r. ⌜ r ≡ numbersGood s ⌝ }
 {
     numbers::nickname_good(s.nickname as u64)
-        & ((s.compact <= 1) & ((s.confidence <= 255) & seconds_good(s.seconds)))
+        & ((s.compact <= COMPACT_ON)
+            & ((s.confidence <= MOST_CONFIDENCE) & seconds_good(s.seconds)))
 }
 
 // Refusal 1: whether the settings are within their ranges.
@@ -62,7 +92,7 @@ pub fn settings_good(s: Settings) -> bool
 pub fn is_trill_group(a: u64) -> bool
     ensures { λ r. ⌜ r ≡ trillGroup a ⌝ }
 {
-    (0x0180_c200_0040 <= a) & (a <= 0x0180_c200_004f)
+    (ALL_RBRIDGES <= a) & (a <= LAST_TRILL_GROUP)
 }
 
 // What the destination in front means for a port.
@@ -72,7 +102,7 @@ pub fn front_of(port: u64, a: u64) -> Front
     if a == port {
         return Front::Unicast;
     }
-    if a == 0x0180_c200_0040 {
+    if a == ALL_RBRIDGES {
         return Front::Multicast;
     }
     if is_trill_group(a) {
@@ -81,18 +111,71 @@ pub fn front_of(port: u64, a: u64) -> Front
     Front::Inner
 }
 
-// The bytes at k are a and b.
-pub fn starts_with(l: &[u8], k: usize, a: u8, b: u8) -> bool
+// Whether the two bytes at k are this Ethertype.
+pub fn has_ethertype(l: &[u8], k: usize, t: u64) -> bool
     requires { ⌜ k + 2 ≤ length (now l) ⌝ }
-    ensures { λ r. ⌜ r ≡ startsWith a b (drop k (now (l .entry))) ⌝ }
+    ensures { λ r. ⌜ r ≡ startsWith (t / 256) (t % 256) (drop k (now (l .entry))) ⌝ }
 {
-    (l[k] == a) & (l[k + 1] == b)
+    (numbers::wide(l[k]) == t / 0x100) & (numbers::wide(l[k + 1]) == t % 0x100)
+}
+
+// The fields of the header at k.
+fn version(l: &[u8], k: usize) -> u64
+    requires { ⌜ k + 2 ≤ length (now l) ⌝ }
+    ensures { λ r. ⌜ r ≡ versionOf (drop k (now (l .entry))) ⌝ }
+{
+    numbers::be2(l, k) / VERSION_BIT % VERSION_VALUES
+}
+
+pub fn multicast(l: &[u8], k: usize) -> u64
+    requires { ⌜ k + 2 ≤ length (now l) ⌝ }
+    ensures { λ r. ⌜ r ≡ multicastOf (drop k (now (l .entry))) ⌝ }
+{
+    numbers::be2(l, k) / MULTICAST_BIT % MULTICAST_VALUES
+}
+
+fn option_length(l: &[u8], k: usize) -> u64
+    requires { ⌜ k + 2 ≤ length (now l) ⌝ }
+    ensures { λ r. ⌜ (r ≡ optionLength (drop k (now (l .entry)))) × (r < 2 ^ 5) ⌝ }
+{
+    numbers::be2(l, k) / OPTION_LENGTH_BIT % OPTION_LENGTH_VALUES
+}
+
+pub fn hop_count(l: &[u8], k: usize) -> u64
+    requires { ⌜ k + 2 ≤ length (now l) ⌝ }
+    ensures { λ r. ⌜ r ≡ hopCount (drop k (now (l .entry))) ⌝ }
+{
+    numbers::be2(l, k) % HOP_COUNT_VALUES
+}
+
+pub fn egress(l: &[u8], k: usize) -> u64
+    requires { ⌜ k + fixedBytes ≤ length (now l) ⌝ }
+    ensures { λ r. ⌜ r ≡ egressOf (drop k (now (l .entry))) ⌝ }
+{
+    numbers::be2(l, k + EGRESS_OFFSET)
+}
+
+pub fn ingress(l: &[u8], k: usize) -> u64
+    requires { ⌜ k + fixedBytes ≤ length (now l) ⌝ }
+    ensures { λ r. ⌜ (r ≡ ingressOf (drop k (now (l .entry)))) × (r < 2 ^ 16) ⌝ }
+{
+    numbers::be2(l, k + INGRESS_OFFSET)
+}
+
+// The bytes that a header says it takes.
+fn header_bytes(l: &[u8]) -> usize
+    requires { ⌜ fixedBytes ≤ length (now l) ⌝ }
+    ensures { λ r. ⌜ r ≡ headerBytes (now (l .entry)) ⌝ }
+{
+    FIXED_HEADER_BYTES + OPTION_BYTES * (option_length(l, 0) as usize)
 }
 
 // Refusal 12: whether M and the destination in front agree.
-fn m_agrees(d: Front, m: u64) -> bool
-    ensures { λ r. ⌜ r ≡ agrees (frontAs d) m ⌝ }
+fn multicast_agrees(d: Front, l: &[u8]) -> bool
+    requires { ⌜ fixedBytes ≤ length (now l) ⌝ }
+    ensures { λ r. ⌜ r ≡ agrees (frontAs d) (multicastOf (now (l .entry))) ⌝ }
 {
+    let m = multicast(l, 0);
     match d {
         Front::Unicast => m == 0,
         Front::Multicast => m == 1,
@@ -102,95 +185,105 @@ fn m_agrees(d: Front, m: u64) -> bool
 }
 
 // The bytes that a header with its options takes.
-pub fn header_length(d: Front, l: &[u8]) -> Size
-    ensures { λ r. ⌜ sizeAs r ≡ headerLength (frontAs d) (now (l .entry)) ⌝ }
+pub fn header_length(d: Front, l: &[u8]) -> Length
+    ensures { λ r. ⌜ lengthAs r ≡ headerLength (frontAs d) (now (l .entry)) ⌝ }
 {
-    if l.len() < 6 {
-        return Size::Refused(CUT_SHORT);
+    if l.len() < FIXED_HEADER_BYTES {
+        return Length::Refused(CUT_SHORT);
     }
-    let w = numbers::be2(l, 0);
-    if w / 0x4000 % 4 != 0 {
-        return Size::Refused(VERSION_BAD);
+    if version(l, 0) != 0 {
+        return Length::Refused(VERSION_BAD);
     }
-    if !m_agrees(d, w / 0x800 % 2) {
-        return Size::Refused(MULTICAST_DISAGREES);
+    if !multicast_agrees(d, l) {
+        return Length::Refused(MULTICAST_DISAGREES);
     }
-    let n = 6 + 4 * ((w / 0x40 % 0x20) as usize);
+    let n = header_bytes(l);
     if l.len() < n {
-        return Size::Refused(CUT_SHORT);
+        return Length::Refused(CUT_SHORT);
     }
-    Size::Bytes(n)
+    Length::Bytes(n)
+}
+
+// The 12 bits of a label in the two bytes at k.
+pub fn label_part(l: &[u8], k: usize) -> u64
+    requires { ⌜ k + 2 ≤ length (now l) ⌝ }
+    ensures { λ r. ⌜ (r ≡ low12 k (now (l .entry))) × (r < 2 ^ 12) ⌝ }
+{
+    numbers::be2(l, k) % LABEL_PART
 }
 
 // Whether the VLAN number of a tag is allowed.
 fn tag_good(l: &[u8]) -> bool
-    requires { ⌜ 4 ≤ length (now l) ⌝ }
+    requires { ⌜ tagBytes ≤ length (now l) ⌝ }
     ensures { λ r. ⌜ r ≡ vlanGood (low12 2 (now (l .entry))) ⌝ }
 {
-    numbers::vlan_good(numbers::be2(l, 2) % 0x1000)
+    numbers::vlan_good(label_part(l, ETHERTYPE_BYTES))
 }
 
+// The second Ethertype of a fine-grained label ends here.
+const SECOND_ETHERTYPE_END: usize = TAG_BYTES + ETHERTYPE_BYTES;
+
 // The bytes that a label takes.
-pub fn label_length(l: &[u8]) -> Size
-    ensures { λ r. ⌜ sizeAs r ≡ labelLength (now (l .entry)) ⌝ }
+pub fn label_length(l: &[u8]) -> Length
+    ensures { λ r. ⌜ lengthAs r ≡ labelLength (now (l .entry)) ⌝ }
 {
-    if l.len() < 2 {
-        return Size::Refused(CUT_SHORT);
+    if l.len() < ETHERTYPE_BYTES {
+        return Length::Refused(CUT_SHORT);
     }
-    if starts_with(l, 0, 0x81, 0x00) {
-        if l.len() < 4 {
-            return Size::Refused(CUT_SHORT);
+    if has_ethertype(l, 0, TAG_ETHERTYPE) {
+        if l.len() < TAG_BYTES {
+            return Length::Refused(CUT_SHORT);
         }
         if !tag_good(l) {
-            return Size::Refused(LABEL_BAD);
+            return Length::Refused(LABEL_BAD);
         }
-        return Size::Bytes(4);
+        return Length::Bytes(TAG_BYTES);
     }
-    if !starts_with(l, 0, 0x89, 0x3b) {
-        return Size::Refused(LABEL_BAD);
+    if !has_ethertype(l, 0, FINE_ETHERTYPE) {
+        return Length::Refused(LABEL_BAD);
     }
-    if l.len() < 4 {
-        return Size::Refused(CUT_SHORT);
+    if l.len() < TAG_BYTES {
+        return Length::Refused(CUT_SHORT);
     }
-    if l.len() < 6 {
-        return Size::Refused(CUT_SHORT);
+    if l.len() < SECOND_ETHERTYPE_END {
+        return Length::Refused(CUT_SHORT);
     }
-    if !starts_with(l, 4, 0x89, 0x3b) {
-        return Size::Refused(LABEL_BAD);
+    if !has_ethertype(l, TAG_BYTES, FINE_ETHERTYPE) {
+        return Length::Refused(LABEL_BAD);
     }
-    if l.len() < 8 {
-        return Size::Refused(CUT_SHORT);
+    if l.len() < FINE_BYTES {
+        return Length::Refused(CUT_SHORT);
     }
-    Size::Bytes(8)
+    Length::Bytes(FINE_BYTES)
 }
 
 // The bytes that the outer addresses, the optional tag and 22F3 take.
-pub fn outer_length(l: &[u8]) -> Size
-    ensures { λ r. ⌜ sizeAs r ≡ outerLength (now (l .entry)) ⌝ }
+pub fn outer_length(l: &[u8]) -> Length
+    ensures { λ r. ⌜ lengthAs r ≡ outerLength (now (l .entry)) ⌝ }
 {
-    if l.len() < 14 {
-        return Size::Refused(CUT_SHORT);
+    if l.len() < UNTAGGED_OUTER_BYTES {
+        return Length::Refused(CUT_SHORT);
     }
-    if starts_with(l, 12, 0x81, 0x00) {
-        if l.len() < 16 {
-            return Size::Refused(CUT_SHORT);
+    if has_ethertype(l, ADDRESSES_BYTES, TAG_ETHERTYPE) {
+        if l.len() < TAGGED_ADDRESSES_BYTES {
+            return Length::Refused(CUT_SHORT);
         }
-        if l.len() < 18 {
-            return Size::Refused(CUT_SHORT);
+        if l.len() < TAGGED_OUTER_BYTES {
+            return Length::Refused(CUT_SHORT);
         }
-        if !starts_with(l, 16, 0x22, 0xf3) {
-            return Size::Refused(NOT_TRILL);
+        if !has_ethertype(l, TAGGED_ADDRESSES_BYTES, TRILL_ETHERTYPE) {
+            return Length::Refused(NOT_TRILL);
         }
-        return Size::Bytes(18);
+        return Length::Bytes(TAGGED_OUTER_BYTES);
     }
-    if !starts_with(l, 12, 0x22, 0xf3) {
-        return Size::Refused(NOT_TRILL);
+    if !has_ethertype(l, ADDRESSES_BYTES, TRILL_ETHERTYPE) {
+        return Length::Refused(NOT_TRILL);
     }
-    Size::Bytes(14)
+    Length::Bytes(UNTAGGED_OUTER_BYTES)
 }
 
-// The part of a frame from a place on.
-pub fn rest<'a>(l: &'a [u8], k: usize) -> &'a [u8]
+// The part of a frame from an offset to its end.
+pub fn after<'a>(l: &'a [u8], k: usize) -> &'a [u8]
     requires { ⌜ k ≤ length (now l) ⌝ }
     ensures { λ r. ⌜ (now r ≡ drop k (now (l .entry))) × (length (now r) ≡ length (now (l .entry)) - k) ⌝ }
 {

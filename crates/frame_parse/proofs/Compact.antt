@@ -2,108 +2,75 @@
 -- Assumes nothing.
 use Prim.Native.Nat.{ℕ, _+_, _≤_, _<_}
 use mathlib.Core.Bool.{Bool, true, false}
-use mathlib.Core.Path.{_≡_, refl, sym, ap, _∙_}
-use mathlib.Core.List.{List, []}
+use mathlib.Core.Path.{_≡_}
+use mathlib.Core.List.{List}
 use native.Mathlib.Omega.{arith}
-use lib.Dec.{leb}
 use lib.ListN.{length, take, drop, length-drop}
 use lib.Seq.{drop-drop}
 use borrow.Author.Tests.{le-leb, lt-leb}
-use Rattle.numbers.specs.Result.{Result, refused, got, check, andThen}
+use Rattle.numbers.specs.Result.{refused, got, check, andThen}
 use Rattle.frame.specs.Front.{inner}
 use Rattle.frame.specs.Header.{headerLength}
 use Rattle.frame.specs.Labels.{isTrill, labelLength}
-use Rattle.frame.specs.Fields.{Fields}
-use Rattle.frame.specs.Formats.{compactRest, compact}
-use Rattle.frame_fields.specs.Meaning.{sizeAs}
-use Rattle.frame_fields.specs.declared.Size.{Size}
-use Rattle.frame_fields.specs.declared.Size.the-variants.{Refused, Bytes}
-use Rattle.frame_parse.specs.Meaning.{tailRest, tailAs, tailWithin, compactBehind, fieldsIn, parsedAs}
-use Rattle.frame_parse.specs.declared.Parsed.{Parsed}
-use Rattle.frame_parse.proofs.General.{size-refused, size-bytes}
+use Rattle.frame.specs.Formats.{compactAfter, compact}
+use Rattle.frame.proofs.Local.{label-is, label-fits}
+use Rattle.frame_fields.specs.Meaning.{lengthAs}
+use Rattle.frame_fields.specs.declared.Length.{Length}
+use Rattle.frame_fields.specs.declared.Length.the-variants.{Refused, Bytes}
+use Rattle.frame_parse.specs.Meaning.{fieldsIn}
+use Rattle.frame_parse.proofs.General.{length-refused, length-bytes}
 
-module _ (l : List ℕ) where
-  pub tail-cut : length l < 2 → refused 6 ≡ tailRest l
-  unfolding tailRest compactRest check
-  tail-cut p = rw (lt-leb 2 (length l) p)
+-- ---- up to the label
 
-  module _ (two : 2 ≤ length l) (x : Bool) (ex : x ≡ isTrill l) where
-    pub tail-type : x ≡ false → refused 4 ≡ tailRest l
-    unfolding tailRest compactRest check
-    tail-type p = rw (le-leb 2 (length l) two, ← ex, p)
-
-    module _ (ty : x ≡ true) (g : List ℕ) (eg : g ≡ drop 2 l) (rh : Size) (eh : sizeAs rh ≡ headerLength inner g) where
-      pub tail-header : (e : ℕ) → rh ≡ Refused e → refused e ≡ tailRest l
-      unfolding tailRest compactRest check andThen
-      tail-header e p = rw (le-leb 2 (length l) two, ← ex, ty, ← eg, size-refused rh _ e p eh)
-
-      module _ (h : ℕ) (q : List ℕ) (ih : rh ≡ Bytes h) (eq : q ≡ drop h g) where
-        pub tail-content : length q < 2 → refused 6 ≡ tailRest l
-        unfolding tailRest compactRest check andThen
-        tail-content p = rw (le-leb 2 (length l) two, ← ex, ty, ← eg, size-bytes rh _ h ih eh, ← eq, lt-leb 2 (length q) p)
-
-        pub tail-whole : 2 ≤ length q → got (record { header = take h (drop 2 l); dst = []; src = []; label = []; content = drop h (drop 2 l) }) ≡ tailRest l
-        unfolding tailRest compactRest check andThen
-        tail-whole p = rw (le-leb 2 (length l) two, ← ex, ty, ← eg, size-bytes rh _ h ih eh, ← eq, le-leb 2 (length q) p)
-
--- the parts before the label, put in
-abbrev with-front : List ℕ → List ℕ → List ℕ → Result Fields → Result Fields
-with-front d s t r = andThen r λ p. got (record { header = p .header; dst = d; src = s; label = t; content = p .content })
-
-front-last : (d s t hd ct : List ℕ) (y : Bool) → check y 6 (got (record { header = hd; dst = d; src = s; label = t; content = ct })) ≡ with-front d s t (check y 6 (got (record { header = hd; dst = []; src = []; label = []; content = ct })))
-unfolding check andThen
-front-last d s t hd ct true = refl
-front-last d s t hd ct false = refl
-
-front-cases : (d s t : List ℕ) (hd ct : ℕ → List ℕ) (z : ℕ → Bool) (a b : Bool) (r : Result ℕ)
-    → check a 6 (check b 4 (andThen r λ h. check (z h) 6 (got (record { header = hd h; dst = d; src = s; label = t; content = ct h }))))
-    ≡ with-front d s t (check a 6 (check b 4 (andThen r λ h. check (z h) 6 (got (record { header = hd h; dst = []; src = []; label = []; content = ct h })))))
-unfolding check andThen
-front-cases d s t hd ct z false b r = refl
-front-cases d s t hd ct z true false r = refl
-front-cases d s t hd ct z true true (refused n) = refl
-front-cases d s t hd ct z true true (got h) = front-last d s t (hd h) (ct h) (z h)
-
-tail-front : (d s t l : List ℕ) → compactRest d s t l ≡ with-front d s t (tailRest l)
-unfolding tailRest compactRest
-tail-front d s t l = front-cases d s t (λ h. take h (drop 2 l)) (λ h. drop h (drop 2 l)) (λ h. leb 2 (length (drop h (drop 2 l)))) (leb 2 (length l)) (isTrill l) (headerLength inner (drop 2 l))
-
--- the places in the whole frame
-compact-places : (f : List ℕ) (n h : ℕ)
-    → record { header = take h (drop 2 (drop (12 + n) f)); dst = take 6 f; src = take 6 (drop 6 f); label = take n (drop 12 f); content = drop h (drop 2 (drop (12 + n) f)) }
-    ≡ fieldsIn f (record { dst = 0; label = n; header = 14 + n; size = h; content = 14 + n + h })
-compact-places f n h =
-    let place : 12 + n + 2 ≡ 14 + n = omega arith in
-    rw (drop-drop 2 (12 + n) f, place, drop-drop h (14 + n) f)
-
-module _ (f : List ℕ) (n : ℕ) (q : List ℕ) (eq : q ≡ drop (12 + n) f) (rh : Size) (eh : tailAs q rh ≡ tailRest q) where
-  pub c-tail : (e : ℕ) → rh ≡ Refused e → refused e ≡ compactBehind f n
-  unfolding compactBehind andThen
-  c-tail e p = rw (← eq, tail-front (take 6 f) (take 6 (drop 6 f)) (take n (drop 12 f)) q, ← eh, p)
-
-  pub c-whole : (h : ℕ) → rh ≡ Bytes h → got (fieldsIn f (record { dst = 0; label = n; header = 14 + n; size = h; content = 14 + n + h })) ≡ compactBehind f n
-  unfolding compactBehind andThen
-  c-whole h i =
-      ap got (sym (compact-places f n h))
-      ∙ rw (← eq, tail-front (take 6 f) (take 6 (drop 6 f)) (take n (drop 12 f)) q, ← eh, i)
-
--- up to the label
-module _ (f : List ℕ) (long : 12 ≤ length f) (t : List ℕ) (et : t ≡ drop 12 f) (rn : Size) (en : sizeAs rn ≡ labelLength t) where
-  addresses-in : compact f ≡ andThen (labelLength (drop 12 f)) λ n. compactBehind f n
-  unfolding compact compactBehind check
+module _ (f : List ℕ) (long : 12 ≤ length f) where
+  addresses-in : compact f ≡ andThen (labelLength (drop 12 f)) λ n. compactAfter (take 6 f) (take 6 (drop 6 f)) (take n (drop 12 f)) (drop n (drop 12 f))
+  unfolding compact check
   addresses-in =
       let six : 6 ≤ length (drop 6 f) = simp length-drop (omega arith) in
       rw (le-leb 6 (length f) (omega arith), le-leb 6 (length (drop 6 f)) six, drop-drop 6 6 f)
-      (λ i. andThen (labelLength (drop 12 f)) λ n. compactRest (take 6 f) (take 6 (drop 6 f)) (take n (drop 12 f)) (drop-drop n 12 f i))
 
-  pub c-label : (e : ℕ) → rn ≡ Refused e → refused e ≡ compact f
-  unfolding andThen
-  c-label e p = rw (addresses-in, ← et, size-refused rn _ e p en)
+  module _ (t : List ℕ) (et : t ≡ drop 12 f) (rn : Length) (en : lengthAs rn ≡ labelLength t) where
+    pub label-refused : (e : ℕ) → rn ≡ Refused e → refused e ≡ compact f
+    unfolding andThen
+    label-refused e p = rw (addresses-in, ← et, length-refused rn _ e p en)
 
-  pub c-behind : (n : ℕ) → rn ≡ Bytes n → (x : Parsed) → parsedAs f x ≡ compactBehind f n → parsedAs f x ≡ compact f
-  unfolding andThen
-  c-behind n p x q = rw (addresses-in, ← et, size-bytes rn _ n p en) q
+    pub label-got : (n : ℕ) → rn ≡ Bytes n → labelLength (drop 12 f) ≡ got n
+    label-got n p = rw (← et) (length-bytes rn _ n p en)
 
--- the lengths that were read stay within the frame
-pub tail-bound : (n : ℕ) (r : Size) → tailWithin n r → (h : ℕ) → r ≡ Bytes h → h + 2 ≤ n
-tail-bound n r w h e = rw e at w
+  module _ (n : ℕ) (label : labelLength (drop 12 f) ≡ got n) where
+    pub after-room : 12 + n ≤ length f
+    after-room =
+        let d = length-drop 12 f in
+        let h = label-fits (drop 12 f) n (label-is (drop 12 f) n label) in
+        omega arith
+
+    -- ---- after it
+
+    module _ (l : List ℕ) (el : l ≡ drop (12 + n) f) where
+      after-label : compact f ≡ compactAfter (take 6 f) (take 6 (drop 6 f)) (take n (drop 12 f)) l
+      unfolding andThen
+      after-label = rw (addresses-in, label, drop-drop n 12 f, el)
+
+      pub type-cut : length l < 2 → refused 6 ≡ compact f
+      unfolding compactAfter check
+      type-cut p = rw (after-label, lt-leb 2 (length l) p)
+
+      module _ (two : 2 ≤ length l) (x : Bool) (ex : x ≡ isTrill l) where
+        pub type-bad : x ≡ false → refused 4 ≡ compact f
+        unfolding compactAfter check
+        type-bad p = rw (after-label, le-leb 2 (length l) two, ← ex, p)
+
+        module _ (ty : x ≡ true) (g : List ℕ) (eg : g ≡ drop 2 l) (rh : Length) (eh : lengthAs rh ≡ headerLength inner g) where
+          pub header-refused : (e : ℕ) → rh ≡ Refused e → refused e ≡ compact f
+          unfolding compactAfter check andThen
+          header-refused e p = rw (after-label, le-leb 2 (length l) two, ← ex, ty, ← eg, length-refused rh _ e p eh)
+
+          module _ (h : ℕ) (q : List ℕ) (ih : rh ≡ Bytes h) (eq : q ≡ drop h g) where
+            pub content-cut : length q < 2 → refused 6 ≡ compact f
+            unfolding compactAfter check andThen
+            content-cut p = rw (after-label, le-leb 2 (length l) two, ← ex, ty, ← eg, length-bytes rh _ h ih eh, ← eq, lt-leb 2 (length q) p)
+
+            pub compact-whole : 2 ≤ length q → got (fieldsIn f (record { «dst_offset» = 0; «label_length» = n; «header_offset» = 12 + n + 2; «header_length» = h; «content_offset» = 12 + n + 2 + h })) ≡ compact f
+            unfolding compactAfter check andThen
+            compact-whole p =
+                rw (after-label, le-leb 2 (length l) two, ← ex, ty, ← eg, length-bytes rh _ h ih eh, ← eq, le-leb 2 (length q) p, eq, eg, el, drop-drop 2 (12 + n) f, drop-drop h (12 + n + 2) f)

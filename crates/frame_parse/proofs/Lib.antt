@@ -1,4 +1,4 @@
 pub mod General
 pub mod Compact
+pub mod Located
 pub mod Outcomes
-pub mod Places

@@ -24,7 +24,7 @@ use Rattle.frame.specs.Settings.{addressesGood, secondsGood, numbersGood, setti
 use Rattle.frame.specs.Front.{trillGroup, frontRefused, frontOf}
 use Rattle.frame.specs.Header.{headerLength}
 use Rattle.frame.specs.Labels.{labelLength}
-use Rattle.frame.specs.Formats.{outerLength, generalRest, general, sizeGood}
+use Rattle.frame.specs.Formats.{outerLength, generalAfter, general, frameLengthGood}
 use Rattle.convert.specs.Compaction.{compactBytes, staysGeneral, generalOnly, generalFields, compacting, written, compacted}
 use Rattle.promises.specs.Cases.{Case, Holds, AllHold, records, p1, p1Entry, flushCases, meaningCases, compactionCases, vlansFrom, finesFrom, noLabel, Cases}
 
@@ -88,7 +88,7 @@ meanings-hold = (
 )
 
 compactions-hold : AllHold compactionCases
-unfolding pick both either between check andThen settled num bytesOf startsWith laid individual nicknameGood vlanGood addressesGood secondsGood numbersGood settingsGood trillGroup frontRefused frontOf headerLength labelLength outerLength generalRest general sizeGood compactBytes staysGeneral generalOnly generalFields compacting written compacted
+unfolding pick both either between check andThen settled num bytesOf startsWith laid individual nicknameGood vlanGood addressesGood secondsGood numbersGood settingsGood trillGroup frontRefused frontOf headerLength labelLength outerLength generalAfter general frameLengthGood compactBytes staysGeneral generalOnly generalFields compacting written compacted
 compactions-hold = (refl, (refl, tt))
 
 all-append : (xs ys : List Case) → AllHold xs → AllHold ys → AllHold (xs ++ ys)

@@ -19,12 +19,12 @@ use Rattle.frame.specs.Front.{trillGroup, frontRefused, frontOf}
 use Rattle.frame.specs.Header.{headerLength}
 use Rattle.frame.specs.Labels.{labelLength, labelRead}
 use Rattle.frame.specs.Fields.{nativeBytes}
-use Rattle.frame.specs.Formats.{outerLength, generalRest, general, compactRest, compact, sizeGood, byFront, parsed}
+use Rattle.frame.specs.Formats.{outerLength, generalAfter, general, compactAfter, compact, frameLengthGood, byFront, parsed}
 use Rattle.convert.specs.Compaction.{compactBytes, staysGeneral, generalOnly, generalFields, compacting, compacted}
 use Rattle.convert.specs.Claims.{converted}
 use Rattle.convert.proofs.Areas.{writes}
 use Rattle.receive.specs.Deciding.{ingressAllowed, nicknamesGood, isOnward}
-use Rattle.receive.specs.Receive.{lesson, delivery, acted, reading, receivedWith, received}
+use Rattle.receive.specs.Receive.{learnedEntry, delivery, acted, reading, receivedWith, received}
 use Rattle.promises.specs.Cases.{farPort, p10Compact}
 use Rattle.promises.specs.Interchange.{Call, read, age, lookup, spoilt, called, run, workingArea, frameOr, compactedCall, compactedWhere}
 use Rattle.promises.specs.Example.{p10Frame, outBefore, later, generalCalls, compactCalls, seen, InterchangeExample}
@@ -34,7 +34,7 @@ unfolding workingArea
 area-length = length-replicate {A = ℕ} 9204 0
 
 p10-compacting : compacting farPort p10Frame ≡ got p10Compact
-unfolding pick both either between check andThen num startsWith individual nicknameGood vlanGood addressesGood secondsGood numbersGood settingsGood trillGroup frontRefused frontOf headerLength labelLength outerLength generalRest general sizeGood compactBytes staysGeneral generalOnly generalFields compacting
+unfolding pick both either between check andThen num startsWith individual nicknameGood vlanGood addressesGood secondsGood numbersGood settingsGood trillGroup frontRefused frontOf headerLength labelLength outerLength generalAfter general frameLengthGood compactBytes staysGeneral generalOnly generalFields compacting
 p10-compacting = refl
 
 p10-converted : converted (compacted farPort p10Frame workingArea) ≡ got p10Compact
@@ -46,7 +46,7 @@ unfolding compactedWhere compactedCall pick
 replaced = ap (λ r. read (frameOr p10Frame r) outBefore ∷ later) p10-converted
 
 both-run : (run farPort freed generalCalls ≡ seen) × (run farPort freed compactCalls ≡ seen)
-unfolding pick both either anyOf between check andThen settled num bytesOf startsWith laid individual nicknameGood vlanGood labelFrom entryOf entryGood held slotOf unpacked recordNumber packed entryMatches tableGood onSlots firstSlot lowest holds placeOf nicknameAt lookedUp agedSlot aged spoiltSlot spoiltAt lowestSpoilt overMatch freeSlot intoFree learnedAt learnt addressesGood secondsGood numbersGood settingsGood trillGroup frontRefused frontOf headerLength labelLength labelRead nativeBytes outerLength generalRest general compactRest compact sizeGood byFront parsed ingressAllowed nicknamesGood isOnward lesson delivery acted reading receivedWith received called run
+unfolding pick both either anyOf between check andThen settled num bytesOf startsWith laid individual nicknameGood vlanGood labelFrom entryOf entryGood held slotOf unpacked recordNumber packed entryMatches tableGood onSlots firstSlot lowest holds placeOf nicknameAt lookedUp agedSlot aged spoiltSlot spoiltAt lowestSpoilt overMatch freeSlot intoFree learnedAt learnt addressesGood secondsGood numbersGood settingsGood trillGroup frontRefused frontOf headerLength labelLength labelRead nativeBytes outerLength generalAfter general compactAfter compact frameLengthGood byFront parsed ingressAllowed nicknamesGood isOnward learnedEntry delivery acted reading receivedWith received called run
 both-run = (refl, refl)
 
 -- the first frames have 40 and 28 bytes

@@ -17,13 +17,13 @@ use Rattle.table.specs.Slots.{tableGood}
 use Rattle.flush.specs.Payload.{everyType, corrupt, nickBytes, blockCount, behind, blockBytes, piecesOf, Payload, made, payloadOf}
 use Rattle.flush.specs.Flush.{slotMeant, clearedBy, clearing}
 use Rattle.frame.specs.Settings.{settingsGood, compactOn, defaultLife}
-use Rattle.frame.specs.Front.{trillGroup, addressIn, Front, unicast, multicast, refusedFront, inner, frontOf}
-use Rattle.frame.specs.Header.{versionOf, multicastOf, hopCount, ingressOf, headerBytes, agrees, headerLength}
-use Rattle.frame.specs.Labels.{isTrill, isTag, isFine, isChannel, low12, labelLength}
-use Rattle.frame.specs.Fields.{Fields, nativeBytes}
-use Rattle.frame.specs.Formats.{sizeGood, outerLength, generalRest, general, compactRest, compact, byFront, parsed}
+use Rattle.frame.specs.Front.{trillGroup, addressBytes, addressesBytes, addressIn, Front, unicast, multicast, refusedFront, inner, frontOf}
+use Rattle.frame.specs.Header.{versionOf, multicastOf, hopCount, ingressOf, fixedBytes, headerBytes, agrees, headerLength}
+use Rattle.frame.specs.Labels.{ethertypeBytes, tagBytes, fineBytes, isTrill, isTag, isFine, isChannel, low12, labelLength}
+use Rattle.frame.specs.Fields.{Fields, leastContent, nativeBytes}
+use Rattle.frame.specs.Formats.{taggedAddresses, untaggedOuter, taggedOuter, frameLengthGood, outerLength, generalAfter, general, compactAfter, compact, byFront, parsed}
 use Rattle.frame.specs.declared.Settings.{Settings}
-use Rattle.receive.specs.Deciding.{nicknamesGood, isOnward, channelProtocol, channelPayload, flushProtocol, channelGood}
+use Rattle.receive.specs.Deciding.{nicknamesGood, isOnward, channelBytes, channelProtocol, channelPayload, flushProtocol, channelGood}
 use Rattle.receive.specs.Receive.{flushedWith, delivery, channel, acted, reading, receivedWith, received}
 use Rattle.receive.specs.Order.{Row, unless, when, firstOf, Outcome, outerRows, outerEnd, headerRows, addressRows, labelRows, labelEnd, trillRows, contentRows, generalRows, generalParts, compactRows, compactParts, frontRows, frontParts, isGot, channelRows, flushesAll, nativeRows, delivers, actedOn, readInOrder, ReadsExactly}
 use Rattle.receive.specs.declared.ReadAnswer.{ReadAnswer}
@@ -51,11 +51,11 @@ then-check false n r k = refl
 
 outer-rows : (f : List ℕ) (k : ℕ → Outcome) → andThen (outerLength f) k ≡ firstOf (outerRows f) (k (outerEnd f))
 unfolding outerLength andThen check firstOf pick
-outer-rows f k = go (leb 14 (length f)) (isTag (drop 12 f)) (leb 16 (length f)) (leb 18 (length f)) (isTrill (drop 16 f)) (isTrill (drop 12 f))
+outer-rows f k = go (leb untaggedOuter (length f)) (isTag (drop addressesBytes f)) (leb taggedAddresses (length f)) (leb taggedOuter (length f)) (isTrill (drop taggedAddresses f)) (isTrill (drop addressesBytes f))
   where
     go : (a t b c d e : Bool)
-        → andThen (check a cut-short (pick t (check b cut-short (check c cut-short (check d not-trill (got 18)))) (check e not-trill (got 14)))) k
-        ≡ firstOf (unless a (refused cut-short) ∷ pick t (unless b (refused cut-short) ∷ unless c (refused cut-short) ∷ unless d (refused not-trill) ∷ []) (unless e (refused not-trill) ∷ [])) (k (pick t 18 14))
+        → andThen (check a cut-short (pick t (check b cut-short (check c cut-short (check d not-trill (got taggedOuter)))) (check e not-trill (got untaggedOuter)))) k
+        ≡ firstOf (unless a (refused cut-short) ∷ pick t (unless b (refused cut-short) ∷ unless c (refused cut-short) ∷ unless d (refused not-trill) ∷ []) (unless e (refused not-trill) ∷ [])) (k (pick t taggedOuter untaggedOuter))
     go false t b c d e = refl
     go true true false c d e = refl
     go true true true false d e = refl
@@ -66,7 +66,7 @@ outer-rows f k = go (leb 14 (length f)) (isTag (drop 12 f)) (leb 16 (length f)) 
 
 header-rows : (d : Front) (l : List ℕ) (k : ℕ → Outcome) → andThen (headerLength d l) k ≡ firstOf (headerRows d l) (k (headerBytes l))
 unfolding headerLength andThen check firstOf pick
-header-rows d l k = go (leb 6 (length l)) (eqb (versionOf l) 0) (agrees d (multicastOf l)) (leb (headerBytes l) (length l))
+header-rows d l k = go (leb fixedBytes (length l)) (eqb (versionOf l) 0) (agrees d (multicastOf l)) (leb (headerBytes l) (length l))
   where
     go : (a b c e : Bool)
         → andThen (check a cut-short (check b version-bad (check c multicast-disagrees (check e cut-short (got (headerBytes l)))))) k
@@ -79,15 +79,15 @@ header-rows d l k = go (leb 6 (length l)) (eqb (versionOf l) 0) (agrees d (multi
 
 label-rows : (l : List ℕ) (k : ℕ → Outcome) → andThen (labelLength l) k ≡ firstOf (labelRows l) (k (labelEnd l))
 unfolding labelLength andThen check firstOf pick
-label-rows l k = go (leb 2 (length l)) (isTag l) (leb 4 (length l)) (vlanGood (low12 2 l)) (isFine l) (leb 6 (length l)) (isFine (drop 4 l)) (leb 8 (length l))
+label-rows l k = go (leb ethertypeBytes (length l)) (isTag l) (leb tagBytes (length l)) (vlanGood (low12 2 l)) (isFine l) (leb (tagBytes + ethertypeBytes) (length l)) (isFine (drop tagBytes l)) (leb fineBytes (length l))
   where
     go : (a t b v f c g h : Bool)
-        → andThen (check a cut-short (pick t (check b cut-short (check v label-bad (got 4))) (check f label-bad (check b cut-short (check c cut-short (check g label-bad (check h cut-short (got 8)))))))) k
+        → andThen (check a cut-short (pick t (check b cut-short (check v label-bad (got tagBytes))) (check f label-bad (check b cut-short (check c cut-short (check g label-bad (check h cut-short (got fineBytes)))))))) k
         ≡ firstOf
         (unless a (refused cut-short)
         ∷ pick t (unless b (refused cut-short) ∷ unless v (refused label-bad) ∷ [])
         (unless f (refused label-bad) ∷ unless b (refused cut-short) ∷ unless c (refused cut-short) ∷ unless g (refused label-bad) ∷ unless h (refused cut-short) ∷ []))
-        (k (pick t 4 8))
+        (k (pick t tagBytes fineBytes))
     go false t b v f c g h = refl
     go true true false v f c g h = refl
     go true true true false f c g h = refl
@@ -99,17 +99,17 @@ label-rows l k = go (leb 2 (length l)) (isTag l) (leb 4 (length l)) (vlanGood (l
     go true false true v true true true false = refl
     go true false true v true true true true = refl
 
-content-rows : (p : Fields) (k : Fields → Outcome) → andThen (check (leb 2 (length (p .content))) cut-short (got p)) k ≡ firstOf (contentRows (p .content)) (k p)
+content-rows : (p : Fields) (k : Fields → Outcome) → andThen (check (leb leastContent (length (p .content))) cut-short (got p)) k ≡ firstOf (contentRows (p .content)) (k p)
 unfolding andThen
-content-rows p k = then-check (leb 2 (length (p .content))) cut-short (got p) k
+content-rows p k = then-check (leb leastContent (length (p .content))) cut-short (got p) k
 
 -- ---- the two formats
 
 -- two addresses, and what follows them
 address-rows : (a : List ℕ) (r : Result Fields) (k : Fields → Outcome)
-    → andThen (check (leb 6 (length a)) cut-short (check (leb 6 (length (drop 6 a))) cut-short r)) k ≡ firstOf (addressRows a) (andThen r k)
+    → andThen (check (leb addressBytes (length a)) cut-short (check (leb addressBytes (length (drop addressBytes a))) cut-short r)) k ≡ firstOf (addressRows a) (andThen r k)
 unfolding andThen check firstOf pick
-address-rows a r k = go (leb 6 (length a)) (leb 6 (length (drop 6 a)))
+address-rows a r k = go (leb addressBytes (length a)) (leb addressBytes (length (drop addressBytes a)))
   where
     go : (x y : Bool) → andThen (check x cut-short (check y cut-short r)) k ≡ firstOf (unless x (refused cut-short) ∷ unless y (refused cut-short) ∷ []) (andThen r k)
     go false y = refl
@@ -117,9 +117,9 @@ address-rows a r k = go (leb 6 (length a)) (leb 6 (length (drop 6 a)))
     go true true = refl
 
 trill-rows : (l : List ℕ) (r : Result Fields) (k : Fields → Outcome)
-    → andThen (check (leb 2 (length l)) cut-short (check (isTrill l) not-trill r)) k ≡ firstOf (trillRows l) (andThen r k)
+    → andThen (check (leb ethertypeBytes (length l)) cut-short (check (isTrill l) not-trill r)) k ≡ firstOf (trillRows l) (andThen r k)
 unfolding andThen check firstOf pick
-trill-rows l r k = go (leb 2 (length l)) (isTrill l)
+trill-rows l r k = go (leb ethertypeBytes (length l)) (isTrill l)
   where
     go : (x y : Bool) → andThen (check x cut-short (check y not-trill r)) k ≡ firstOf (unless x (refused cut-short) ∷ unless y (refused not-trill) ∷ []) (andThen r k)
     go false y = refl
@@ -132,7 +132,7 @@ module _ (xs ys : List (Row Outcome)) (last r : Outcome) where
   then-rows e = ap (firstOf xs) e ∙ sym (first-append xs ys last)
 
 general-rows : (d : Front) (f : List ℕ) (k : Fields → Outcome) → andThen (general d f) k ≡ firstOf (generalRows f d) (k (generalParts f))
-unfolding general generalRest
+unfolding general generalAfter
 general-rows d f k =
     then-then (outerLength f) _ k
     ∙ outer-rows f _
@@ -153,10 +153,10 @@ general-rows d f k =
     a = drop (headerBytes h) h
 
     l : List ℕ
-    l = drop 6 (drop 6 a)
+    l = drop addressBytes (drop addressBytes a)
 
 compact-rows : (f : List ℕ) (k : Fields → Outcome) → andThen (compact f) k ≡ firstOf (compactRows f) (k (compactParts f))
-unfolding compact compactRest
+unfolding compact compactAfter
 compact-rows f k =
     address-rows f _ k
     ∙ then-rows (addressRows f) _ _ _
@@ -170,13 +170,13 @@ compact-rows f k =
     ∙ then-rows (headerRows inner h) _ _ _ (content-rows (compactParts f) k))))
   where
     l : List ℕ
-    l = drop 6 (drop 6 f)
+    l = drop addressBytes (drop addressBytes f)
 
     y : List ℕ
     y = drop (labelEnd l) l
 
     h : List ℕ
-    h = drop 2 y
+    h = drop ethertypeBytes y
 
 front-rows : (on : Bool) (d : Front) (f : List ℕ) (k : Fields → Outcome) → andThen (byFront on d f) k ≡ firstOf (frontRows on d f) (k (frontParts d f))
 unfolding byFront andThen firstOf pick
@@ -207,7 +207,7 @@ payload-rows l k =
 module _ (s : Settings) (p : Fields) (t o : List ℕ) where
   channel-rows : channel s p t o ≡ firstOf (channelRows s p t o) (flushesAll s p t o)
   unfolding channel clearing check firstOf pick andThen
-  channel-rows = go (leb 6 (length (p .content))) (channelGood s p) (eqb (channelProtocol (p .content)) flushProtocol) _ flush-rows
+  channel-rows = go (leb channelBytes (length (p .content))) (channelGood s p) (eqb (channelProtocol (p .content)) flushProtocol) _ flush-rows
     where
       flush-rows : andThen (clearing everyType (ingressOf (p .header)) (channelPayload (p .content)) t) (λ c. got (flushedWith o c)) ≡ pick (isGot (payloadOf everyType (channelPayload (p .content)))) (flushesAll s p t o) (refused payload-corrupt)
       flush-rows = then-then (payloadOf everyType (channelPayload (p .content))) _ _ ∙ payload-rows (channelPayload (p .content)) _
@@ -249,7 +249,7 @@ module _ (s : Settings) (p : Fields) (t o : List ℕ) where
 module _ (s : Settings) (f t o : List ℕ) where
   reading-rows : reading defaultLife s (parsed s f) t o ≡ readInOrder s f t o
   unfolding reading parsed check firstOf pick andThen
-  reading-rows = go (settingsGood s) (tableGood t) (sizeGood (length f))
+  reading-rows = go (settingsGood s) (tableGood t) (frameLengthGood (length f))
     where
       d : Front
       d = frontOf s (addressIn f)

@@ -41,7 +41,7 @@ use Rattle.frame.specs.declared.Settings.{Settings}
 use Rattle.frame.proofs.Local.{labels-good}
 use Rattle.frame.proofs.Parts.{Good, general-is, compact-is}
 use Rattle.receive.specs.Deciding.{ingressAllowed, nicknamesGood, channelPayload}
-use Rattle.receive.specs.Receive.{lesson, deliveredWith, delivery, flushedWith, channel, acted, reading, receivedWith, received}
+use Rattle.receive.specs.Receive.{learnedEntry, deliveredWith, delivery, flushedWith, channel, acted, reading, receivedWith, received}
 use Rattle.receive.specs.Words.{LabelFits}
 use Rattle.receive.specs.Claims.{ReadRefusal, ReadingKeepsUnique, ReadsParsed, ReadingLeavesAlone, FlushRead, ReadFlushExact}
 use Rattle.receive.specs.declared.ReadAnswer.{ReadAnswer}
@@ -58,7 +58,7 @@ record Holds (life : ℕ) (s : Settings) (p : Fields) (t o : List ℕ) (P : OnBo
   onward : P (onBoth Onward t o)
   other : P (onBoth OtherChannel t o)
   flushes : (c : OnTable ℕ) → clearing everyType (ingressOf (p .header)) (channelPayload (p .content)) t ≡ got c → P (flushedWith o c)
-  delivers : nicknamesGood s (p .header) ≡ true → individual (num (p .src)) ≡ true → P (deliveredWith p o (learnt (lesson life s p) t))
+  delivers : nicknamesGood s (p .header) ≡ true → individual (num (p .src)) ≡ true → P (deliveredWith p o (learnt (learnedEntry life s p) t))
 
 module _ (life : ℕ) (s : Settings) (p : Fields) (t o : List ℕ) (P : OnBoth ReadAnswer → Type 0) (h : Holds life s p t o P) where
   channel-left : (a : OnBoth ReadAnswer) → channel s p t o ≡ got a → P a
@@ -154,7 +154,7 @@ fronts-good on inner f p q =
     (λ v. refused-got _ p (v .1))
     (pick-got _ _ _ _ q)
 
-pub parsed-good : (s : Settings) (f : List ℕ) (p : Fields) → parsed s f ≡ got p → Good p
+parsed-good : (s : Settings) (f : List ℕ) (p : Fields) → parsed s f ≡ got p → Good p
 unfolding parsed
 parsed-good s f p q = fronts-good (compactOn s) (frontOf s (addressIn f)) f p (check-got _ _ _ _ q .1)
 
@@ -178,9 +178,9 @@ settings-fit life s small set =
     let d = both-true (leb (s .confidence) 255) (secondsGood (s .seconds)) (c .1) in
     (leb-true (s .confidence) 255 (d .0), life-fits (s .seconds) life (eqb (s .seconds) 0) refl small (d .1))
 
-lesson-sound : (life : ℕ) (s : Settings) (p : Fields) → life < 2 ^ 13 → settingsGood s ≡ true → Good p → nicknamesGood s (p .header) ≡ true → individual (num (p .src)) ≡ true → Sound (lesson life s p)
-unfolding lesson nicknamesGood
-lesson-sound life s p small set g n i =
+learned-sound : (life : ℕ) (s : Settings) (p : Fields) → life < 2 ^ 13 → settingsGood s ≡ true → Good p → nicknamesGood s (p .header) ≡ true → individual (num (p .src)) ≡ true → Sound (learnedEntry life s p)
+unfolding learnedEntry nicknamesGood
+learned-sound life s p small set g n i =
     let d = settings-fit life s small set in
     let e = both-true (nicknameGood (egressOf (p .header))) _ n in
     let k = both-true (nicknameGood (ingressOf (p .header))) (ingressAllowed s (ingressOf (p .header))) (e .1) in
@@ -196,7 +196,7 @@ keeps-unique life s p t o small set g u = record {
   onward = u;
   other = u;
   flushes = λ c q. clearing-unique (ingressOf (p .header)) (channelPayload (p .content)) t c q u;
-  delivers = λ n i. learning-unique (lesson life s p) (lesson-sound life s p small set g n i) t u;
+  delivers = λ n i. learning-unique (learnedEntry life s p) (learned-sound life s p small set g n i) t u;
 }
 
 pub reading-unique : ReadingKeepsUnique
@@ -218,7 +218,7 @@ reading-leaves-alone s f t o =
       onward = same;
       other = same;
       flushes = λ c r. clearing-leaves-alone (ingressOf (p .header)) (channelPayload (p .content)) t c r;
-      delivers = λ n i. learning-leaves-alone (lesson defaultLife s p) t;
+      delivers = λ n i. learning-leaves-alone (learnedEntry defaultLife s p) t;
     }))
   where
     same : LeavesAlone t t

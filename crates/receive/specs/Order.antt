@@ -1,7 +1,7 @@
 -- The order of reading's refusals and answers on one page (document 01, "Numbers a caller can get"): rows from top to bottom, of which
 -- the first that applies decides. `ReadsExactly` says that the reading call is this.
 -- Assumes nothing.
-use Prim.Native.Nat.{ℕ}
+use Prim.Native.Nat.{ℕ, _+_}
 use mathlib.Core.Bool.{Bool, true, not}
 use mathlib.Core.List.{List, [], _∷_, _++_}
 use mathlib.Core.Path.{_≡_}
@@ -18,14 +18,14 @@ use Rattle.table.specs.Learning.{learnt}
 use Rattle.flush.specs.Payload.{everyType, made, payloadOf}
 use Rattle.flush.specs.Flush.{slotMeant, clearedBy}
 use Rattle.frame.specs.Settings.{settingsGood, compactOn, defaultLife}
-use Rattle.frame.specs.Front.{trillGroup, addressIn, Front, unicast, multicast, refusedFront, inner, frontOf}
-use Rattle.frame.specs.Header.{versionOf, multicastOf, hopCount, ingressOf, headerBytes, agrees}
-use Rattle.frame.specs.Labels.{isTrill, isTag, isFine, isChannel, low12}
-use Rattle.frame.specs.Fields.{Fields, nativeBytes}
-use Rattle.frame.specs.Formats.{sizeGood}
+use Rattle.frame.specs.Front.{trillGroup, addressBytes, addressesBytes, addressIn, Front, unicast, multicast, refusedFront, inner, frontOf}
+use Rattle.frame.specs.Header.{versionOf, multicastOf, hopCount, ingressOf, fixedBytes, headerBytes, agrees}
+use Rattle.frame.specs.Labels.{ethertypeBytes, tagBytes, fineBytes, isTrill, isTag, isFine, isChannel, low12}
+use Rattle.frame.specs.Fields.{Fields, leastContent, nativeBytes}
+use Rattle.frame.specs.Formats.{taggedAddresses, untaggedOuter, taggedOuter, frameLengthGood}
 use Rattle.frame.specs.declared.Settings.{Settings}
-use Rattle.receive.specs.Deciding.{nicknamesGood, isOnward, channelProtocol, channelPayload, flushProtocol, channelGood}
-use Rattle.receive.specs.Receive.{lesson, deliveredWith, flushedWith, received}
+use Rattle.receive.specs.Deciding.{nicknamesGood, isOnward, channelBytes, channelProtocol, channelPayload, flushProtocol, channelGood}
+use Rattle.receive.specs.Receive.{learnedEntry, deliveredWith, flushedWith, received}
 use Rattle.receive.specs.declared.ReadAnswer.{ReadAnswer}
 use Rattle.receive.specs.declared.ReadAnswer.the-variants.{Refused, Onward, OtherChannel}
 
@@ -54,18 +54,18 @@ there n l = leb n (length l)
 -- outer addresses, the optional tag, 22F3: a tag's Ethertype and its other two bytes are two fields
 abbrev pub outerRows : List ℕ → List (Row Outcome)
 outerRows f =
-    unless (there 14 f) (refused cut-short)
-    ∷ pick (isTag (drop 12 f))
-    (unless (there 16 f) (refused cut-short) ∷ unless (there 18 f) (refused cut-short) ∷ unless (isTrill (drop 16 f)) (refused not-trill) ∷ [])
-    (unless (isTrill (drop 12 f)) (refused not-trill) ∷ [])
+    unless (there untaggedOuter f) (refused cut-short)
+    ∷ pick (isTag (drop addressesBytes f))
+    (unless (there taggedAddresses f) (refused cut-short) ∷ unless (there taggedOuter f) (refused cut-short) ∷ unless (isTrill (drop taggedAddresses f)) (refused not-trill) ∷ [])
+    (unless (isTrill (drop addressesBytes f)) (refused not-trill) ∷ [])
 
 abbrev pub outerEnd : List ℕ → ℕ
-outerEnd f = pick (isTag (drop 12 f)) 18 14
+outerEnd f = pick (isTag (drop addressesBytes f)) taggedOuter untaggedOuter
 
 -- "7 before 12, once all six header bytes are there"; then the options
 abbrev pub headerRows : Front → List ℕ → List (Row Outcome)
 headerRows d h =
-    unless (there 6 h) (refused cut-short)
+    unless (there fixedBytes h) (refused cut-short)
     ∷ unless (eqb (versionOf h) 0) (refused version-bad)
     ∷ unless (agrees d (multicastOf h)) (refused multicast-disagrees)
     ∷ unless (there (headerBytes h) h) (refused cut-short)
@@ -73,34 +73,34 @@ headerRows d h =
 
 abbrev pub addressRows : List ℕ → List (Row Outcome)
 addressRows a =
-    unless (there 6 a) (refused cut-short)
-    ∷ unless (there 6 (drop 6 a)) (refused cut-short)
+    unless (there addressBytes a) (refused cut-short)
+    ∷ unless (there addressBytes (drop addressBytes a)) (refused cut-short)
     ∷ []
 
 -- a VLAN label, or a fine-grained one
 abbrev pub labelRows : List ℕ → List (Row Outcome)
 labelRows l =
-    unless (there 2 l) (refused cut-short)
+    unless (there ethertypeBytes l) (refused cut-short)
     ∷ pick (isTag l)
-    (unless (there 4 l) (refused cut-short) ∷ unless (vlanGood (low12 2 l)) (refused label-bad) ∷ [])
+    (unless (there tagBytes l) (refused cut-short) ∷ unless (vlanGood (low12 2 l)) (refused label-bad) ∷ [])
     (unless (isFine l) (refused label-bad)
-    ∷ unless (there 4 l) (refused cut-short)
-    ∷ unless (there 6 l) (refused cut-short)
-    ∷ unless (isFine (drop 4 l)) (refused label-bad)
-    ∷ unless (there 8 l) (refused cut-short)
+    ∷ unless (there tagBytes l) (refused cut-short)
+    ∷ unless (there (tagBytes + ethertypeBytes) l) (refused cut-short)
+    ∷ unless (isFine (drop tagBytes l)) (refused label-bad)
+    ∷ unless (there fineBytes l) (refused cut-short)
     ∷ [])
 
 abbrev pub labelEnd : List ℕ → ℕ
-labelEnd l = pick (isTag l) 4 8
+labelEnd l = pick (isTag l) tagBytes fineBytes
 
 abbrev pub trillRows : List ℕ → List (Row Outcome)
 trillRows l =
-    unless (there 2 l) (refused cut-short)
+    unless (there ethertypeBytes l) (refused cut-short)
     ∷ unless (isTrill l) (refused not-trill)
     ∷ []
 
 abbrev pub contentRows : List ℕ → List (Row Outcome)
-contentRows c = unless (there 2 c) (refused cut-short) ∷ []
+contentRows c = unless (there leastContent c) (refused cut-short) ∷ []
 
 -- ---- the two formats
 
@@ -113,7 +113,7 @@ module _ (f : List ℕ) where
   generalAddresses = drop (headerBytes generalHeader) generalHeader
 
   abbrev pub generalLabel : List ℕ
-  generalLabel = drop 6 (drop 6 generalAddresses)
+  generalLabel = drop addressBytes (drop addressBytes generalAddresses)
 
   abbrev pub generalContent : List ℕ
   generalContent = drop (labelEnd generalLabel) generalLabel
@@ -124,8 +124,8 @@ module _ (f : List ℕ) where
   abbrev pub generalParts : Fields
   generalParts = record {
     header = take (headerBytes generalHeader) generalHeader;
-    dst = take 6 generalAddresses;
-    src = take 6 (drop 6 generalAddresses);
+    dst = take addressBytes generalAddresses;
+    src = take addressBytes (drop addressBytes generalAddresses);
     label = take (labelEnd generalLabel) generalLabel;
     content = generalContent;
   }
@@ -133,13 +133,13 @@ module _ (f : List ℕ) where
 -- Compact: inner addresses, label, 22F3, header, content
 module _ (f : List ℕ) where
   abbrev pub compactLabel : List ℕ
-  compactLabel = drop 6 (drop 6 f)
+  compactLabel = drop addressBytes (drop addressBytes f)
 
   abbrev pub compactType : List ℕ
   compactType = drop (labelEnd compactLabel) compactLabel
 
   abbrev pub compactHeader : List ℕ
-  compactHeader = drop 2 compactType
+  compactHeader = drop ethertypeBytes compactType
 
   abbrev pub compactContent : List ℕ
   compactContent = drop (headerBytes compactHeader) compactHeader
@@ -150,8 +150,8 @@ module _ (f : List ℕ) where
   abbrev pub compactParts : Fields
   compactParts = record {
     header = take (headerBytes compactHeader) compactHeader;
-    dst = take 6 f;
-    src = take 6 (drop 6 f);
+    dst = take addressBytes f;
+    src = take addressBytes (drop addressBytes f);
     label = take (labelEnd compactLabel) compactLabel;
     content = compactContent;
   }
@@ -187,7 +187,7 @@ module _ (s : Settings) (p : Fields) (t o : List ℕ) where
   -- content 8946: a channel frame
   abbrev pub channelRows : List (Row Outcome)
   channelRows =
-      unless (there 6 (p .content)) (refused cut-short)
+      unless (there channelBytes (p .content)) (refused cut-short)
       ∷ unless (channelGood s p) (refused channel-bad)
       ∷ unless (eqb (channelProtocol (p .content)) flushProtocol) (got (onBoth OtherChannel t o))
       ∷ unless (isGot (payloadOf everyType (channelPayload (p .content)))) (refused payload-corrupt)
@@ -204,7 +204,7 @@ module _ (s : Settings) (p : Fields) (t o : List ℕ) where
       ∷ []
 
   abbrev pub delivers : Outcome
-  delivers = got (deliveredWith p o (learnt (lesson defaultLife s p) t))
+  delivers = got (deliveredWith p o (learnt (learnedEntry defaultLife s p) t))
 
   abbrev pub actedOn : Outcome
   actedOn =
@@ -220,7 +220,7 @@ readInOrder s f t o =
     firstOf
     (unless (settingsGood s) (refused settings-bad)
     ∷ unless (tableGood t) (refused table-length-bad)
-    ∷ unless (sizeGood (length f)) (refused frame-length-bad)
+    ∷ unless (frameLengthGood (length f)) (refused frame-length-bad)
     ∷ frontRows (compactOn s) (frontOf s (addressIn f)) f)
     (actedOn s (frontParts (frontOf s (addressIn f)) f) t o)
 

@@ -29,9 +29,9 @@ use Rattle.receive.specs.Deciding.{nicknamesGood, isOnward, channelBytes
 use Rattle.receive.specs.declared.ReadAnswer.{ReadAnswer}
 use Rattle.receive.specs.declared.ReadAnswer.the-variants.{Refused, Onward, Delivered, OtherChannel, Flushed}
 
--- what a delivered frame teaches: its source is behind its ingress nickname
-unfoldable pub lesson : ℕ → Settings → Fields → Entry
-lesson life s p = record {
+-- the entry learned of a delivered frame: its source is reached through its ingress nickname
+unfoldable pub learnedEntry : ℕ → Settings → Fields → Entry
+learnedEntry life s p = record {
   label = labelRead (p .label);
   mac = num (p .src);
   nickname = ingressOf (p .header);
@@ -48,7 +48,7 @@ unfoldable pub delivery : ℕ → Settings → Fields → List ℕ → List ℕ 
 delivery life s p t o =
     check (not (trillGroup (num (p .dst)))) not-channel
     (check (leb (length (nativeBytes p)) (length o)) area-short
-    (got (deliveredWith p o (learnt (lesson life s p) t))))
+    (got (deliveredWith p o (learnt (learnedEntry life s p) t))))
 
 abbrev pub flushedWith : List ℕ → OnTable ℕ → OnBoth ReadAnswer
 flushedWith o c = onBoth (Flushed (c .answer)) (c .table) o

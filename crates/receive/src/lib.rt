@@ -18,6 +18,24 @@ pub enum ReadAnswer {
     Flushed(u16),
 }
 
+// The channel header: its length, the offsets of its words, and in these, from the low bit on, protocol 12 bits and version 4, and ERR 4.
+pub const CHANNEL_BYTES: usize = 6;
+
+pub const CHANNEL_PROTOCOL_OFFSET: usize = 2;
+
+pub const CHANNEL_ERROR_OFFSET: usize = 4;
+
+pub const CHANNEL_PROTOCOL_VALUES: u64 = 0x1000;
+
+pub const CHANNEL_VERSION_BIT: u64 = 0x1000;
+
+pub const CHANNEL_VERSION_VALUES: u64 = 0x10;
+
+pub const CHANNEL_ERROR_VALUES: u64 = 0x10;
+
+// The protocol of Address Flush.
+pub const FLUSH_PROTOCOL: u64 = 0x009;
+
 // What holds of the definition of reading.
 pub fn claims()
     ensures { λ _. ⌜ ReadRefusal × ReadingKeepsUnique × ReadsParsed × ReadingLeavesAlone × ReadFlushExact × ReadsExactly ⌝ }

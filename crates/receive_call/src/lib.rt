@@ -1,12 +1,14 @@
 // Reading a frame: the order of the refusals, and what the fields lead to.
+ghost use mathlib.Core.Bool.{true};
 ghost use mathlib.Core.Path.{_≡_};
 ghost use Rattle.numbers.specs.Result.{settled};
 ghost use Rattle.numbers.specs.After.{onBoth};
-ghost use Rattle.frame.specs.Settings.{defaultLife};
+ghost use Rattle.table.specs.Slots.{tableGood};
+ghost use Rattle.frame.specs.Settings.{settingsGood, defaultLife};
 ghost use Rattle.receive.specs.Receive.{acted, received};
 ghost use Rattle.receive.specs.declared.ReadAnswer.the-variants as answer;
-ghost use Rattle.frame_parse.specs.Meaning.{fieldsIn};
-ghost use Rattle.receive_call.specs.Meaning.{Read};
+ghost use Rattle.frame_parse.specs.Meaning.{fieldsIn, PartsOf};
+use frame::CHANNEL_ETHERTYPE;
 use frame::Settings;
 use frame_parse::Parsed;
 use frame_parse::Parts;
@@ -17,15 +19,15 @@ use receive_decide::Step;
 
 // Acts on the fields of a frame.
 fn act(s: Settings, f: &[u8], p: Parts, table: &mut [u8], out: &mut [u8]) -> ReadAnswer
-    requires { ⌜ Read s (now f) p (now table) ⌝ }
+    requires { ⌜ (settingsGood s ≡ true) × ((tableGood (now table) ≡ true) × PartsOf (now f) p) ⌝ }
     ensures { λ r. ⌜ onBoth r (now (table .exit)) (now (out .exit)) ≡ settled (λ n. onBoth (answer.Refused n) (now (table .entry)) (now (out .entry))) (acted defaultLife s (fieldsIn (now (f .entry)) p) (now (table .entry)) (now (out .entry))) ⌝ }
 {
-    let v = receive_decide::read_view(f, p);
-    let channel = frame_fields::starts_with(f, p.content, 0x89, 0x46);
+    let v = receive_decide::read_values(f, p);
+    let channel = frame_fields::has_ethertype(f, p.content_offset, CHANNEL_ETHERTYPE);
     match receive_decide::decide(s, v, channel) {
         Step::Refused(n) => ReadAnswer::Refused(n),
         Step::Onward => ReadAnswer::Onward,
-        Step::Channel => receive_channel::obey(s, v, f, p, table),
+        Step::Channel => receive_channel::handle(s, v, f, p, table),
         Step::Native => receive_deliver::deliver(s, v, f, p, table, out),
     }
 }

@@ -5,17 +5,19 @@ ghost use Rattle.numbers.specs.After.{OnBoth};
 ghost use Rattle.frame.specs.Fields.{Fields};
 ghost use Rattle.frame.specs.Labels.{isChannel};
 ghost use Rattle.receive.specs.declared.ReadAnswer.{ReadAnswer};
-ghost use Rattle.frame_parse.specs.Meaning.{fieldsIn};
-ghost use Rattle.receive_decide.specs.Meaning.{Inside, Viewed, deciding, stepAs, nicknamesOf, onwardOf};
+ghost use Rattle.frame_parse.specs.Meaning.{fieldsIn, PartsOf};
+ghost use Rattle.receive_decide.specs.Meaning.{ValuesOf, deciding, stepAs, nicknamesOf, onwardOf};
+use frame::ADDRESS_BYTES;
 use frame::Settings;
 use frame_parse::Parts;
 use numbers::refusals::HOPS_SPENT;
 use numbers::refusals::NICKNAME_BAD;
 use numbers::refusals::SOURCE_GROUP;
 
-// The numbers that are read of a frame once: the header's first word and nicknames, the inner addresses.
-pub struct View {
-    pub first: u64,
+// The values of a frame's fields, each read once: of the header M, hop count and nicknames, and the inner addresses.
+pub struct FieldValues {
+    pub multicast: u64,
+    pub hops: u64,
     pub egress: u64,
     pub ingress: u64,
     pub dst: u64,
@@ -29,19 +31,20 @@ pub enum Step {
     Native,
 }
 
-// Reads those numbers.
-pub fn read_view(f: &[u8], p: Parts) -> View
-    requires { ⌜ Inside (now f) p ⌝ }
-    ensures { λ r. ⌜ Viewed (fieldsIn (now (f .entry)) p) r ⌝ }
+// Reads them.
+pub fn read_values(f: &[u8], p: Parts) -> FieldValues
+    requires { ⌜ PartsOf (now f) p ⌝ }
+    ensures { λ r. ⌜ ValuesOf (fieldsIn (now (f .entry)) p) r ⌝ }
 {
-    let h = p.header;
-    let d = p.dst;
-    View {
-        first: numbers::be2(f, h),
-        egress: numbers::be2(f, h + 2),
-        ingress: numbers::be2(f, h + 4),
+    let h = p.header_offset;
+    let d = p.dst_offset;
+    FieldValues {
+        multicast: frame_fields::multicast(f, h),
+        hops: frame_fields::hop_count(f, h),
+        egress: frame_fields::egress(f, h),
+        ingress: frame_fields::ingress(f, h),
         dst: numbers::be6(f, d),
-        src: numbers::be6(f, d + 6),
+        src: numbers::be6(f, d + ADDRESS_BYTES),
     }
 }
 
@@ -54,17 +57,17 @@ fn nicknames_good(nickname: u32, egress: u64, ingress: u64) -> bool
 }
 
 // M is 0 and egress is not our nickname.
-fn is_onward(nickname: u32, first: u64, egress: u64) -> bool
-    ensures { λ r. ⌜ r ≡ onwardOf nickname first egress ⌝ }
+fn is_onward(nickname: u32, multicast: u64, egress: u64) -> bool
+    ensures { λ r. ⌜ r ≡ onwardOf nickname multicast egress ⌝ }
 {
-    (first / 0x800 % 2 == 0) & (egress != nickname as u64)
+    (multicast == 0) & (egress != nickname as u64)
 }
 
 // The decision, `channel` being whether the content starts 8946.
-pub fn decide(s: Settings, v: View, channel: bool) -> Step
-    ensures { λ r. ⌜ ((p : Fields) → Viewed p v → channel ≡ isChannel (p .content) → (a b c : Result (OnBoth ReadAnswer)) → stepAs r a b c ≡ deciding s p a b c) ⌝ }
+pub fn decide(s: Settings, v: FieldValues, channel: bool) -> Step
+    ensures { λ r. ⌜ ((p : Fields) → ValuesOf p v → channel ≡ isChannel (p .content) → (a b c : Result (OnBoth ReadAnswer)) → stepAs r a b c ≡ deciding s p a b c) ⌝ }
 {
-    if v.first % 0x40 == 0 {
+    if v.hops == 0 {
         return Step::Refused(HOPS_SPENT);
     }
     if !nicknames_good(s.nickname, v.egress, v.ingress) {
@@ -73,7 +76,7 @@ pub fn decide(s: Settings, v: View, channel: bool) -> Step
     if !numbers::is_individual(v.src) {
         return Step::Refused(SOURCE_GROUP);
     }
-    if is_onward(s.nickname, v.first, v.egress) {
+    if is_onward(s.nickname, v.multicast, v.egress) {
         return Step::Onward;
     }
     if channel {

@@ -1,42 +1,54 @@
 // Delivering a frame: 13, 16; the native frame is written and its source learned.
-ghost use Prim.Native.Nat.{_+_, _-_, _^_, _<_, _≤_};
+ghost use Prim.Native.Nat.{_^_, _<_, _≤_};
 ghost use mathlib.Core.Bool.{true};
 ghost use mathlib.Core.Path.{_≡_};
 ghost use lib.Dec.{eqb};
-ghost use lib.ListN.{length, drop};
+ghost use lib.ListN.{length};
 ghost use Rattle.numbers.specs.Tests.{pick};
 ghost use Rattle.numbers.specs.Result.{settled};
 ghost use Rattle.numbers.specs.After.{onBoth};
 ghost use Rattle.numbers.specs.Bytes.{laid};
 ghost use Rattle.table.specs.Record.{labelNumber};
-ghost use Rattle.table_records.specs.Halves.{Fits};
+ghost use Rattle.table_records.specs.Entries.{Fits};
 ghost use Rattle.frame.specs.Fields.{nativeBytes};
 ghost use Rattle.frame.specs.Labels.{labelRead};
 ghost use Rattle.frame.specs.Settings.{settingsGood, defaultLife};
 ghost use Rattle.receive.specs.Receive.{delivery};
 ghost use Rattle.receive.specs.declared.ReadAnswer.the-variants as answer;
-ghost use Rattle.frame_parse.specs.Meaning.{fieldsIn};
-ghost use Rattle.receive_decide.specs.Meaning.{LabelAt, Inside};
-ghost use Rattle.receive_deliver.specs.Meaning.{lessonOf, Deliverable};
+ghost use Rattle.frame_parse.specs.Meaning.{fieldsIn, PartsOf};
+ghost use Rattle.receive_decide.specs.Meaning.{ValuesOf};
+ghost use Rattle.receive_deliver.specs.Meaning.{learnedOf, nativeLength};
+use frame::ADDRESSES_BYTES;
+use frame::DEFAULT_LIFE_SECONDS;
+use frame::ETHERTYPE_BYTES;
+use frame::LABEL_PART;
 use frame::Settings;
+use frame::TAG_BYTES;
 use frame_parse::Parts;
 use numbers::refusals::AREA_SHORT;
 use numbers::refusals::NOT_CHANNEL;
 use receive::ReadAnswer;
-use receive_decide::View;
+use receive_decide::FieldValues;
 use table::Entry;
 use table::Label;
 
-// The label at a place.
-fn label_at(f: &[u8], k: usize) -> Label
-    requires { ⌜ LabelAt (now f) k ⌝ }
-    ensures { λ r. ⌜ (r ≡ labelRead (drop k (now (f .entry)))) × (labelNumber r < 2 ^ 24) ⌝ }
+// The 12 bits of a tag's number start here in a label, and the low 12 of a fine-grained label.
+const PART_OFFSET: usize = ETHERTYPE_BYTES;
+
+const LOW_PART_OFFSET: usize = TAG_BYTES + ETHERTYPE_BYTES;
+
+// The label of a frame.
+fn label_of(f: &[u8], p: Parts) -> Label
+    requires { ⌜ PartsOf (now f) p ⌝ }
+    ensures { λ r. ⌜ (r ≡ labelRead (fieldsIn (now (f .entry)) p .label)) × (labelNumber r < 2 ^ 24) ⌝ }
 {
-    let a = numbers::be2(f, k + 2) % 0x1000;
-    if frame_fields::starts_with(f, k, 0x81, 0x00) {
-        return Label::Vlan(a as u16);
+    let k = p.dst_offset + ADDRESSES_BYTES;
+    let high = frame_fields::label_part(f, k + PART_OFFSET);
+    if p.label_length == TAG_BYTES {
+        return Label::Vlan(high as u16);
     }
-    Label::Fine((a * 0x1000 + numbers::be2(f, k + 6) % 0x1000) as u32)
+    let low = frame_fields::label_part(f, k + LOW_PART_OFFSET);
+    Label::Fine((high * LABEL_PART + low) as u32)
 }
 
 // The seconds that a learned record gets.
@@ -44,15 +56,15 @@ fn life_of(seconds: u32) -> u32
     ensures { λ r. ⌜ r ≡ pick (eqb seconds 0) defaultLife seconds ⌝ }
 {
     if seconds == 0 {
-        return 300;
+        return DEFAULT_LIFE_SECONDS;
     }
     seconds
 }
 
-// What a frame teaches.
-fn lesson(s: Settings, label: Label, mac: u64, nickname: u64) -> Entry
+// The entry learned of a frame with this label, source and ingress nickname.
+fn learned_entry(s: Settings, label: Label, mac: u64, nickname: u64) -> Entry
     requires { ⌜ (settingsGood s ≡ true) × ((labelNumber label < 2 ^ 24) × ((mac < 2 ^ 48) × (nickname < 2 ^ 16))) ⌝ }
-    ensures { λ r. ⌜ (r ≡ lessonOf s label mac nickname) × Fits r ⌝ }
+    ensures { λ r. ⌜ (r ≡ learnedOf s label mac nickname) × Fits r ⌝ }
 {
     Entry {
         label: label,
@@ -65,35 +77,36 @@ fn lesson(s: Settings, label: Label, mac: u64, nickname: u64) -> Entry
 
 // Writes the native frame to the start of the output area.
 fn write_native(f: &[u8], p: Parts, out: &mut [u8])
-    requires { ⌜ Inside (now f) p × ((length (now f) ≤ 9216) × (12 + (length (now f) - p .content) ≤ length (now out))) ⌝ }
+    requires { ⌜ PartsOf (now f) p × (nativeLength (length (now f)) p ≤ length (now out)) ⌝ }
     ensures { λ _. ⌜ now (out .exit) ≡ laid (nativeBytes (fieldsIn (now (f .entry)) p)) (now (out .entry)) ⌝ }
 {
-    frame_copy::copy_12(frame_copy::part(f, p.dst, 12), out, 0);
-    frame_copy::copy_block(frame_fields::rest(f, p.content), out, 12);
+    frame_copy::copy_block(frame_copy::part(f, p.dst_offset, ADDRESSES_BYTES), out, 0);
+    let content = frame_fields::after(f, p.content_offset);
+    frame_copy::copy_block(content, out, ADDRESSES_BYTES);
 }
 
 // Delivers a frame that is neither onward nor a channel frame.
 pub fn deliver(
     s: Settings,
-    v: View,
+    v: FieldValues,
     f: &[u8],
     p: Parts,
     table: &mut [u8],
     out: &mut [u8],
 ) -> ReadAnswer
-    requires { ⌜ Deliverable s (now f) p v ⌝ }
+    requires { ⌜ (settingsGood s ≡ true) × (PartsOf (now f) p × ValuesOf (fieldsIn (now f) p) v) ⌝ }
     ensures { λ r. ⌜ onBoth r (now (table .exit)) (now (out .exit)) ≡ settled (λ n. onBoth (answer.Refused n) (now (table .entry)) (now (out .entry))) (delivery defaultLife s (fieldsIn (now (f .entry)) p) (now (table .entry)) (now (out .entry))) ⌝ }
 {
     if frame_fields::is_trill_group(v.dst) {
         return ReadAnswer::Refused(NOT_CHANNEL);
     }
-    let n = 12 + (f.len() - p.content);
+    let n = ADDRESSES_BYTES + (f.len() - p.content_offset);
     if out.len() < n {
         return ReadAnswer::Refused(AREA_SHORT);
     }
-    let label = label_at(f, p.dst + 12);
+    let label = label_of(f, p);
     write_native(f, p, out);
-    let how = table_learning::learn(lesson(s, label, v.src, v.ingress), table);
+    let how = table_learning::learn(learned_entry(s, label, v.src, v.ingress), table);
     ReadAnswer::Delivered {
         learning: how,
         length: n as u16,

@@ -2,16 +2,17 @@
 -- Assumes nothing.
 use Prim.Native.Nat.{ℕ, _+_, _*_, _<_, _≤_}
 use mathlib.Core.List.{List}
-use mathlib.Core.Path.{_≡_, sym, ap, _∙_}
+use mathlib.Core.Path.{_≡_, sym, _∙_}
 use native.Mathlib.Omega.{arith}
 use lib.ListN.{length, drop}
 use borrow.Author.Tests.{lt-ltb, le-ltb}
 use Rattle.numbers.specs.Tests.{pick}
 use Rattle.numbers.specs.After.{onTable}
 use Rattle.table.specs.Learning.{putEntry, overMatch, freeSlot, intoFree, learnedAt, learnt}
-use Rattle.table.specs.Record.{recordOf, kindNumber, labelNumber, labelFrom, slotOf, unpacked, slotMatches}
+use Rattle.table.specs.Record.{kindNumber, labelNumber, labelFrom, unpacked}
 use Rattle.table.specs.Slots.{slotBytes, slotAt, lowest}
 use Rattle.table.specs.Table.{holds}
+use Rattle.table.specs.declared.Label.{Label}
 use Rattle.table.specs.declared.Entry.{Entry}
 use Rattle.table.specs.declared.Slot.{Slot}
 use Rattle.table.specs.declared.Slot.the-variants.{Free, Spoilt, Learned, Configured}
@@ -21,9 +22,9 @@ use Rattle.table.specs.declared.Learning.{Learning}
 use Rattle.table.specs.declared.Learning.the-variants as learning
 use Rattle.table.proofs.Slots.{lowest-within, lowest-hit}
 use Rattle.table.proofs.Packing.{label-back}
-use Rattle.table_records.specs.Halves.{IsHeld}
-use Rattle.table_records.proofs.Laws.{record-near, unpacked-near}
-use Rattle.table_records.proofs.Held.{match-held}
+use Rattle.table_records.specs.Entries.{IsHeld}
+use Rattle.table.proofs.Contents.{unpacked-near, holds-near}
+use Rattle.table_records.proofs.Laws.{match-held}
 
 module _ (t : List ℕ) (k : ℕ) (e : Entry) (s : Slot) (here : s ≡ unpacked (drop (slotBytes * k) t)) where
   in-slot : unpacked (slotAt k t) ≡ s
@@ -69,11 +70,10 @@ module _ (t : List ℕ) (e : Entry) (kind label : ℕ) (ek : kind ≡ kindNumber
   pub match-within : (k : ℕ) → p ≡ At k → slotBytes * k + slotBytes ≤ length t
   match-within k h = let w = lowest-within (holds (e .label) (e .mac)) t k (sym same-place ∙ h) in omega arith
 
-  pub match-good : (k : ℕ) → p ≡ At k → IsHeld (recordOf (drop (slotBytes * k) t))
-  unfolding holds unpacked
+  pub match-good : (k : ℕ) → p ≡ At k → IsHeld (drop (slotBytes * k) t)
   match-good k h =
-      let r : List ℕ = drop (slotBytes * k) t in
-      match-held (e .label) (e .mac) (recordOf r) (ap (λ (n : ℕ). slotMatches (e .label) (e .mac) (slotOf n)) (sym (record-near r)) ∙ lowest-hit (holds (e .label) (e .mac)) t k (sym same-place ∙ h))
+      let l : Label = e .label in
+      match-held l (e .mac) _ (sym (holds-near l (e .mac) (drop (slotBytes * k) t)) ∙ lowest-hit (holds l (e .mac)) t k (sym same-place ∙ h))
 
   pub learnt-over : (k : ℕ) → p ≡ At k → (r : Learning) (u : List ℕ) → onTable r u ≡ overMatch (unpacked (slotAt k t)) k e t → onTable r u ≡ learnt e t
   unfolding learnt learnedAt

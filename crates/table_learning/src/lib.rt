@@ -5,12 +5,13 @@ ghost use mathlib.Core.Path.{_≡_};
 ghost use lib.ListN.{length, drop};
 ghost use Rattle.numbers.specs.After.{onTable};
 ghost use Rattle.table.specs.Learning.{putEntry, overMatch, intoFree, learnt, freeSlot};
-ghost use Rattle.table.specs.Record.{recordOf, unpacked};
+ghost use Rattle.table.specs.Record.{unpacked};
 ghost use Rattle.table.specs.Slots.{slotBytes, slotAt, lowest};
-ghost use Rattle.table_records.specs.Halves.{IsHeld, Fits};
+ghost use Rattle.table_records.specs.Entries.{IsHeld, Fits};
 use table::Entry;
 use table::Learning;
 use table::Place;
+use table::SLOT_BYTES;
 use table::Slot;
 
 // Puts a learned entry into a slot.
@@ -18,17 +19,17 @@ fn put(e: Entry, k: usize, table: &mut [u8])
     requires { ⌜ (slotBytes * k + slotBytes ≤ length (now table)) × Fits e ⌝ }
     ensures { λ _. ⌜ now (table .exit) ≡ putEntry k e (now (table .entry)) ⌝ }
 {
-    let a = 14 * k;
-    let b = a + 14;
+    let a = SLOT_BYTES * k;
+    let b = a + SLOT_BYTES;
     table_records::pack(e, &mut table[a..b]);
 }
 
 // Learning over the slot with the same label and address, whose record is therefore good.
 fn over_match(e: Entry, k: usize, table: &mut [u8]) -> Learning
-    requires { ⌜ (slotBytes * k + slotBytes ≤ length (now table)) × (Fits e × IsHeld (recordOf (drop (slotBytes * k) (now table)))) ⌝ }
+    requires { ⌜ (slotBytes * k + slotBytes ≤ length (now table)) × (Fits e × IsHeld (drop (slotBytes * k) (now table))) ⌝ }
     ensures { λ r. ⌜ onTable r (now (table .exit)) ≡ overMatch (unpacked (slotAt k (now (table .entry)))) k e (now (table .entry)) ⌝ }
 {
-    match table_records::unpack_held(table, 14 * k) {
+    match table_records::unpack_held(table, SLOT_BYTES * k) {
         Slot::Free => Learning::Kept,
         Slot::Spoilt => Learning::Kept,
         Slot::Learned(old) => {

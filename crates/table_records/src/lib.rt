@@ -1,69 +1,75 @@
-// Records: how a record lies in its bytes. Reading takes the table and the place of the record's first byte.
-ghost use Prim.Native.Nat.{_+_, _/_, _%_, _^_, _<_, _≤_};
+// A record whole: reading what it holds, writing an entry, freeing a slot.
+ghost use Prim.Native.Nat.{_+_, _≤_};
 ghost use mathlib.Core.Path.{_≡_};
-ghost use mathlib.Core.Bool.{true};
+ghost use mathlib.Core.Bool.{true, false};
 ghost use lib.ListN.{length, drop};
-ghost use Rattle.numbers.specs.Bytes.{bytesOf};
-ghost use Rattle.numbers.specs.Ranges.{nicknameGood};
-ghost use Rattle.table.specs.Record.{recordBytes, recordOf, stateOf, nicknameOf, learnedState, entryOf, entryGood, slotOf, unpacked, kindNumber, labelNumber, packed, recordNumber, isFree, isLearned, labelFrom, slotMatches};
+ghost use Rattle.table.specs.Record.{recordBytes, recordOf, stateOf, learnedState, entryOf, entryGood, slotOf, unpacked, kindNumber, labelNumber, packed, recordNumber, isFree};
 ghost use Rattle.table.specs.Slots.{slotBytes, freed, tableGood};
-ghost use Rattle.table.specs.Table.{spoiltSlot};
-ghost use Rattle.table_records.specs.Halves.{wholeOf, Small, Halved, IsHeld, Fits, heldOrSpoilt, keyIn, keyOf, roundKeyIn, roundKeyOf, pairGood, Pair};
+ghost use Rattle.table_records.specs.RecordBits.{numberOf, BitsFit, HasNumber};
+ghost use Rattle.table_records.specs.Entries.{IsHeld, Fits};
+ghost use Rattle.numbers.specs.Bytes.{bytesOf};
+use table::CONFIGURED_STATE;
 use table::Entry;
+use table::FINE_KIND;
+use table::LEARNED_STATE;
 use table::Label;
+use table::MOST_BYTES;
+use table::RECORD_BYTES;
+use table::SLOT_BYTES;
 use table::Slot;
+use table::VLAN_KIND;
+use table_fields::layout;
 
 // A record's number in two parts: that of its first eight bytes and that of its last six.
-pub struct Halves {
-    pub hi: u64,
-    pub lo: u64,
+pub struct RecordBits {
+    pub high: u64,
+    pub low: u64,
 }
 
-// The record at a place of the table.
-pub fn split(t: &[u8], at: usize) -> Halves
+// The record at an offset of the table.
+fn bits_at(t: &[u8], at: usize) -> RecordBits
     requires { ⌜ at + recordBytes ≤ length (now t) ⌝ }
-    ensures { λ r. ⌜ Halved (recordOf (drop at (now (t .entry)))) r ⌝ }
+    ensures { λ r. ⌜ HasNumber (recordOf (drop at (now (t .entry)))) r ⌝ }
 {
-    Halves {
-        hi: numbers::be8(t, at),
-        lo: numbers::be6(t, at + 8),
+    RecordBits {
+        high: numbers::be8(t, at),
+        low: numbers::be6(t, at + layout::TAIL_OFFSET),
     }
 }
 
 // Free is all zero.
-pub fn is_free(h: Halves) -> bool
-    ensures { λ r. ⌜ r ≡ isFree (slotOf (wholeOf h)) ⌝ }
+fn is_free(b: RecordBits) -> bool
+    ensures { λ r. ⌜ r ≡ isFree (slotOf (numberOf b)) ⌝ }
 {
-    (h.hi == 0) & (h.lo == 0)
+    (b.high == 0) & (b.low == 0)
 }
 
 // Label, MAC and nickname are such as a good record has.
-pub fn entry_good(h: Halves) -> bool
-    requires { ⌜ Small h ⌝ }
-    ensures { λ r. ⌜ r ≡ entryGood (entryOf (wholeOf h)) ⌝ }
+fn entry_good(b: RecordBits) -> bool
+    requires { ⌜ BitsFit b ⌝ }
+    ensures { λ r. ⌜ r ≡ entryGood (entryOf (numberOf b)) ⌝ }
 {
-    let fine = h.hi / 0x2000_0000_0000_0000 % 2 == 1;
-    let label = h.hi / 0x20_0000_0000 % 0x100_0000;
-    let individual = h.hi / 0x2000_0000 % 2 == 0;
-    let nickname = h.lo / 0x20_0000 % 0x1_0000;
-    (fine | ((1 <= label) & (label <= 0xffe)))
-        & (individual & ((1 <= nickname) & (nickname <= 0xffbf)))
+    let fine = b.high / layout::HEAD_KIND % layout::KINDS == FINE_KIND;
+    let vlan = numbers::vlan_good(b.high / layout::HEAD_LABEL % layout::LABELS);
+    let individual = b.high / layout::HEAD_GROUP % 2 == 0;
+    let nickname = numbers::nickname_good(b.low / layout::TAIL_NICKNAME % layout::NICKNAMES);
+    (fine | vlan) & (individual & nickname)
 }
 
 // The state: 0 free, 1 learned, 2 configured.
-fn state_of(h: Halves) -> u64
-    requires { ⌜ Small h ⌝ }
-    ensures { λ r. ⌜ r ≡ stateOf (wholeOf h) ⌝ }
+fn state_of(b: RecordBits) -> u64
+    requires { ⌜ BitsFit b ⌝ }
+    ensures { λ r. ⌜ r ≡ stateOf (numberOf b) ⌝ }
 {
-    h.hi / 0x4000_0000_0000_0000
+    b.high / layout::HEAD_STATE
 }
 
-fn label_of(h: Halves) -> Label
-    requires { ⌜ Small h × (entryGood (entryOf (wholeOf h)) ≡ true) ⌝ }
-    ensures { λ r. ⌜ r ≡ entryOf (wholeOf h) .label ⌝ }
+fn label_of(b: RecordBits) -> Label
+    requires { ⌜ BitsFit b × (entryGood (entryOf (numberOf b)) ≡ true) ⌝ }
+    ensures { λ r. ⌜ r ≡ entryOf (numberOf b) .label ⌝ }
 {
-    let x = h.hi / 0x20_0000_0000 % 0x100_0000;
-    if h.hi / 0x2000_0000_0000_0000 % 2 == 0 {
+    let x = b.high / layout::HEAD_LABEL % layout::LABELS;
+    if b.high / layout::HEAD_KIND % layout::KINDS == VLAN_KIND {
         Label::Vlan(x as u16)
     } else {
         Label::Fine(x as u32)
@@ -71,106 +77,59 @@ fn label_of(h: Halves) -> Label
 }
 
 // The entry of a good record.
-fn entry_of(h: Halves) -> Entry
-    requires { ⌜ Small h × (entryGood (entryOf (wholeOf h)) ≡ true) ⌝ }
-    ensures { λ r. ⌜ r ≡ entryOf (wholeOf h) ⌝ }
+fn entry_of(b: RecordBits) -> Entry
+    requires { ⌜ BitsFit b × (entryGood (entryOf (numberOf b)) ≡ true) ⌝ }
+    ensures { λ r. ⌜ r ≡ entryOf (numberOf b) ⌝ }
 {
     Entry {
-        label: label_of(h),
-        mac: h.hi % 0x20_0000_0000 * 0x800 + h.lo / 0x20_0000_0000,
-        nickname: (h.lo / 0x20_0000 % 0x1_0000) as u16,
-        confidence: (h.lo / 0x2000 % 0x100) as u8,
-        seconds: (h.lo % 0x2000) as u16,
+        label: label_of(b),
+        mac: b.high % layout::HEAD_LABEL * layout::TAIL_MACS + b.low / layout::TAIL_MAC,
+        nickname: (b.low / layout::TAIL_NICKNAME % layout::NICKNAMES) as u16,
+        confidence: (b.low / layout::TAIL_CONFIDENCE % layout::CONFIDENCES) as u8,
+        seconds: (b.low % layout::SECONDS) as u16,
     }
 }
 
-// Learned or configured, where the entry is good and the state one of these; else spoilt.
-fn held_or_spoilt(h: Halves) -> Slot
-    requires { ⌜ Small h ⌝ }
-    ensures { λ r. ⌜ r ≡ heldOrSpoilt (wholeOf h) ⌝ }
+// What a record that is not free holds: learned or configured, where the entry is good and the state one of these; else spoilt.
+fn held_or_spoilt(b: RecordBits) -> Slot
+    requires { ⌜ BitsFit b × (isFree (slotOf (numberOf b)) ≡ false) ⌝ }
+    ensures { λ r. ⌜ r ≡ slotOf (numberOf b) ⌝ }
 {
-    if !entry_good(h) {
+    if !entry_good(b) {
         return Slot::Spoilt;
     }
-    let state = state_of(h);
-    if state == 1 {
-        return Slot::Learned(entry_of(h));
+    let state = state_of(b);
+    if state == LEARNED_STATE {
+        return Slot::Learned(entry_of(b));
     }
-    if state == 2 {
-        return Slot::Configured(entry_of(h));
+    if state == CONFIGURED_STATE {
+        return Slot::Configured(entry_of(b));
     }
     Slot::Spoilt
 }
 
-// What the record at a place of the table holds.
+// What the record at an offset of the table holds.
 pub fn unpack(t: &[u8], at: usize) -> Slot
-    requires { ⌜ at + recordBytes ≤ length (now t) ⌝ }
+    requires { ⌜ at + slotBytes ≤ length (now t) ⌝ }
     ensures { λ r. ⌜ r ≡ unpacked (drop at (now (t .entry))) ⌝ }
 {
-    let h = split(t, at);
-    if is_free(h) {
+    let b = bits_at(t, at);
+    if is_free(b) {
         return Slot::Free;
     }
-    held_or_spoilt(h)
+    held_or_spoilt(b)
 }
 
-// The same of a record that is known to be learned or configured: only its state is asked.
+// The same of a record that is known to be learned or configured: only its state is tested.
 pub fn unpack_held(t: &[u8], at: usize) -> Slot
-    requires { ⌜ (at + recordBytes ≤ length (now t)) × IsHeld (recordOf (drop at (now t))) ⌝ }
+    requires { ⌜ (at + slotBytes ≤ length (now t)) × IsHeld (drop at (now t)) ⌝ }
     ensures { λ r. ⌜ r ≡ unpacked (drop at (now (t .entry))) ⌝ }
 {
-    let h = split(t, at);
-    if state_of(h) == 1 {
-        return Slot::Learned(entry_of(h));
+    let b = bits_at(t, at);
+    if state_of(b) == LEARNED_STATE {
+        return Slot::Learned(entry_of(b));
     }
-    Slot::Configured(entry_of(h))
-}
-
-// The nickname in the record at a place of the table.
-pub fn nickname_at(t: &[u8], at: usize) -> u16
-    requires { ⌜ at + recordBytes ≤ length (now t) ⌝ }
-    ensures { λ r. ⌜ r ≡ nicknameOf (recordOf (drop at (now (t .entry)))) ⌝ }
-{
-    table_fields::nickname_at(t, at) as u16
-}
-
-// Whether the nickname in the record at a place of the table is good. Its high bits tell, but for 0 to 7.
-fn nickname_good_at(t: &[u8], at: usize) -> bool
-    requires { ⌜ at + recordBytes ≤ length (now t) ⌝ }
-    ensures { λ r. ⌜ r ≡ nicknameGood (nicknameOf (recordOf (drop at (now (t .entry))))) ⌝ }
-{
-    let high = table_fields::nickname_high_at(t, at);
-    if (1 <= high) & (high <= 0x1ff7) {
-        return true;
-    }
-    if high == 0 {
-        return 1 <= table_fields::nickname_low_at(t, at);
-    }
-    false
-}
-
-// Whether the entry of the record at a place of the table is good; k is its first four bytes without the state. Bit 29 is the kind and
-// bits 5 to 28 are the label, so both kinds of labels take the same way: none is VLAN 0, and none is a VLAN above FFE.
-fn good_behind(t: &[u8], at: usize, k: u64) -> bool
-    requires { ⌜ (at + recordBytes ≤ length (now t)) × (k ≡ recordOf (drop at (now t)) / 2 ^ 80 % 2 ^ 30) ⌝ }
-    ensures { λ r. ⌜ r ≡ entryGood (entryOf (recordOf (drop at (now (t .entry))))) ⌝ }
-{
-    if k < 0x20 {
-        return false;
-    }
-    let above = (0x1_ffe0 <= k) & (k <= 0x1fff_ffff);
-    if (table_fields::group_at(t, at) != 0) | above {
-        return false;
-    }
-    nickname_good_at(t, at)
-}
-
-// Whether the entry of the record at a place of the table is good, from the bytes of its fields alone.
-pub fn good_at(t: &[u8], at: usize) -> bool
-    requires { ⌜ at + recordBytes ≤ length (now t) ⌝ }
-    ensures { λ r. ⌜ r ≡ entryGood (entryOf (recordOf (drop at (now (t .entry))))) ⌝ }
-{
-    good_behind(t, at, table_fields::front_at(t, at) % 0x4000_0000)
+    Slot::Configured(entry_of(b))
 }
 
 // 0 for a VLAN, 1 for a fine-grained label.
@@ -178,8 +137,8 @@ pub fn kind_number(l: Label) -> u64
     ensures { λ r. ⌜ (r ≡ kindNumber l) × (r ≤ 1) ⌝ }
 {
     match l {
-        Label::Vlan(_) => 0,
-        Label::Fine(_) => 1,
+        Label::Vlan(_) => VLAN_KIND,
+        Label::Fine(_) => FINE_KIND,
     }
 }
 
@@ -192,29 +151,33 @@ pub fn label_number(l: Label) -> u64
     }
 }
 
-// The number of a learned entry's record.
-fn join(e: Entry) -> Halves
+// The record of a learned entry.
+fn bits_of(e: Entry) -> RecordBits
     requires { ⌜ Fits e ⌝ }
-    ensures { λ r. ⌜ Halved (recordNumber learnedState e) r ⌝ }
+    ensures { λ r. ⌜ HasNumber (recordNumber learnedState e) r ⌝ }
 {
     let l = e.label;
     let kind = kind_number(l);
     let label = label_number(l);
-    Halves {
-        hi: ((2 + kind) * 0x100_0000 + label) * 0x20_0000_0000 + e.mac / 0x800,
-        lo: ((e.mac % 0x800 * 0x1_0000 + e.nickname as u64) * 0x100 + e.confidence as u64) * 0x2000
+    RecordBits {
+        high: ((LEARNED_STATE * layout::KINDS + kind) * layout::LABELS + label) * layout::HEAD_LABEL
+            + e.mac / layout::TAIL_MACS,
+        low: ((e.mac % layout::TAIL_MACS * layout::NICKNAMES + e.nickname as u64)
+            * layout::CONFIDENCES
+            + e.confidence as u64)
+            * layout::SECONDS
             + e.seconds as u64,
     }
 }
 
-fn write(h: Halves, slot: &mut [u8])
-    requires { ⌜ (length (now slot) ≡ slotBytes) × Small h ⌝ }
-    ensures { λ _. ⌜ now (slot .exit) ≡ bytesOf slotBytes (wholeOf h) ⌝ }
+fn write(b: RecordBits, slot: &mut [u8])
+    requires { ⌜ (length (now slot) ≡ slotBytes) × BitsFit b ⌝ }
+    ensures { λ _. ⌜ now (slot .exit) ≡ bytesOf slotBytes (numberOf b) ⌝ }
 {
-    let hi = h.hi;
-    let lo = h.lo;
-    numbers::fill8(&mut slot[0..8], hi);
-    numbers::fill6(&mut slot[8..14], lo);
+    let high = b.high;
+    let low = b.low;
+    numbers::fill8(&mut slot[0..layout::TAIL_OFFSET], high);
+    numbers::fill6(&mut slot[layout::TAIL_OFFSET..RECORD_BYTES], low);
 }
 
 // Writes the record of a learned entry to a slot.
@@ -222,7 +185,7 @@ pub fn pack(e: Entry, slot: &mut [u8])
     requires { ⌜ (length (now slot) ≡ slotBytes) × Fits e ⌝ }
     ensures { λ _. ⌜ now (slot .exit) ≡ packed learnedState e ⌝ }
 {
-    write(join(e), slot);
+    write(bits_of(e), slot);
 }
 
 // Frees a slot.
@@ -233,106 +196,13 @@ pub fn clear(slot: &mut [u8])
     numbers::fill(slot, 0);
 }
 
-// The state bits of the record at a place of the table, from its first byte alone.
-pub fn state_at(t: &[u8], at: usize) -> u64
-    requires { ⌜ at + recordBytes ≤ length (now t) ⌝ }
-    ensures { λ r. ⌜ r ≡ stateOf (recordOf (drop at (now (t .entry)))) ⌝ }
-{
-    numbers::wide(t[at]) / 0x40
-}
-
-// The byte of the record at a place of the table that tells most addresses apart: bits 3 to 10 of the MAC.
-pub fn key_at(t: &[u8], at: usize) -> u64
-    requires { ⌜ at + recordBytes ≤ length (now t) ⌝ }
-    ensures { λ r. ⌜ r ≡ keyIn (recordOf (drop at (now (t .entry)))) ⌝ }
-{
-    numbers::wide(t[at + 8])
-}
-
-// That byte of a record with this address.
-pub fn key_of(mac: u64) -> u64
-    ensures { λ r. ⌜ r ≡ keyOf mac ⌝ }
-{
-    mac / 8 % 0x100
-}
-
-// The key by which a round over many slots tells nearly all addresses apart: that byte and the one before it, bits 3 to 18 of the
-// MAC. The later byte is the higher, so that both are read as one number.
-pub fn round_key_at(t: &[u8], at: usize) -> u64
-    requires { ⌜ at + recordBytes ≤ length (now t) ⌝ }
-    ensures { λ r. ⌜ r ≡ roundKeyIn (recordOf (drop at (now (t .entry)))) ⌝ }
-{
-    numbers::wide(t[at + 8]) * 0x100 + numbers::wide(t[at + 7])
-}
-
-// Those two bytes of a record with this address.
-pub fn round_key_of(mac: u64) -> u64
-    ensures { λ r. ⌜ r ≡ roundKeyOf mac ⌝ }
-{
-    mac / 8 % 0x100 * 0x100 + mac / 0x800 % 0x100
-}
-
-// Whether a good record can hold a label and an address.
-pub fn pair_good(kind: u64, label: u64, mac: u64) -> bool
-    requires { ⌜ (kind ≤ 1) × ((label < 2 ^ 24) × (mac < 2 ^ 48)) ⌝ }
-    ensures { λ r. ⌜ r ≡ pairGood (labelFrom kind label) mac ⌝ }
-{
-    ((kind == 1) | ((1 <= label) & (label <= 0xffe))) & (mac / 0x100_0000_0000 % 2 == 0)
-}
-
-// Whether the record at a place of the table holds a label and an address that a good record can hold, and whose key it has: what is
-// left to compare is its first eight bytes, learned or configured, and three bits of its tenth.
-pub fn pair_at(t: &[u8], at: usize, kind: u64, label: u64, mac: u64) -> bool
-    requires { ⌜ (at + recordBytes ≤ length (now t)) × ((keyIn (recordOf (drop at (now t))) ≡ keyOf mac) × Pair kind label mac) ⌝ }
-    ensures { λ r. ⌜ r ≡ slotMatches (labelFrom kind label) mac (slotOf (recordOf (drop at (now (t .entry))))) ⌝ }
-{
-    let front = (kind * 0x100_0000 + label) * 0x20_0000_0000 + mac / 0x800;
-    let hi = numbers::be8(t, at);
-    let held = (hi == front + 0x4000_0000_0000_0000) | (hi == front + 0x8000_0000_0000_0000);
-    if !held {
-        return false;
-    }
-    if numbers::wide(t[at + 9]) / 0x20 != mac % 8 {
-        return false;
-    }
-    let nickname = table_fields::nickname_at(t, at);
-    (1 <= nickname) & (nickname <= 0xffbf)
-}
-
-// Whether the record at a place of the table is learned. The test of the state passes over VLAN 0 as well.
-pub fn learned_at(t: &[u8], at: usize) -> bool
-    requires { ⌜ at + recordBytes ≤ length (now t) ⌝ }
-    ensures { λ r. ⌜ r ≡ isLearned (unpacked (drop at (now (t .entry)))) ⌝ }
-{
-    let x = table_fields::front_at(t, at);
-    if !((0x4000_0020 <= x) & (x <= 0x7fff_ffff)) {
-        return false;
-    }
-    good_behind(t, at, x - 0x4000_0000)
-}
-
-// Whether the record at a place of the table is spoilt. The same test passes over the learned VLAN 0, which is spoilt.
-pub fn spoilt_at(t: &[u8], at: usize) -> bool
-    requires { ⌜ at + recordBytes ≤ length (now t) ⌝ }
-    ensures { λ r. ⌜ r ≡ spoiltSlot (drop at (now (t .entry))) ⌝ }
-{
-    let x = table_fields::front_at(t, at);
-    if (0x4000_0020 <= x) & (x <= 0xbfff_ffff) {
-        return !good_behind(t, at, x % 0x4000_0000);
-    }
-    if x != 0 {
-        return true;
-    }
-    !((numbers::be8(t, at + 4) == 0) & (numbers::be2(t, at + 12) == 0))
-}
-
 // Refusal 2: whether a table has a good length.
 pub fn table_good(t: &[u8]) -> bool
     ensures { λ r. ⌜ r ≡ tableGood (now (t .entry)) ⌝ }
 {
     let n = t.len();
-    if !((1 <= n) & (n <= 57_344)) {
+    if !((1 <= n) & (n <= MOST_BYTES)) {
         return false;
     }
-    n % 14 == 0
+    n % SLOT_BYTES == 0
 }

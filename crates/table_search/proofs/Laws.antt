@@ -1,7 +1,8 @@
--- Laws of searching: each test looks at a slot's own bytes; what the telling bytes rule out; numbers that no good record can hold.
+-- Laws of searching: what the rounds exclude; numbers that no good record can hold; the outcomes of a lookup and of the search for a
+-- spoilt slot.
 -- Assumes nothing.
 use Prim.Native.Nat.{ℕ, zero, suc, _+_, _-_, _*_, _%_, _^_, _<_, _≤_}
-use mathlib.Core.Bool.{Bool, true, false, not, _&&_}
+use mathlib.Core.Bool.{Bool, true, false, not}
 use mathlib.Core.List.{List}
 use mathlib.Core.Path.{_≡_, refl, sym, ap, _∙_}
 use native.Mathlib.Nat.{zero-add}
@@ -9,51 +10,31 @@ use native.Mathlib.Decide.{ℕ-discrete}
 use native.Mathlib.Omega.{arith}
 use lib.Dec.{eqb}
 use lib.ListN.{drop, length}
-use borrow.Author.Tests.{ne-eqb, not-false}
+use borrow.Author.Tests.{ne-eqb}
 use Rattle.numbers.specs.Tests.{pick, between}
 use Rattle.numbers.specs.Result.{check, settled}
 use Rattle.numbers.proofs.Truth.{not-true-false, both-true, between-is}
 use Rattle.table.specs.Learning.{freeSlot}
-use Rattle.table.specs.Record.{recordOf, stateOf, nicknameOf, vlanKind, fineKind, labelFrom, unpacked, isFree, isSpoilt, slotMatches}
+use Rattle.table.specs.Record.{recordOf, macOf, nicknameOf, vlanKind, fineKind, labelFrom}
 use Rattle.table.specs.Slots.{slotBytes, mostSlots, tableGood, firstSlot, lowest}
 use Rattle.table.specs.Table.{holds, placeOf, nicknameAt, lookedUp, spoiltSlot, spoiltAt, lowestSpoilt}
-use Rattle.table.specs.declared.Label.{Label}
 use Rattle.table.specs.declared.Label.the-variants.{Vlan, Fine}
 use Rattle.table.specs.declared.Place.{Place}
 use Rattle.table.specs.declared.Place.the-variants.{At, Nowhere}
 use Rattle.table.specs.declared.LookupAnswer.the-variants as lookup
 use Rattle.table.specs.declared.SpoiltAnswer.the-variants as spoilt
 use Rattle.table.proofs.Slots.{Local, search-next, lowest-none, lowest-within}
-use Rattle.table_records.specs.Halves.{keyIn, keyOf, roundKeyIn, roundKeyOf, pairGood}
-use Rattle.table_records.specs.Rounds.{Keyed, NoneOfFour, Passed}
-use Rattle.table_records.proofs.Laws.{record-near, unpacked-near, pair-key, pair-round-key, free-state, pair-fits}
-use Rattle.numbers.proofs.Truth.{and-both}
-use Rattle.table_records.proofs.Fronts.{pair-holds}
-use Rattle.table_records.proofs.Rounds.{passed-four}
-use Rattle.table_search.specs.States.{InNoState}
+use Rattle.table.proofs.Contents.{record-near, holds-near, free-near, other-than-free, holds-fields, holds-fits}
+use Rattle.table_fields.specs.Keys.{roundKeyOf}
+use Rattle.table_pairs.specs.Pairs.{pairGood}
+use Rattle.table_pairs.proofs.Laws.{holds-good}
+use Rattle.table_rounds.specs.Rounds.{Keyed, InState, Passed}
 
-pub holds-near : (l : Label) (m : ℕ) → Local (holds l m)
-unfolding holds
-holds-near l m x = ap (slotMatches l m) (unpacked-near x)
+-- another key of a round: the slot does not hold the label and the address
+other-round-key : (k x m : ℕ) → k ≤ 1 → (r : List ℕ) → (roundKeyOf (macOf (recordOf r)) ≡ roundKeyOf m → ⊥) → false ≡ holds (labelFrom k x) m r
+other-round-key k x m hk r h = sym (not-true-false _ (λ e. h (ap (λ (a : ℕ). roundKeyOf a) (sym (holds-fields k x m r hk e .mac)))))
 
-pub free-near : Local freeSlot
-unfolding freeSlot
-free-near x = ap isFree (unpacked-near x)
-
-pub spoilt-near : Local spoiltSlot
-unfolding spoiltSlot
-spoilt-near x = ap isSpoilt (unpacked-near x)
-
--- another key: the slot does not hold the pair
-pub other-key : (k x m : ℕ) → k ≤ 1 → (r : List ℕ) → (keyIn (recordOf r) ≡ keyOf m → ⊥) → false ≡ holds (labelFrom k x) m r
-unfolding holds unpacked
-other-key k x m hk r h = sym (not-true-false _ (λ e. h (pair-key k x m (recordOf r) hk e)))
-
-other-round-key : (k x m : ℕ) → k ≤ 1 → (r : List ℕ) → (roundKeyIn (recordOf r) ≡ roundKeyOf m → ⊥) → false ≡ holds (labelFrom k x) m r
-unfolding holds unpacked
-other-round-key k x m hk r h = sym (not-true-false _ (λ e. h (pair-round-key k x m (recordOf r) hk e)))
-
--- slots that a round rules out are passed by
+-- slots that a round excludes are passed by
 past : (p : List ℕ → Bool) → Local p → (P : List ℕ → Type 0) → ((r : List ℕ) → (P r → ⊥) → false ≡ p r)
     → (t : List ℕ) (i j : ℕ) → i ≤ j → Passed P i j t → firstSlot p i t ≡ Nowhere → firstSlot p j t ≡ Nowhere
 past p near P other t i j h passed so-far = let far : j - i + i ≡ j = omega arith in rw far at (go (j - i) (omega arith))
@@ -70,20 +51,14 @@ search-past k x m key hk e =
 
 -- a label and an address that no good record can hold are nowhere
 pub pair-nowhere : (k x m : ℕ) (t : List ℕ) → k ≤ 1 → (g : Bool) → g ≡ pairGood (labelFrom k x) m → g ≡ false → Nowhere ≡ lowest (holds (labelFrom k x) m) t
-unfolding holds unpacked
 pair-nowhere k x m t hk g e h =
-    lowest-none (holds (labelFrom k x) m) t (λ r. not-true-false _ (λ q. true-not-false (sym (pair-holds k x m (recordOf r) hk q) ∙ sym e ∙ h)))
+    lowest-none (holds (labelFrom k x) m) t (λ r. not-true-false _ (λ q. true-not-false (sym (holds-good k x m r hk q) ∙ sym e ∙ h)))
   where
     true-not-false : _≡_ {A = Bool} true false → ⊥
     true-not-false p = let z : _≡_ {A = ℕ} 0 1 = cc in omega arith
 
--- another state: the slot is not free
-pub other-state : (r : List ℕ) → (stateOf (recordOf r) ≡ 0 → ⊥) → false ≡ freeSlot r
-unfolding freeSlot unpacked
-other-state r h = sym (not-true-false _ (λ e. h (free-state (recordOf r) e)))
-
-pub free-past : (t : List ℕ) (i j : ℕ) → i ≤ j → Passed InNoState i j t → firstSlot freeSlot i t ≡ Nowhere → firstSlot freeSlot j t ≡ Nowhere
-free-past = past freeSlot free-near InNoState other-state
+pub free-past : (t : List ℕ) (i j : ℕ) → i ≤ j → Passed (InState 0) i j t → firstSlot freeSlot i t ≡ Nowhere → firstSlot freeSlot j t ≡ Nowhere
+free-past = past freeSlot free-near (InState 0) other-than-free
 
 -- ---- a lookup of any numbers
 
@@ -100,9 +75,8 @@ place-from k x m t h = go (ℕ-discrete k 0)
     go (no e) = let o : k ≡ 1 = omega arith in rw o
 
 pub too-large : (k x m : ℕ) (t : List ℕ) → k ≤ 1 → ((x < 2 ^ 24) × (m < 2 ^ 48) → ⊥) → Nowhere ≡ placeOf k x m t
-unfolding holds unpacked
 too-large k x m t hk h =
-    lowest-none (holds (labelFrom k x) m) t (λ r. not-true-false _ (λ e. h (pair-fits k x m (recordOf r) hk e)))
+    lowest-none (holds (labelFrom k x) m) t (λ r. not-true-false _ (λ e. h (holds-fits k x m r hk e)))
     ∙ place-from k x m t hk
 
 -- ---- the outcomes of a lookup
@@ -157,11 +131,3 @@ module _ (t : List ℕ) (g : Bool) (good : g ≡ tableGood t) where
         let b = both-true (between 1 (slotBytes * mostSlots) (length t)) (eqb (length t % slotBytes) 0) (sym good ∙ ok) in
         let c = between-is 1 (slotBytes * mostSlots) (length t) (b .0) in
         omega arith
-
--- ---- a round of eight
-
-pub passed-eight : (P : List ℕ → Type 0) (t : List ℕ) (from i at : ℕ) → at ≡ slotBytes * i → Passed P from i t → (a b : Bool) → not (a && b) ≡ false
-    → (a ≡ true → NoneOfFour P at t) → (b ≡ true → NoneOfFour P (at + 56) t) → Passed P from (i + 8) t
-passed-eight P t from i at e so-far a b h low high k above below =
-    let both = both-true _ _ (sym (and-both a b) ∙ not-false _ h) in
-    passed-four P t from (i + 4) (at + 56) (omega arith) (passed-four P t from i at e so-far (low (both .0))) (high (both .1)) k above (omega arith)

@@ -1,7 +1,7 @@
 -- `convert_compact::compact` meets its contract: each way out is an outcome of the definition.
 -- Assumes nothing.
-use Rattle.frame_parse.proofs.Places.{dst-room}
-use Rattle.convert_compact.proofs.Laws.{call-settings, call-refused, fields-copyable, call-stays, call-put}
+use Rattle.frame_parse.proofs.Located.{parts-of, dst-room}
+use Rattle.convert_compact.proofs.Laws.{call-settings, call-refused, call-stays, call-put}
 use borrow.Author.Needs.{needs}
 use Rattle.convert_compact.proofs.compact.Statement.{statement}
 use Rattle.convert_compact.proofs.compact.Tie as tie
@@ -16,7 +16,7 @@ returns-2 : tie.Need-returns-2
 returns-2 c = search call-stays
 
 put-compact-requires : tie.Need-put-compact-requires
-put-compact-requires c κs = search fields-copyable
+put-compact-requires c κs = search parts-of
 
 returns-3 : tie.Need-returns-3
 returns-3 c = search call-refused

@@ -1,21 +1,25 @@
 -- `convert_compact::general_fields` meets its contract: each way out is an outcome of the definition.
 -- Assumes nothing.
-use Rattle.convert_compact.proofs.Laws.{too-short, too-long, not-general, is-general}
+use Rattle.frame_parse.proofs.Outcomes.{reads-refused, reads-as}
+use Rattle.convert_compact.proofs.Laws.{too-short, too-long, means-general, to-us, not-here, compact-front}
 use borrow.Author.Needs.{needs}
 use Rattle.convert_compact.proofs.general_fields.Statement.{statement}
 use Rattle.convert_compact.proofs.general_fields.Tie as tie
 
 returns : tie.Need-returns
-returns c = (search too-short, tt)
+returns c = reads-refused _ _ _ (search too-short)
 
 returns-2 : tie.Need-returns-2
-returns-2 c = (search too-long, tt)
+returns-2 c = reads-refused _ _ _ (search too-long)
 
 returns-3 : tie.Need-returns-3
-returns-3 c = (search not-general, tt)
+returns-3 c = search (reads-as, to-us, means-general)
 
 returns-4 : tie.Need-returns-4
-returns-4 c = (search is-general, search needs)
+returns-4 c = reads-refused _ _ _ (search not-here)
+
+returns-5 : tie.Need-returns-5
+returns-5 c = reads-refused _ _ _ (search compact-front)
 
 pub general-fields-spec : {M : Type 1} → statement M
 general-fields-spec =
@@ -26,6 +30,8 @@ general-fields-spec =
     (λ c κs. search needs)
     (λ c κs. search needs)
     (λ c κs. search needs)
+    (λ c. search needs)
+    (λ c. search needs)
     returns-3
-    (λ c κs. search needs)
-    returns-4)
+    returns-4
+    returns-5)

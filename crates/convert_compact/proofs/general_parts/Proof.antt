@@ -1,18 +1,16 @@
--- `convert_compact::general_parts` meets its contract: the outer part, then the rest.
+-- `convert_compact::general_parts` meets its contract: the outer part, then what is after it.
 -- Assumes nothing.
-use Rattle.frame_parse.proofs.General.{outer-room, g-outer, g-behind}
+use Rattle.frame_parse.proofs.Outcomes.{reads-refused}
+use Rattle.frame_parse.proofs.General.{length-bytes, outer-refused}
 use borrow.Author.Needs.{needs}
 use Rattle.convert_compact.proofs.general_parts.Statement.{statement}
 use Rattle.convert_compact.proofs.general_parts.Tie as tie
 
-general-behind-requires : tie.Need-general-behind-requires
-general-behind-requires c κs = search outer-room
+general-after-outer-requires : tie.Need-general-after-outer-requires
+general-after-outer-requires c κs = (search length-bytes, search needs)
 
 returns : tie.Need-returns
-returns c = (search g-outer, tt)
-
-returns-2 : tie.Need-returns-2
-returns-2 c = (search g-behind, search needs)
+returns c = reads-refused _ _ _ (search outer-refused)
 
 pub general-parts-spec : {M : Type 1} → statement M
 general-parts-spec =
@@ -21,6 +19,6 @@ general-parts-spec =
     (λ c κs. search needs)
     (λ c. search needs)
     (λ c. search needs)
-    general-behind-requires
+    general-after-outer-requires
     returns
-    returns-2)
+    (λ c. search needs))

@@ -1,15 +1,16 @@
 -- `convert_expand::expand` meets its contract: each way out is an outcome of the definition.
 -- Assumes nothing.
-use Rattle.convert_expand.proofs.Laws.{call-refused, call-put, result-short, parts-all, fields-copyable}
+use Rattle.convert_expand.proofs.Laws.{call-refused, call-put, result-short, parts-all}
+use Rattle.frame_parse.proofs.Located.{parts-of}
 use borrow.Author.Needs.{needs}
 use Rattle.convert_expand.proofs.expand.Statement.{statement}
 use Rattle.convert_expand.proofs.expand.Tie as tie
 
 destination-requires : tie.Need-destination-requires
-destination-requires c κs = search fields-copyable
+destination-requires c κs = search parts-of
 
 put-general-requires : tie.Need-put-general-requires
-put-general-requires c κs = (search fields-copyable, (search parts-all, search result-short))
+put-general-requires c κs = (search parts-of, (search parts-all, search result-short))
 
 returns : tie.Need-returns
 returns c = search call-refused

@@ -1,4 +1,4 @@
--- `convert_expand::write_outer` meets its contract: the pieces, one behind the other.
+-- `convert_expand::write_outer` meets its contract: the pieces, one after the other.
 -- Assumes nothing.
 use Rattle.convert_expand.specs.Meaning.{outerAs}
 use Rattle.convert_expand.proofs.Pieces.{outer-room, outer-written}
@@ -7,11 +7,11 @@ use borrow.Author.Needs.{needs}
 use Rattle.convert_expand.proofs.write_outer.Statement.{statement}
 use Rattle.convert_expand.proofs.write_outer.Tie as tie
 
-put-6-requires : tie.Need-put-6-requires
-put-6-requires c κs = omega (arith, outer-room (outerAs (c .before .before .args .u)) _ (c .before .before .pre))
+put-address-requires : tie.Need-put-address-requires
+put-address-requires c κs = omega (arith, outer-room (outerAs (c .before .before .args .u)) _ (c .before .before .pre))
 
-put-6-requires-2 : tie.Need-put-6-requires-2
-put-6-requires-2 c κs = omega (arith, outer-room (outerAs (c .before .before .before .before .before .before .args .u)) _ (c .before .before .before .before .before .before .pre))
+put-address-requires-2 : tie.Need-put-address-requires-2
+put-address-requires-2 c κs = omega (arith, outer-room (outerAs (c .before .before .before .before .before .before .args .u)) _ (c .before .before .before .before .before .before .pre))
 
 returns : tie.Need-returns
 returns c = search outer-written
@@ -19,4 +19,4 @@ returns c = search outer-written
 pub write-outer-spec : {M : Type 1} → statement M
 write-outer-spec =
     tie.close
-    (tie.spec put-6-requires put-6-requires-2 (λ c κs. search needs) (λ c. search needs) returns)
+    (tie.spec put-address-requires put-address-requires-2 (λ c κs. search needs) (λ c. search needs) returns)

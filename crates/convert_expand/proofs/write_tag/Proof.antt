@@ -1,8 +1,8 @@
--- `convert_expand::write_tag` meets its contract: nothing, or 8100 and the number behind it.
+-- `convert_expand::write_tag` meets its contract: nothing, or 8100 and the number after it.
 -- Assumes nothing.
+use native.Mathlib.Omega.{arith}
 use Rattle.convert_expand.specs.Meaning.{outerAs}
 use Rattle.convert_expand.proofs.Pieces.{tag-none, tag-room, tag-written}
-use native.Mathlib.Omega.{arith}
 use borrow.Author.Needs.{needs}
 use Rattle.convert_expand.proofs.write_tag.Statement.{statement}
 use Rattle.convert_expand.proofs.write_tag.Tie as tie
@@ -10,11 +10,17 @@ use Rattle.convert_expand.proofs.write_tag.Tie as tie
 returns : tie.Need-returns
 returns c = search tag-none
 
-copy-at-requires : tie.Need-copy-at-requires
-copy-at-requires c κs = omega (arith, tag-room (outerAs (c .before .before .before .before .before .args .u)) (c .before .before .before .before .before .args .out .now) (c .before .before .if1 .left) (c .before .before .before .before .before .pre))
-
 put-number-requires : tie.Need-put-number-requires
-put-number-requires c κs = omega (arith, tag-room (outerAs (c .before .before .before .before .before .before .before .before .before .before .args .u)) (c .before .before .before .before .before .before .before .before .before .before .args .out .now) (c .before .before .before .before .before .before .before .if1 .left) (c .before .before .before .before .before .before .before .before .before .before .pre))
+put-number-requires c κs =
+    let some = c .before in
+    let start = some .before .before .before in
+    omega (arith, tag-room (outerAs (start .args .u)) (start .args .out .now) (some .if1 .left) (start .pre))
+
+put-number-requires-2 : tie.Need-put-number-requires-2
+put-number-requires-2 c κs =
+    let some = c .before .before .before .before .before .before in
+    let start = some .before .before .before in
+    omega (arith, tag-room (outerAs (start .args .u)) (start .args .out .now) (some .if1 .left) (start .pre))
 
 returns-2 : tie.Need-returns-2
 returns-2 c = search tag-written
@@ -24,9 +30,8 @@ write-tag-spec =
     tie.close
     (tie.spec
     returns
-    (λ c. search needs)
-    copy-at-requires
-    (λ c. search needs)
     put-number-requires
+    (λ c. search needs)
+    put-number-requires-2
     (λ c. search needs)
     returns-2)

@@ -1,4 +1,4 @@
--- `convert_expand::write_tail` meets its contract: the pieces, one behind the other.
+-- `convert_expand::write_tail` meets its contract: the pieces, one after the other.
 -- Assumes nothing.
 use Rattle.convert_expand.proofs.Pieces.{tail-written}
 use borrow.Author.Needs.{needs}
@@ -12,8 +12,8 @@ returns c =
     let k₃ = rs .before .before .before in
     let k₂ = k₃ .before .before .before .before in
     let k₁ = k₂ .before .before .before .before in
-    let st = k₁ .before .before .before .before .before .before in
-    tail-written _ _ (st .pre .0 .within) _ _ _ _ _ _ _ (st .pre .1) (k₁ .copy-at .ensures) (k₂ .copy-from-6 .ensures) (k₃ .copy-from-16 .ensures) (rs .rest .ensures .0) (k₄ .copy-block .ensures)
+    let st = k₁ .before .before .before .before .before in
+    tail-written _ _ (st .pre .0) _ _ _ _ _ _ _ (st .pre .1) (k₁ .put-number .ensures) (k₂ .copy-part .ensures) (k₃ .copy-part2 .ensures) (rs .after .ensures .0) (k₄ .copy-block .ensures)
 
 pub write-tail-spec : {M : Type 1} → statement M
 write-tail-spec =
@@ -22,13 +22,10 @@ write-tail-spec =
     (λ c. search needs)
     (λ c. search needs)
     (λ c κs. search needs)
-    (λ c. search needs)
     (λ c κs. search needs)
-    (λ c. search needs)
     (λ c. search needs)
     (λ c κs. search needs)
     (λ c κs. search needs)
-    (λ c. search needs)
     (λ c. search needs)
     (λ c. search needs)
     (λ c κs. search needs)

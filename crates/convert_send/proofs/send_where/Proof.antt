@@ -1,7 +1,6 @@
 -- `convert_send::send_where` meets its contract: each way out is an outcome of the definition.
 -- Assumes nothing.
-use Rattle.frame_parse.proofs.Places.{dst-room}
-use Rattle.convert_compact.proofs.Laws.{fields-copyable}
+use Rattle.frame_parse.proofs.Located.{parts-of, dst-room}
 use Rattle.convert_send.proofs.Laws.{send-settings, send-refused, send-itself, send-put}
 use borrow.Author.Needs.{needs}
 use Rattle.convert_send.proofs.send_where.Statement.{statement}
@@ -17,7 +16,7 @@ returns-2 : tie.Need-returns-2
 returns-2 c = search send-itself
 
 put-compact-requires : tie.Need-put-compact-requires
-put-compact-requires c κs = search fields-copyable
+put-compact-requires c κs = search parts-of
 
 returns-3 : tie.Need-returns-3
 returns-3 c = search send-refused

@@ -2,13 +2,16 @@
 -- Assumes nothing.
 use native.Mathlib.Omega.{arith}
 use borrow.Author.Tests.{not-true, not-false}
-use Rattle.flush_call.proofs.Calls.{flush-refused, flush-corrupt, flush-cleared, count-fits}
+use Rattle.flush_call.proofs.Calls.{flush-refused, flush-corrupt, flush-cleared, count-fits, flush-slots}
 use borrow.Author.Needs.{needs}
 use Rattle.flush_call.proofs.flush.Statement.{statement}
 use Rattle.flush_call.proofs.flush.Tie as tie
 
 returns : tie.Need-returns
 returns c = search (flush-refused, not-true)
+
+clear-meant-requires : tie.Need-clear-meant-requires
+clear-meant-requires c κs = search (flush-slots, not-false)
 
 cast-t14 : tie.Need-cast-t14
 cast-t14 c =
@@ -28,7 +31,7 @@ flush-spec =
     (λ c κs. search needs)
     (λ c. search needs)
     returns
-    (λ c κs. search needs)
+    clear-meant-requires
     (λ c. search needs)
     (λ c. search needs)
     cast-t14

@@ -3,6 +3,7 @@
 use Prim.Native.Nat.{_-_, _/_, _≤_}
 use native.Mathlib.Omega.{arith}
 use lib.ListN.{length}
+use Rattle.table.specs.Slots.{slotBytes}
 use Rattle.table.proofs.Slots.{length-lent}
 use Rattle.flush_marks.specs.Marks.{Found, ClearedTo}
 use Rattle.flush_marks.proofs.Clearing.{cleared-none, cleared-next, cleared-rest, cleared-ends}
@@ -17,17 +18,11 @@ abbrev μ-loop : tie.MeasureT-loop
 μ-loop table₀ marks n count₀ k₀ table count k = n - k
 
 -- the slot that was found
-found : (c : tie.After-known-told Inv-loop μ-loop) → Found (c .before .before .before .before .before .before .before .before .args .marks .now) (c .before .before .before .before .before .loop .k) (length (c .before .before .before .before .before .before .before .before .args .table .now) / 14) (c .before .j .given .0 .0)
+found : (c : tie.After-known-told Inv-loop μ-loop) → Found (c .before .before .before .before .before .before .before .before .args .marks .now) (c .before .before .before .before .before .loop .k) (length (c .before .before .before .before .before .before .before .before .args .table .now) / slotBytes) (c .before .j .given .0 .0)
 found c = c .before .before .before .next-marked .ensures .hit _ (c .before .j .given .1)
 
 loop-holds : tie.Need-loop-holds Inv-loop μ-loop
 loop-holds c = (search needs, search cleared-none)
-
-next-marked-requires : tie.Need-next-marked-requires Inv-loop μ-loop
-next-marked-requires c κs = search needs
-
-enum-known-j : tie.Need-enum-known-j Inv-loop μ-loop
-enum-known-j c = search needs
 
 mul-a : tie.Need-mul-a Inv-loop μ-loop
 mul-a c = let f = found c in omega arith
@@ -35,20 +30,11 @@ mul-a c = let f = found c in omega arith
 add-e : tie.Need-add-e Inv-loop μ-loop
 add-e c = let f = found c in omega arith
 
-sub-clear : tie.Need-sub-clear Inv-loop μ-loop
-sub-clear c = search needs
-
-part-clear-start : tie.Need-part-clear-start Inv-loop μ-loop
-part-clear-start c = search needs
-
 part-clear-end : tie.Need-part-clear-end Inv-loop μ-loop
 part-clear-end c = let f = found c in omega arith
 
 clear-requires : tie.Need-clear-requires Inv-loop μ-loop
 clear-requires c κs = let f = found (c .before) in length-lent (c .before .before .j .given .0 .0) (c .before .before .before .before .before .before .loop .table) (omega arith)
-
-add-count : tie.Need-add-count Inv-loop μ-loop
-add-count c = search needs
 
 add-k : tie.Need-add-k Inv-loop μ-loop
 add-k c = let f = found (c .before .before .before .before) in omega arith
@@ -58,9 +44,6 @@ loop-less c = let f = found (c .before .before .before .before) in omega arith
 
 loop-again : tie.Need-loop-again Inv-loop μ-loop
 loop-again c = let f = found (c .before .before .before .before) in (omega arith, search cleared-next)
-
-enum-told : tie.Need-enum-told Inv-loop μ-loop
-enum-told c = search needs
 
 same-length : tie.Need-same-length Inv-loop μ-loop
 same-length c = c .before .before .before .before .loop .inv .1 .long
@@ -81,19 +64,19 @@ clear-marked-spec =
     Inv-loop
     μ-loop
     loop-holds
-    next-marked-requires
-    enum-known-j
+    (λ c κs. search needs)
+    (λ c. search needs)
     mul-a
     add-e
-    sub-clear
-    part-clear-start
+    (λ c. search needs)
+    (λ c. search needs)
     part-clear-end
     clear-requires
-    add-count
+    (λ c. search needs)
     add-k
     loop-less
     loop-again
-    enum-told
+    (λ c. search needs)
     same-length
     returns
     same-length-2

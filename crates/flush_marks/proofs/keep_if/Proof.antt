@@ -8,14 +8,8 @@ use Rattle.flush_marks.proofs.keep_if.Tie as tie
 returns : tie.Need-returns
 returns c = search kept-mark
 
-remove-requires : tie.Need-remove-requires
-remove-requires c κs = search needs
-
-same-length : tie.Need-same-length
-same-length c = search needs
-
 returns-2 : tie.Need-returns-2
 returns-2 c = search lost-mark
 
 pub keep-if-spec : {M : Type 1} → statement M
-keep-if-spec = tie.close (tie.spec returns remove-requires same-length returns-2)
+keep-if-spec = tie.close (tie.spec returns (λ c κs. search needs) (λ c. search needs) returns-2)

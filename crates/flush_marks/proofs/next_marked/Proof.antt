@@ -17,44 +17,14 @@ abbrev μ-loop : tie.MeasureT-loop
 loop-holds : tie.Need-loop-holds Inv-loop μ-loop
 loop-holds c = (search needs, search unmarked-none)
 
-has-requires : tie.Need-has-requires Inv-loop μ-loop
-has-requires c κs = search needs
-
 returns : tie.Need-returns Inv-loop μ-loop
 returns c = search next-found
-
-shared-slice-read-rest-of : tie.Need-shared-slice-read-rest-of Inv-loop μ-loop
-shared-slice-read-rest-of c = search needs
-
-rest-of-requires : tie.Need-rest-of-requires Inv-loop μ-loop
-rest-of-requires c κs = search needs
-
-mul-j : tie.Need-mul-j Inv-loop μ-loop
-mul-j c = search needs
-
-lead-of-requires : tie.Need-lead-of-requires Inv-loop μ-loop
-lead-of-requires c κs = search needs
-
-add-j : tie.Need-add-j Inv-loop μ-loop
-add-j c = search needs
 
 returns-2 : tie.Need-returns-2 Inv-loop μ-loop
 returns-2 c = tail-past _ _ _ (c .before .before .before .before .before .before .before .before .loop .inv .1) (c .before .before .before .before .before .before .before .before .loop .inv .0) (c .before .before .before .before .shared-slice-known2 .given (c .before .before .before .before .before .before .before .before .loop .k / 8) .fits) _ (c .before .before .before .rest-of .ensures) (c .before .before .if2 .taken) _ (c .before .lead-of .ensures .0) _ (c .if3 .taken)
 
 returns-3 : tie.Need-returns-3 Inv-loop μ-loop
 returns-3 c = tail-hit _ _ _ (c .before .before .before .before .before .before .before .before .loop .inv .1) (c .before .before .before .before .before .before .before .before .loop .inv .0) (c .before .before .before .before .shared-slice-known2 .given (c .before .before .before .before .before .before .before .before .loop .k / 8) .fits) _ (c .before .before .before .rest-of .ensures) (c .before .before .if2 .taken) _ (c .before .lead-of .ensures .0) _ (c .if3 .left)
-
-mul-pass-over : tie.Need-mul-pass-over Inv-loop μ-loop
-mul-pass-over c = search needs
-
-add-pass-over : tie.Need-add-pass-over Inv-loop μ-loop
-add-pass-over c = search needs
-
-pass-over-requires : tie.Need-pass-over-requires Inv-loop μ-loop
-pass-over-requires c κs = search needs
-
-loop-less : tie.Need-loop-less Inv-loop μ-loop
-loop-less c = search needs
 
 loop-again : tie.Need-loop-again Inv-loop μ-loop
 loop-again c = (search needs, pass-on _ _ _ _ (tail-none _ _ _ (c .before .before .before .before .before .before .before .loop .inv .1) (c .before .before .before .before .before .before .before .loop .inv .0) (c .before .before .before .shared-slice-known2 .given (c .before .before .before .before .before .before .before .loop .k / 8) .fits) _ (c .before .before .rest-of .ensures) (c .before .if2 .left)) (c .pass-over .ensures))
@@ -69,18 +39,18 @@ next-marked-spec =
     Inv-loop
     μ-loop
     loop-holds
-    has-requires
+    (λ c κs. search needs)
     returns
-    shared-slice-read-rest-of
-    rest-of-requires
-    mul-j
-    lead-of-requires
-    add-j
+    (λ c. search needs)
+    (λ c κs. search needs)
+    (λ c. search needs)
+    (λ c κs. search needs)
+    (λ c. search needs)
     returns-2
     returns-3
-    mul-pass-over
-    add-pass-over
-    pass-over-requires
-    loop-less
+    (λ c. search needs)
+    (λ c. search needs)
+    (λ c κs. search needs)
+    (λ c. search needs)
     loop-again
     returns-4)

@@ -9,12 +9,6 @@ use borrow.Author.Needs.{needs}
 use Rattle.flush_marks.proofs.rest_of.Statement.{statement}
 use Rattle.flush_marks.proofs.rest_of.Tie as tie
 
-wide-requires : tie.Need-wide-requires
-wide-requires c κs = search needs
-
-shr-result : tie.Need-shr-result
-shr-result c = search needs
-
 rem-result : tie.Need-rem-result
 rem-result c = rest-divisor (c .before .args .f) (c .before .pre)
 
@@ -25,4 +19,4 @@ returns : tie.Need-returns
 returns c = ap (λ (x : ℕ). x % (256 / 2 ^ c .before .args .f)) (c .wide .ensures .0)
 
 pub rest-of-spec : {M : Type 1} → statement M
-rest-of-spec = tie.close (tie.spec wide-requires shr-result rem-result cast-result returns)
+rest-of-spec = tie.close (tie.spec (λ c κs. search needs) (λ c. search needs) rem-result cast-result returns)

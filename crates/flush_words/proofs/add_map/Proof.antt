@@ -3,44 +3,44 @@
 -- Assumes nothing.
 use Prim.Native.Nat.{_+_, _-_}
 use lib.ListN.{length}
-use native.Mathlib.Omega.{arith}
+use Rattle.flush_intervals.proofs.Parts.{no-room}
 use Rattle.flush_words.proofs.Gathering.{or-fits, Mapping, map-none, map-start, map-past, map-next, map-done}
 use borrow.Author.Needs.{needs}
 use Rattle.flush_words.proofs.add_map.Statement.{statement}
 use Rattle.flush_words.proofs.add_map.Tie as tie
 
 abbrev Inv-loop : tie.InvT-loop
-Inv-loop v keys₀ n start k w₀ bits₀ m₀ at₀ keys w bits m at = Mapping v keys₀ n keys k w bits m at
+Inv-loop v wanted keys₀ n start k w₀ bits₀ m₀ at₀ keys w bits m at = Mapping wanted v keys₀ n keys k w bits m at
 
 abbrev μ-loop : tie.MeasureT-loop
-μ-loop v keys₀ n start k w₀ bits₀ m₀ at₀ keys w bits m at = length v + 3 - at
+μ-loop v wanted keys₀ n start k w₀ bits₀ m₀ at₀ keys w bits m at = length v + 3 - at
 
 returns : tie.Need-returns Inv-loop μ-loop
-returns c = λ few. search map-none
+returns c = search map-none
 
 loop-holds : tie.Need-loop-holds Inv-loop μ-loop
 loop-holds c = search map-start
 
 returns-2 : tie.Need-returns-2 Inv-loop μ-loop
-returns-2 c = λ few. search map-past
+returns-2 c = search map-past
 
 returns-3 : tie.Need-returns-3 Inv-loop μ-loop
-returns-3 c = λ few. absurd (omega arith)
+returns-3 c = search no-room
 
 put-requires : tie.Need-put-requires Inv-loop μ-loop
-put-requires c κs = (search needs, (search needs, search or-fits))
+put-requires c κs = ((search needs, search needs), (search needs, search or-fits))
 
 loop-again : tie.Need-loop-again Inv-loop μ-loop
 loop-again c = search map-next
 
 returns-4 : tie.Need-returns-4 Inv-loop μ-loop
-returns-4 c = λ few. search map-past
+returns-4 c = search map-past
 
 returns-5 : tie.Need-returns-5 Inv-loop μ-loop
-returns-5 c = λ few. absurd (omega arith)
+returns-5 c = search no-room
 
 returns-6 : tie.Need-returns-6 Inv-loop μ-loop
-returns-6 c = λ few. search map-done
+returns-6 c = search map-done
 
 pub add-map-spec : {M : Type 1} → statement M
 add-map-spec =

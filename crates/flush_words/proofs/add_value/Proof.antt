@@ -9,7 +9,7 @@ returns : tie.Need-returns
 returns c = search value-map
 
 returns-2 : tie.Need-returns-2
-returns-2 c = λ few. search value-other
+returns-2 c = search value-other
 
 pub add-value-spec : {M : Type 1} → statement M
 add-value-spec = tie.close (tie.spec (λ c κs. search needs) (λ c. search needs) returns returns-2)

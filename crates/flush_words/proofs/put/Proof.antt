@@ -1,15 +1,15 @@
--- `flush_words::put` meets its contract: the word stands behind the first n, or it has no bits.
+-- `flush_words::put` meets its contract: the word stands after the first n, and is counted where it is wanted.
 -- Assumes nothing.
-use Rattle.flush_words.proofs.Gathering.{put-some, put-none}
+use Rattle.flush_words.proofs.Gathering.{put-added}
 use borrow.Author.Needs.{needs}
 use Rattle.flush_words.proofs.put.Statement.{statement}
 use Rattle.flush_words.proofs.put.Tie as tie
 
-returns : tie.Need-returns
-returns c = search put-none
+add-result : tie.Need-add-result
+add-result c = let one = c .counted .ensures .0 in search needs
 
-returns-2 : tie.Need-returns-2
-returns-2 c = search put-some
+returns : tie.Need-returns
+returns c = search put-added
 
 pub put-spec : {M : Type 1} → statement M
 put-spec =
@@ -19,8 +19,7 @@ put-spec =
     (λ c. search needs)
     (λ c. search needs)
     (λ c. search needs)
+    (λ c κs. search needs)
+    add-result
     (λ c. search needs)
-    returns
-    (λ c. search needs)
-    (λ c. search needs)
-    returns-2)
+    returns)

@@ -4,6 +4,7 @@ use mathlib.Core.Path.{_≡_, refl}
 use Rattle.frame_copy.proofs.Copying.{Taken, paste-whole, take-next, give-next}
 use Prim.Native.Nat.{_-_, _≤_}
 use lib.ListN.{length}
+use Rattle.frame.specs.Formats.{longestFrame}
 use native.Mathlib.Omega.{arith}
 use lib.Seq.{paste, paste-zero}
 use borrow.Author.Needs.{needs}
@@ -11,7 +12,7 @@ use Rattle.frame_copy.proofs.copy_block.Statement.{statement}
 use Rattle.frame_copy.proofs.copy_block.Tie as tie
 
 abbrev Inv-loop : tie.InvT-loop
-Inv-loop src out at block₀ n i₀ block i = (i ≤ length src) × ((length block ≡ 9216) × Taken i block src)
+Inv-loop src out at block₀ n i₀ block i = (i ≤ length src) × ((length block ≡ longestFrame) × Taken i block src)
 
 abbrev μ-loop : tie.MeasureT-loop
 μ-loop src out at block₀ n i₀ block i = length src - i

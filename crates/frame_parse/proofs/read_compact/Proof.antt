@@ -1,20 +1,16 @@
--- `frame_parse::read_compact` meets its contract: the label behind the addresses, then the rest.
+-- `frame_parse::read_compact` meets its contract: the label after the addresses, then what is after it.
 -- Assumes nothing.
-use native.Mathlib.Omega.{arith}
-use Rattle.frame_parse.proofs.General.{label-room}
-use Rattle.frame_parse.proofs.Compact.{c-label, c-behind}
+use Rattle.frame_parse.proofs.Outcomes.{reads-refused}
+use Rattle.frame_parse.proofs.Compact.{label-refused, label-got}
 use borrow.Author.Needs.{needs}
 use Rattle.frame_parse.proofs.read_compact.Statement.{statement}
 use Rattle.frame_parse.proofs.read_compact.Tie as tie
 
-compact-behind-requires : tie.Need-compact-behind-requires
-compact-behind-requires c κs = omega (arith, label-room _ _ _ (c .before .k .given .1) (c .before .before .before .label-length .ensures))
+compact-after-label-requires : tie.Need-compact-after-label-requires
+compact-after-label-requires c κs = (search needs, (search label-got, search needs))
 
 returns : tie.Need-returns
-returns c = (search c-label, tt)
-
-returns-2 : tie.Need-returns-2
-returns-2 c = (search c-behind, search needs)
+returns c = reads-refused _ _ _ (search label-refused)
 
 pub read-compact-spec : {M : Type 1} → statement M
 read-compact-spec =
@@ -24,6 +20,6 @@ read-compact-spec =
     (λ c κs. search needs)
     (λ c. search needs)
     (λ c. search needs)
-    compact-behind-requires
+    compact-after-label-requires
     returns
-    returns-2)
+    (λ c. search needs))

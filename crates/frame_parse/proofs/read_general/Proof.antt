@@ -1,18 +1,16 @@
--- `frame_parse::read_general` meets its contract: the outer part, then the rest.
+-- `frame_parse::read_general` meets its contract: the outer part, then what is after it.
 -- Assumes nothing.
-use Rattle.frame_parse.proofs.General.{outer-room, g-outer, g-behind}
+use Rattle.frame_parse.proofs.Outcomes.{reads-refused}
+use Rattle.frame_parse.proofs.General.{length-bytes, outer-refused}
 use borrow.Author.Needs.{needs}
 use Rattle.frame_parse.proofs.read_general.Statement.{statement}
 use Rattle.frame_parse.proofs.read_general.Tie as tie
 
-general-behind-requires : tie.Need-general-behind-requires
-general-behind-requires c κs = search outer-room
+general-after-outer-requires : tie.Need-general-after-outer-requires
+general-after-outer-requires c κs = (search length-bytes, search needs)
 
 returns : tie.Need-returns
-returns c = (search g-outer, tt)
-
-returns-2 : tie.Need-returns-2
-returns-2 c = (search g-behind, search needs)
+returns c = reads-refused _ _ _ (search outer-refused)
 
 pub read-general-spec : {M : Type 1} → statement M
 read-general-spec =
@@ -21,6 +19,6 @@ read-general-spec =
     (λ c κs. search needs)
     (λ c. search needs)
     (λ c. search needs)
-    general-behind-requires
+    general-after-outer-requires
     returns
-    returns-2)
+    (λ c. search needs))

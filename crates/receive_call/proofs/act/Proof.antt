@@ -9,22 +9,22 @@ use Rattle.receive_call.proofs.act.Tie as tie
 returns : tie.Need-returns
 returns c = let a = c .before .before .before .before .before .before .before .before .before .args in
     let p = fieldsIn (a .f .now) (a .p) in
-    act-refused (a .s) p (a .table .now) (a .out .now) _ (c .before .before .before .decide .ensures p (c .before .before .before .before .before .read-view .ensures) (c .before .before .before .before .starts-with .ensures)) _ (c .before .n .given .1)
+    act-refused (a .s) p (a .table .now) (a .out .now) _ (c .before .before .before .decide .ensures p (c .before .before .before .before .before .read-values .ensures) (c .before .before .before .before .has-ethertype .ensures)) _ (c .before .n .given .1)
 
 returns-2 : tie.Need-returns-2
 returns-2 c = let a = c .before .before .before .before .before .before .before .before .args in
     let p = fieldsIn (a .f .now) (a .p) in
-    act-onward (a .s) p (a .table .now) (a .out .now) _ (c .before .before .decide .ensures p (c .before .before .before .before .read-view .ensures) (c .before .before .before .starts-with .ensures)) (c .enum-told .given .1)
+    act-onward (a .s) p (a .table .now) (a .out .now) _ (c .before .before .decide .ensures p (c .before .before .before .before .read-values .ensures) (c .before .before .before .has-ethertype .ensures)) (c .enum-told .given .1)
 
 returns-3 : tie.Need-returns-3
 returns-3 c = let a = c .before .before .before .before .before .before .before .before .before .before .before .before .args in
     let p = fieldsIn (a .f .now) (a .p) in
-    act-channel (a .s) p (a .table .now) (a .out .now) _ (c .before .before .before .before .before .before .decide .ensures p (c .before .before .before .before .before .before .before .before .read-view .ensures) (c .before .before .before .before .before .before .before .starts-with .ensures)) (c .before .before .before .before .enum-told2 .given .1) _ (c .before .before .obey .ensures (c .before .before .before .before .before .before .before .before .before .before .before .before .args .out .now))
+    act-channel (a .s) p (a .table .now) (a .out .now) _ (c .before .before .before .before .before .before .decide .ensures p (c .before .before .before .before .before .before .before .before .read-values .ensures) (c .before .before .before .before .before .before .before .has-ethertype .ensures)) (c .before .before .before .before .enum-told2 .given .1) _ (c .before .before .handle .ensures (c .before .before .before .before .before .before .before .before .before .before .before .before .args .out .now))
 
 returns-4 : tie.Need-returns-4
 returns-4 c = let a = c .before .before .before .before .before .before .before .before .before .before .before .before .before .before .before .args in
     let p = fieldsIn (a .f .now) (a .p) in
-    act-native (a .s) p (a .table .now) (a .out .now) _ (c .before .before .before .before .before .before .before .before .before .decide .ensures p (c .before .before .before .before .before .before .before .before .before .before .before .read-view .ensures) (c .before .before .before .before .before .before .before .before .before .before .starts-with .ensures)) (c .before .before .before .before .before .before .before .enum-told3 .given .1) _ (c .before .before .before .before .deliver .ensures)
+    act-native (a .s) p (a .table .now) (a .out .now) _ (c .before .before .before .before .before .before .before .before .before .decide .ensures p (c .before .before .before .before .before .before .before .before .before .before .before .read-values .ensures) (c .before .before .before .before .before .before .before .before .before .before .has-ethertype .ensures)) (c .before .before .before .before .before .before .before .enum-told3 .given .1) _ (c .before .before .before .before .deliver .ensures)
 
 pub act-spec : {M : Type 1} → statement M
 act-spec =

@@ -12,9 +12,16 @@ returns-2 : tie.Need-returns-2
 returns-2 c = search short-out
 
 returns-3 : tie.Need-returns-3
-returns-3 c = let a = c .before .before .before .before .before .before .before .before .before .before .before .before .before .before .before .before .before .before .args in
-    let h = c .before .before .before .before .before .before .before .before .before .before .before .before .before .before .before .before .before .before .pre in
-    done (a .f .now) (a .p) (h .inside) (a .s) (a .v) (h .viewed) (a .table .now) (a .out .now) _ (c .before .before .before .before .before .before .before .before .before .before .before .before .before .before .is-trill-group .ensures) (c .before .before .before .before .before .before .before .before .before .before .before .before .before .if1 .left) (c .before .before .before .before .before .before .before .before .before .before .before .if2 .left) _ (c .before .before .before .before .before .before .before .before .before .label-at .ensures .0) _ (c .before .before .before .before .lesson .ensures .0) _ _ (c .before .before .learn .ensures) _ (c .before .before .before .before .before .before .before .write-native .ensures)
+returns-3 c =
+    let learn = c .before .before in
+    let entry = learn .before .before in
+    let native = entry .before .before .before in
+    let label = native .before .before in
+    let room = label .before in
+    let group = room .before .before in
+    let start = group .before .before .before .before .before in
+    let a = start .args in
+    done (a .f .now) (a .p) (start .pre .1 .0) (a .s) (a .v) (start .pre .1 .1) (a .table .now) (a .out .now) _ (group .before .is-trill-group .ensures) (group .if1 .left) (room .if2 .left) _ (label .label-of .ensures .0) _ (entry .learned-entry .ensures .0) _ _ (learn .learn .ensures) _ (native .write-native .ensures)
 
 pub deliver-spec : {M : Type 1} → statement M
 deliver-spec =
@@ -25,7 +32,6 @@ deliver-spec =
     (λ c. search needs)
     (λ c. search needs)
     returns-2
-    (λ c. search needs)
     (λ c κs. search needs)
     (λ c κs. search needs)
     (λ c κs. search needs)

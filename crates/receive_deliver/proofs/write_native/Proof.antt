@@ -1,4 +1,4 @@
--- `receive_deliver::write_native` meets its contract: each part is copied right behind the one before.
+-- `receive_deliver::write_native` meets its contract: each part is copied right after the one before.
 -- Assumes nothing.
 use Rattle.receive_deliver.proofs.Laws.{native-written}
 use borrow.Author.Needs.{needs}

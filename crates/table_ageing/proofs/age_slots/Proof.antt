@@ -1,23 +1,23 @@
--- `table_ageing::age_slots` meets its contract. The invariant: the slots below place `a` are aged, and the others as they were.
+-- `table_ageing::age_slots` meets its contract. The invariant: the slots below offset `a` are aged, and the others as they were.
 -- Assumes nothing.
 use Prim.Native.Nat.{ℕ, _≤_, _-_, _+_, _/_, _%_}
 use mathlib.Core.List.{List}
 use mathlib.Core.Path.{_≡_, refl, sym, ap, _∙_}
 use native.Mathlib.Omega.{arith}
 use lib.ListN.{length}
-use Rattle.table.specs.Record.{isLearned}
-use Rattle.table.specs.Slots.{onSlots}
+use Rattle.table.specs.Record.{isLearned, learnedState}
+use Rattle.table.specs.Slots.{slotBytes, onSlots}
 use Rattle.table.specs.Table.{agedSlot}
 use Rattle.table.proofs.Slots.{length-onSlots}
 use Rattle.table.proofs.Unique.{aged-keeps}
-use Rattle.table_records.specs.Rounds.{InLearnedState, Passed}
+use Rattle.table_rounds.specs.Rounds.{InState, Passed}
 use Rattle.table_ageing.proofs.Laws.{length-at, learned-lent, aged-at, passed-by}
 use borrow.Author.Needs.{needs}
 use Rattle.table_ageing.proofs.age_slots.Statement.{statement}
 use Rattle.table_ageing.proofs.age_slots.Tie as tie
 
 abbrev Inv-loop : tie.InvT-loop
-Inv-loop table₀ s n a₀ table a = (a % 14 ≡ 0) × ((a ≤ n) × ((length table ≡ length table₀) × (table ≡ onSlots (agedSlot s) 0 (a / 14) table₀)))
+Inv-loop table₀ s n a₀ table a = (a % slotBytes ≡ 0) × ((a ≤ n) × ((length table ≡ length table₀) × (table ≡ onSlots (agedSlot s) 0 (a / slotBytes) table₀)))
 
 abbrev μ-loop : tie.MeasureT-loop
 μ-loop table₀ s n a₀ table a = n - a
@@ -54,12 +54,12 @@ loop-again c =
     let long = at .inv .1 .1 .0 in
     let a = c .before .before .before .before .before .before .before .before .before .before .args in
     let t : List ℕ = a .table .now in
-    let step = aged-at (a .s) t (at .table) (at .a / 14) (at .inv .1 .1 .1) (at .a) (omega arith) (omega arith) _ (c .before .before .age-slot .ensures) in
-    let next : (at .a + 14) / 14 ≡ at .a / 14 + 1 = omega arith in (
+    let step = aged-at (a .s) t (at .table) (at .a / slotBytes) (at .inv .1 .1 .1) (at .a) (omega arith) (omega arith) _ (c .before .before .age-slot .ensures) in
+    let next : (at .a + slotBytes) / slotBytes ≡ at .a / slotBytes + 1 = omega arith in (
       omega arith,
       (
         omega arith,
-        (ap length step ∙ length-onSlots (agedSlot (a .s)) (aged-keeps (a .s)) t 0 (at .a / 14 + 1) (omega arith), rw next step),
+        (ap length step ∙ length-onSlots (agedSlot (a .s)) (aged-keeps (a .s)) t 0 (at .a / slotBytes + 1) (omega arith), rw next step),
       ),
     )
 
@@ -79,17 +79,17 @@ loop-again-2 c =
     let t : List ℕ = a .table .now in
     let r : ℕ = c .next-learned .result in
     let to = c .next-learned .ensures in
-    let whole : r % 14 ≡ 0 = to .0 in
-    let above : at .a + 14 ≤ r = to .1 .0 in
+    let whole : r % slotBytes ≡ 0 = to .0 in
+    let above : at .a + slotBytes ≤ r = to .1 .0 in
     let within : r ≤ length (at .table) = to .1 .1 .0 in
-    let next : (at .a + 14) / 14 ≡ at .a / 14 + 1 = omega arith in
-    let passed : Passed InLearnedState (at .a / 14 + 1) (r / 14) (at .table) = rw next at (to .1 .1 .1) in (
+    let next : (at .a + slotBytes) / slotBytes ≡ at .a / slotBytes + 1 = omega arith in
+    let passed : Passed (InState learnedState) (at .a / slotBytes + 1) (r / slotBytes) (at .table) = rw next at (to .1 .1 .1) in (
       whole,
       (
         omega arith,
         (
           long,
-          passed-by (a .s) t (at .table) (at .a / 14) (at .inv .1 .1 .1) (at .a) (r / 14) (omega arith) (omega arith) (omega arith) _ (c .before .before .before .learned-at .ensures) (c .before .before .if1 .left) passed,
+          passed-by (a .s) t (at .table) (at .a / slotBytes) (at .inv .1 .1 .1) (at .a) (r / slotBytes) (omega arith) (omega arith) (omega arith) _ (c .before .before .before .learned-at .ensures) (c .before .before .if1 .left) passed,
         ),
       ),
     )
@@ -101,7 +101,7 @@ returns : tie.Need-returns Inv-loop μ-loop
 returns c =
     let at = c .before .loop in
     let aligned = at .inv .0 in
-    let done : at .a / 14 ≡ length (c .before .before .before .args .table .now) / 14 = omega arith in
+    let done : at .a / slotBytes ≡ length (c .before .before .before .args .table .now) / slotBytes = omega arith in
     rw done at (at .inv .1 .1 .1)
 
 pub age-slots-spec : {M : Type 1} → statement M

@@ -4,14 +4,16 @@ use Prim.Native.Nat.{_+_, _-_, _/_, _%_, _≤_}
 use mathlib.Core.Path.{_≡_}
 use native.Mathlib.Omega.{arith}
 use borrow.Author.Tests.{not-false}
-use Rattle.table_records.specs.Rounds.{InLearnedState, Passed}
-use Rattle.table_records.proofs.Rounds.{passed-none, passed-four}
+use Rattle.table.specs.Record.{learnedState}
+use Rattle.table.specs.Slots.{slotBytes}
+use Rattle.table_rounds.specs.Rounds.{InState, fourSlots, Passed}
+use Rattle.table_rounds.proofs.Laws.{passed-none, passed-four}
 use borrow.Author.Needs.{needs}
 use Rattle.table_ageing.proofs.next_learned.Statement.{statement}
 use Rattle.table_ageing.proofs.next_learned.Tie as tie
 
 abbrev Inv-loop : tie.InvT-loop
-Inv-loop t from n a₀ a = (a % 14 ≡ 0) × ((from ≤ a) × ((a ≤ n) × Passed InLearnedState (from / 14) (a / 14) t))
+Inv-loop t from n a₀ a = (a % slotBytes ≡ 0) × ((from ≤ a) × ((a ≤ n) × Passed (InState learnedState) (from / slotBytes) (a / slotBytes) t))
 
 abbrev μ-loop : tie.MeasureT-loop
 μ-loop t from n a₀ a = n - a
@@ -19,10 +21,10 @@ abbrev μ-loop : tie.MeasureT-loop
 loop-holds : tie.Need-loop-holds Inv-loop μ-loop
 loop-holds c =
     let a = c .before .args in
-    (c .before .pre .0, (search needs, (c .before .pre .1, passed-none InLearnedState (a .t .now) (a .from / 14))))
+    (c .before .pre .0, (search needs, (c .before .pre .1, passed-none (InState learnedState) (a .t .now) (a .from / slotBytes))))
 
-none-learned-requires : tie.Need-none-learned-requires Inv-loop μ-loop
-none-learned-requires c κs = omega arith
+none-in-state-requires : tie.Need-none-in-state-requires Inv-loop μ-loop
+none-in-state-requires c κs = omega arith
 
 returns : tie.Need-returns Inv-loop μ-loop
 returns c =
@@ -34,8 +36,8 @@ loop-again c =
     let at = c .before .before .before .loop in
     let a = c .before .before .before .before .before .args in
     let aligned = at .inv .0 in
-    let next : (at .a + 56) / 14 ≡ at .a / 14 + 4 = omega arith in
-    let more = passed-four InLearnedState (a .t .now) (a .from / 14) (at .a / 14) (at .a) (omega arith) (at .inv .1 .1 .1) (c .before .none-learned .ensures (not-false _ (c .if1 .left))) in
+    let next : (at .a + fourSlots) / slotBytes ≡ at .a / slotBytes + 4 = omega arith in
+    let more = passed-four (InState learnedState) (a .t .now) (a .from / slotBytes) (at .a / slotBytes) (at .a) (omega arith) (at .inv .1 .1 .1) (c .before .none-in-state .ensures (not-false _ (c .if1 .left))) in
     (omega arith, (search needs, (search needs, rw next more)))
 
 returns-2 : tie.Need-returns-2 Inv-loop μ-loop
@@ -51,7 +53,7 @@ next-learned-spec =
     μ-loop
     loop-holds
     (λ c. search needs)
-    none-learned-requires
+    none-in-state-requires
     returns
     (λ c. search needs)
     (λ c. search needs)

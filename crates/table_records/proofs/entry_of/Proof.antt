@@ -1,12 +1,12 @@
 -- `table_records::entry_of` meets its contract, field by field.
 -- Assumes nothing.
-use Rattle.table_records.proofs.Laws.{entry-halves}
+use Rattle.table_records.proofs.Laws.{entry-bits}
 use borrow.Author.Needs.{needs}
 use Rattle.table_records.proofs.entry_of.Statement.{statement}
 use Rattle.table_records.proofs.entry_of.Tie as tie
 
 returns : tie.Need-returns
-returns c = entry-halves (c .before .before .before .before .before .before .args .h) (c .before .before .before .before .before .before .pre .0) _ (c .before .before .before .before .before .label-of .ensures)
+returns c = entry-bits (c .before .before .before .before .before .before .args .b) (c .before .before .before .before .before .before .pre .0) _ (c .before .before .before .before .before .label-of .ensures)
 
 pub entry-of-spec : {M : Type 1} → statement M
 entry-of-spec =

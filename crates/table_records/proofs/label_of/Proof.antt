@@ -7,13 +7,13 @@ use Rattle.table_records.proofs.label_of.Statement.{statement}
 use Rattle.table_records.proofs.label_of.Tie as tie
 
 cast-t7 : tie.Need-cast-t7
-cast-t7 c = omega (arith, vlan-fits (c .before .before .before .args .h) (c .before .before .before .pre .0) (c .before .before .before .pre .1) (c .if1 .taken))
+cast-t7 c = omega (arith, vlan-fits (c .before .before .before .args .b) (c .before .before .before .pre .0) (c .before .before .before .pre .1) (c .if1 .taken))
 
 returns : tie.Need-returns
-returns c = label-vlan (c .before .before .before .args .h) (c .before .before .before .pre .0) (c .before .before .before .pre .1) (c .if1 .taken)
+returns c = label-vlan (c .before .before .before .args .b) (c .before .before .before .pre .0) (c .before .before .before .pre .1) (c .if1 .taken)
 
 returns-2 : tie.Need-returns-2
-returns-2 c = label-fine (c .before .before .before .args .h) (c .before .before .before .pre .0) (c .before .before .before .pre .1) (c .if1 .left)
+returns-2 c = label-fine (c .before .before .before .args .b) (c .before .before .before .pre .0) (c .before .before .before .pre .1) (c .if1 .left)
 
 pub label-of-spec : {M : Type 1} → statement M
 label-of-spec = tie.close (tie.spec cast-t7 (λ c. search needs) returns returns-2)

@@ -9,7 +9,7 @@ use Rattle.table_records.proofs.pack.Tie as tie
 
 returns : tie.Need-returns
 unfolding packed
-returns c = c .before .before .write .ensures ∙ ap (bytesOf recordBytes) (sym (c .before .before .before .before .join .ensures .whole))
+returns c = c .before .before .write .ensures ∙ ap (bytesOf recordBytes) (sym (c .before .before .before .before .bits-of .ensures .number))
 
 pub pack-spec : {M : Type 1} → statement M
 pack-spec = tie.close (tie.spec (λ c κs. search needs) (λ c κs. search needs) (λ c. search needs) returns)

@@ -1,23 +1,24 @@
--- `table_records::unpack` meets its contract: free, or what the state and the entry tell.
+-- `table_records::unpack` meets its contract: free, or what the state and the entry decide.
 -- Assumes nothing.
 use mathlib.Core.Path.{sym, ap, _∙_}
 use Rattle.table.specs.Record.{slotOf, unpacked}
-use Rattle.table_records.proofs.Laws.{slot-free, slot-held}
+use Rattle.table.proofs.Contents.{slot-free}
 use borrow.Author.Needs.{needs}
 use Rattle.table_records.proofs.unpack.Statement.{statement}
 use Rattle.table_records.proofs.unpack.Tie as tie
 
 returns : tie.Need-returns
 unfolding unpacked
-returns c = slot-free _ (sym (c .before .is-free .ensures) ∙ c .if1 .taken) ∙ ap slotOf (sym (c .before .before .split .ensures .whole))
+returns c = slot-free _ (sym (c .before .is-free .ensures) ∙ c .if1 .taken) ∙ ap slotOf (sym (c .before .before .bits-at .ensures .number))
+
+held-or-spoilt-requires : tie.Need-held-or-spoilt-requires
+held-or-spoilt-requires c κs = (search needs, sym (c .before .is-free .ensures) ∙ c .if1 .left)
 
 returns-2 : tie.Need-returns-2
 unfolding unpacked
 returns-2 c =
-    c .held-or-spoilt .ensures
-    ∙ slot-held _ (sym (c .before .before .is-free .ensures) ∙ c .before .if1 .left)
-    ∙ ap slotOf (sym (c .before .before .before .split .ensures .whole))
+    c .held-or-spoilt .ensures ∙ ap slotOf (sym (c .before .before .before .bits-at .ensures .number))
 
 pub unpack-spec : {M : Type 1} → statement M
 unpack-spec =
-    tie.close (tie.spec (λ c κs. search needs) (λ c κs. search needs) returns (λ c κs. search needs) returns-2)
+    tie.close (tie.spec (λ c κs. search needs) (λ c κs. search needs) returns held-or-spoilt-requires returns-2)

@@ -1,6 +1,6 @@
--- `table_records::unpack_held` meets its contract: the state tells which of the two it is.
+-- `table_records::unpack_held` meets its contract: the state decides which of the two it is.
 -- Assumes nothing.
-use Rattle.table_records.proofs.Held.{held-good, held-learned, held-configured}
+use Rattle.table_records.proofs.Laws.{held-good, held-learned, held-configured}
 use borrow.Author.Needs.{needs}
 use Rattle.table_records.proofs.unpack_held.Statement.{statement}
 use Rattle.table_records.proofs.unpack_held.Tie as tie

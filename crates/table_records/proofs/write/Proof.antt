@@ -1,4 +1,4 @@
--- `table_records::write` meets its contract: the parts' bytes, one behind the other, are the record's.
+-- `table_records::write` meets its contract: the parts' bytes, one after the other, are the record's.
 -- Assumes nothing.
 use Prim.Native.Nat.{ℕ}
 use mathlib.Core.List.{List}
@@ -7,7 +7,7 @@ use native.Mathlib.Omega.{arith}
 use lib.ListN.{length}
 use Rattle.numbers.specs.Bytes.{bytesOf}
 use Rattle.numbers.proofs.Bytes.{length-bytesOf, bytesOf-join, put-two}
-use Rattle.table_records.specs.declared.Halves.{Halves}
+use Rattle.table_records.specs.declared.RecordBits.{RecordBits}
 use borrow.Author.Needs.{needs}
 use Rattle.table_records.proofs.write.Statement.{statement}
 use Rattle.table_records.proofs.write.Tie as tie
@@ -15,13 +15,13 @@ use Rattle.table_records.proofs.write.Tie as tie
 returns : tie.Need-returns
 returns c =
     let start = c .before .before .before .before .before .before .before .before .before in
-    let h : Halves = start .args .h in
+    let b : RecordBits = start .args .b in
     let ys : List ℕ = c .before .before .before .before .before .before .fill8 .last .0 in
     let zs : List ℕ = c .before .before .fill6 .last .0 in
-    let first : ys ≡ bytesOf 8 (h .hi) = c .before .before .before .before .before .before .fill8 .ensures in
-    let second : zs ≡ bytesOf 6 (h .lo) = c .before .before .fill6 .ensures in
-    put-two (start .args .slot .now) ys zs 8 6 (start .pre .0) (ap length first ∙ length-bytesOf 8 (h .hi)) (ap length second ∙ length-bytesOf 6 (h .lo))
-    ∙ rw (first, second) (sym (bytesOf-join 8 6 (h .hi) (h .lo) (omega arith)))
+    let first : ys ≡ bytesOf 8 (b .high) = c .before .before .before .before .before .before .fill8 .ensures in
+    let second : zs ≡ bytesOf 6 (b .low) = c .before .before .fill6 .ensures in
+    put-two (start .args .slot .now) ys zs 8 6 (start .pre .0) (ap length first ∙ length-bytesOf 8 (b .high)) (ap length second ∙ length-bytesOf 6 (b .low))
+    ∙ rw (first, second) (sym (bytesOf-join 8 6 (b .high) (b .low) (omega arith)))
 
 pub write-spec : {M : Type 1} → statement M
 write-spec =

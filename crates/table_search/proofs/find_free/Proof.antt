@@ -7,7 +7,8 @@ use Rattle.table.specs.Slots.{firstSlot}
 use Rattle.table.specs.declared.Place.the-variants.{Nowhere}
 use Rattle.table.proofs.Slots.{search-next, search-hit, search-end}
 use Rattle.table.specs.Learning.{freeSlot}
-use Rattle.table_search.proofs.Laws.{free-near, free-past}
+use Rattle.table.proofs.Contents.{free-near}
+use Rattle.table_search.proofs.Laws.{free-past}
 use borrow.Author.Needs.{needs}
 use Rattle.table_search.proofs.find_free.Statement.{statement}
 use Rattle.table_search.proofs.find_free.Tie as tie
@@ -32,7 +33,7 @@ loop-again c =
     let a = c .before .before .before .before .before .before .args in
     let at = c .before .before .before .before .loop in
     let here = search-next freeSlot free-near (a .t .now) (at .j) (at .inv .1) _ (c .before .before .free-at .ensures) (c .before .if1 .left) in
-    (search needs, free-past (a .t .now) (at .j + 1) _ (c .next-unset .ensures .0) (c .next-unset .ensures .1 .1) here)
+    (search needs, free-past (a .t .now) (at .j + 1) _ (c .next-in-state .ensures .0) (c .next-in-state .ensures .1 .1) here)
 
 returns-2 : tie.Need-returns-2 Inv-loop μ-loop
 returns-2 c =

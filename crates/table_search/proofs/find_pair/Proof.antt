@@ -1,4 +1,4 @@
--- `table_search::find_pair` meets its contract: slot 0 holds the label and the address, or the lowest behind it is theirs.
+-- `table_search::find_pair` meets its contract: slot 0 holds the label and the address, or the lowest after it is theirs.
 -- Assumes nothing.
 use Prim.Native.Nat.{ℕ}
 use mathlib.Core.Bool.{Bool}
@@ -11,8 +11,9 @@ use Rattle.table.specs.Record.{labelFrom}
 use Rattle.table.specs.Table.{holds}
 use Rattle.table.specs.declared.Place.the-variants.{Nowhere}
 use Rattle.table.proofs.Slots.{search-next, search-hit, search-end}
-use Rattle.table_records.specs.Halves.{Pair}
-use Rattle.table_search.proofs.Laws.{holds-near, pair-nowhere}
+use Rattle.table_pairs.specs.Pairs.{Pair}
+use Rattle.table.proofs.Contents.{holds-near}
+use Rattle.table_search.proofs.Laws.{pair-nowhere}
 use borrow.Author.Needs.{needs}
 use Rattle.table_search.proofs.find_pair.Statement.{statement}
 use Rattle.table_search.proofs.find_pair.Tie as tie
@@ -44,22 +45,22 @@ returns-2 c =
     let a = c .before .before .before .before .args in
     search-end (holds (labelFrom (a .kind) (a .label)) (a .mac)) (holds-near (labelFrom (a .kind) (a .label)) (a .mac)) (a .t .now) 0 (omega arith) (omega arith) (none _ _)
 
-pair-at-requires : tie.Need-pair-at-requires
-pair-at-requires c κs = (search needs, (c .key-of .ensures, pair c))
+holds-at-requires : tie.Need-holds-at-requires
+holds-at-requires c κs = (search needs, (c .key-of .ensures, pair c))
 
 returns-3 : tie.Need-returns-3
 returns-3 c =
     let a = c .before .before .before .before .before .before .before .args in
-    search-hit (holds (labelFrom (a .kind) (a .label)) (a .mac)) (holds-near (labelFrom (a .kind) (a .label)) (a .mac)) (a .t .now) 0 (none _ _) _ (c .before .pair-at .ensures) (omega arith) (c .if3 .taken)
+    search-hit (holds (labelFrom (a .kind) (a .label)) (a .mac)) (holds-near (labelFrom (a .kind) (a .label)) (a .mac)) (a .t .now) 0 (none _ _) _ (c .before .holds-at .ensures) (omega arith) (c .if3 .taken)
 
-find-behind-requires : tie.Need-find-behind-requires
-find-behind-requires c κs =
+find-after-requires : tie.Need-find-after-requires
+find-after-requires c κs =
     let a = c .before .before .before .before .before .before .before .args in
-    let here = search-next (holds (labelFrom (a .kind) (a .label)) (a .mac)) (holds-near (labelFrom (a .kind) (a .label)) (a .mac)) (a .t .now) 0 (none _ _) _ (c .before .pair-at .ensures) (c .if3 .left) in
+    let here = search-next (holds (labelFrom (a .kind) (a .label)) (a .mac)) (holds-near (labelFrom (a .kind) (a .label)) (a .mac)) (a .t .now) 0 (none _ _) _ (c .before .holds-at .ensures) (c .if3 .left) in
     (omega arith, (c .before .before .key-of .ensures, (pair (c .before .before), here)))
 
 returns-4 : tie.Need-returns-4
-returns-4 c = c .find-behind .ensures
+returns-4 c = c .find-after .ensures
 
 pub find-pair-spec : {M : Type 1} → statement M
 find-pair-spec =
@@ -69,7 +70,7 @@ find-pair-spec =
     returns
     returns-2
     (λ c κs. search needs)
-    pair-at-requires
+    holds-at-requires
     returns-3
-    find-behind-requires
+    find-after-requires
     returns-4)

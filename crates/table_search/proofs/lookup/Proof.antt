@@ -4,6 +4,7 @@ use Prim.Native.Nat.{_+_, _*_, _≤_}
 use mathlib.Core.Path.{sym, _∙_}
 use native.Mathlib.Omega.{arith}
 use lib.ListN.{length}
+use Rattle.table.specs.Slots.{slotBytes}
 use borrow.Author.Tests.{not-true, not-false}
 use Rattle.table_search.proofs.Laws.{place-within, lookup-refused, lookup-found, lookup-none}
 use borrow.Author.Needs.{needs}
@@ -11,7 +12,7 @@ use Rattle.table_search.proofs.lookup.Statement.{statement}
 use Rattle.table_search.proofs.lookup.Tie as tie
 
 -- the slot that was found is within the table
-in-table : (c : tie.After-known-told) → 14 * c .before .k .given .0 .0 + 14 ≤ length (c .before .before .before .before .before .before .before .args .table .now)
+in-table : (c : tie.After-known-told) → slotBytes * c .before .k .given .0 .0 + slotBytes ≤ length (c .before .before .before .before .before .before .before .args .table .now)
 in-table c =
     let a = c .before .before .before .before .before .before .before .args in
     place-within (a .kind) (a .label) (a .mac) (a .table .now) (c .before .k .given .0 .0) (sym (c .before .before .before .place-of .ensures) ∙ c .before .k .given .1)
@@ -41,6 +42,7 @@ lookup-spec =
     (λ c. search needs)
     mul-nickname-at
     nickname-at-requires
+    (λ c. search needs)
     (λ c. search needs)
     returns-2
     returns-3)

@@ -1,0 +1,12 @@
+-- `flush_nicknames::label_passes` meets its contract, by the kind of the label.
+-- Assumes nothing.
+use borrow.Author.Needs.{needs}
+use Rattle.flush_nicknames.proofs.First.{part-told}
+use Rattle.flush_nicknames.proofs.label_passes.Statement.{statement}
+use Rattle.flush_nicknames.proofs.label_passes.Tie as tie
+
+returns : tie.Need-returns
+returns c = part-told _ _ _ _ (c .before .before .kind-at .ensures) _ (c .before .label-at .ensures) _ (c .has .ensures)
+
+pub label-passes-spec : {M : Type 1} → statement M
+label-passes-spec = tie.close (tie.spec (λ c κs. search needs) (λ c κs. search needs) (λ c κs. search needs) returns)

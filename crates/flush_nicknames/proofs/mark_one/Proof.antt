@@ -1,0 +1,43 @@
+-- `flush_nicknames::mark_one` meets its contract: no slot has the nickname, or those from the first on are marked.
+-- Assumes nothing.
+use mathlib.Core.Path.{refl}
+use Prim.Native.Nat.{ℕ}
+use native.Mathlib.Omega.{arith}
+use lib.ListN.{length-replicate}
+use Rattle.flush_marks.proofs.Bits.{zeros-none}
+use Rattle.flush_vlans.specs.Vlans.{vlanBytes}
+use Rattle.flush_nicknames.proofs.First.{none-first, marked-first}
+use borrow.Author.Needs.{needs}
+use Rattle.flush_nicknames.proofs.mark_one.Statement.{statement}
+use Rattle.flush_nicknames.proofs.mark_one.Tie as tie
+
+returns : tie.Need-returns
+returns c = none-first _ _ (λ x few. refl) _ (c .before .before .before .before .before .args .f) _ _ _ _ (c .before .first-single .ensures) (c .if1 .taken) _ (c .before .before .before .before .before .pre .0 .empty)
+
+vlan-set-requires : tie.Need-vlan-set-requires
+vlan-set-requires c κs = (c .before .before .before .before .before .before .pre .1, (length-replicate {A = ℕ} vlanBytes 0, zeros-none vlanBytes))
+
+mark-single-requires : tie.Need-mark-single-requires
+mark-single-requires c κs =
+    let start = c .before .before .before .before .before .before .before .before .before .before .before .before in
+    let first = c .before .before .before .before .before .before .before .before .first-single .ensures in
+    let inside = first .within in
+    let room = start .pre .0 .within .room in
+    ((inside, record { within = record { few = start .pre .0 .within .few; room = omega arith }; empty = start .pre .0 .empty }), c .before .before .before .before .before .vlan-set .ensures .long)
+
+returns-2 : tie.Need-returns-2
+returns-2 c = marked-first _ _ (λ x few. refl) _ (c .before .before .before .before .before .before .before .before .before .before .before .before .before .before .before .args .f) _ _ _ _ (c .before .before .before .before .before .before .before .before .before .before .before .first-single .ensures) _ (c .before .before .before .before .before .before .before .before .vlan-set .ensures) _ (c .before .before .mark-single .ensures)
+
+pub mark-one-spec : {M : Type 1} → statement M
+mark-one-spec =
+    tie.close
+    (tie.spec
+    (λ c. search needs)
+    (λ c κs. search needs)
+    returns
+    (λ c. search needs)
+    vlan-set-requires
+    (λ c. search needs)
+    mark-single-requires
+    (λ c. search needs)
+    returns-2)

@@ -1,0 +1,48 @@
+-- `flush_nicknames::mark_several` meets its contract: no slot has a nickname of the set, or those from the first on are marked.
+-- Assumes nothing.
+use mathlib.Core.Path.{_∙_}
+use Prim.Native.Nat.{ℕ}
+use native.Mathlib.Omega.{arith}
+use lib.ListN.{length-replicate}
+use Rattle.flush_marks.proofs.Bits.{zeros-none}
+use Rattle.flush_vlans.specs.Vlans.{vlanBytes}
+use Rattle.flush_nicknames.specs.First.{nameBytes}
+use Rattle.flush_nicknames.proofs.First.{none-first, marked-first, listed-same}
+use borrow.Author.Needs.{needs}
+use Rattle.flush_nicknames.proofs.mark_several.Statement.{statement}
+use Rattle.flush_nicknames.proofs.mark_several.Tie as tie
+
+returns : tie.Need-returns
+returns c = none-first _ _ (λ x few. listed-same _ _ _ (zeros-none nameBytes) (c .before .before .before .before .add-nicknames .ensures) x) _ (c .before .before .before .before .before .before .before .before .before .before .args .f) _ _ _ _ (c .before .first-listed .ensures) (c .if1 .taken) _ (c .before .before .before .before .before .before .before .before .before .before .pre .0 .empty)
+
+vlan-set-requires : tie.Need-vlan-set-requires
+vlan-set-requires c κs = (c .before .before .before .before .before .before .before .before .before .before .before .pre .1, (length-replicate {A = ℕ} vlanBytes 0, zeros-none vlanBytes))
+
+mark-listed-requires : tie.Need-mark-listed-requires
+mark-listed-requires c κs =
+    let start = c .before .before .before .before .before .before .before .before .before .before .before .before .before .before .before .before .before .before in
+    let first = c .before .before .before .before .before .before .before .before .before .first-listed .ensures in
+    let inside = first .within in
+    let room = start .pre .0 .within .room in
+    ((inside, record { within = record { few = start .pre .0 .within .few; room = omega arith }; empty = start .pre .0 .empty }), (c .before .before .before .before .before .before .before .before .before .before .before .before .add-nicknames .ensures .long ∙ length-replicate {A = ℕ} nameBytes 0, c .before .before .before .before .before .before .vlan-set .ensures .long))
+
+returns-2 : tie.Need-returns-2
+returns-2 c = marked-first _ _ (λ x few. listed-same _ _ _ (zeros-none nameBytes) (c .before .before .before .before .before .before .before .before .before .before .before .before .before .before .before .add-nicknames .ensures) x) _ (c .before .before .before .before .before .before .before .before .before .before .before .before .before .before .before .before .before .before .before .before .before .args .f) _ _ _ _ (c .before .before .before .before .before .before .before .before .before .before .before .before .first-listed .ensures) _ (c .before .before .before .before .before .before .before .before .before .vlan-set .ensures) _ (c .before .before .mark-listed .ensures)
+
+pub mark-several-spec : {M : Type 1} → statement M
+mark-several-spec =
+    tie.close
+    (tie.spec
+    (λ c. search needs)
+    (λ c κs. search needs)
+    (λ c. search needs)
+    (λ c. search needs)
+    (λ c κs. search needs)
+    returns
+    (λ c. search needs)
+    vlan-set-requires
+    (λ c. search needs)
+    (λ c. search needs)
+    mark-listed-requires
+    (λ c. search needs)
+    returns-2)

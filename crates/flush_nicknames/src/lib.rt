@@ -1,0 +1,290 @@
+// The first pass of a flush over the slots of a range: those are marked that are learned, whose nickname is meant, and whose label is a
+// VLAN that is meant, or a fine-grained label where the message has some.
+ghost use Prim.Native.Nat.{ℕ, _+_, _-_, _*_, _/_, _^_, _<_, _≤_};
+ghost use mathlib.Core.Path.{_≡_};
+ghost use lib.Dec.{eqb};
+ghost use lib.ListN.{length, drop};
+ghost use Rattle.numbers.specs.Numberings.{bitAt};
+ghost use Rattle.table.specs.Record.{recordBytes, recordOf, nicknameOf};
+ghost use Rattle.table.specs.Slots.{mostSlots};
+ghost use Rattle.flush.specs.Payload.{blockBytes, piecesOf};
+ghost use Rattle.flush.specs.Meaning.{nicknameMeant};
+ghost use Rattle.flush_sets.specs.Gains.{Gains, inNicknames};
+ghost use Rattle.flush_vlans.specs.Vlans.{vlanBytes, VlansNoted};
+ghost use Rattle.flush_bits.specs.Ranged.{Ranged};
+ghost use Rattle.flush_marks.specs.Marks.{markBytes, Chosen};
+ghost use Rattle.flush_marks.specs.Filters.{Marking};
+ghost use Rattle.flush_nicknames.specs.First.{nameBytes, NicknamesAre, labelPart, fineNoted, slotFirst, slotMarked, slotNames, Scanning, FirstNamed};
+use flush_payload::Kinds;
+use flush_vlans::VLAN_BYTES;
+use table::SLOT_BYTES;
+
+// A bit for each nickname.
+const NAME_BYTES: usize = 8192;
+
+// The nicknames that a flush means: one alone, or those of a list.
+pub enum Nicknames {
+    One(u64),
+    Several,
+}
+
+// Without a list only the ingress nickname is meant.
+fn nicknames_of(nicks: &[u8], ingress: u32) -> Nicknames
+    ensures { λ r. ⌜ NicknamesAre ingress (now (nicks .entry)) r ⌝ }
+{
+    if nicks.len() == 0 {
+        return Nicknames::One(ingress as u64);
+    }
+    if nicks.len() == 2 {
+        return Nicknames::One(numbers::be2(nicks, 0));
+    }
+    Nicknames::Several
+}
+
+// Adds the nicknames of a list to a set.
+fn add_nicknames(nicks: &[u8], s: &mut [u8])
+    requires { ⌜ length (now s) ≡ nameBytes ⌝ }
+    ensures { λ _. ⌜ Gains (now (s .entry)) (now (s .exit)) (inNicknames (now (nicks .entry))) ⌝ }
+{
+    let mut at = 0;
+    while 2 <= nicks.len() - at {
+        let x = numbers::be2(nicks, at);
+        flush_bits::add_one(s, x as usize);
+        at += 2;
+    }
+}
+
+// Whether the slot at an offset has this nickname, learned or not. One byte of the nickname decides most slots, so it is tested first.
+fn has_nickname(t: &[u8], at: usize, one: u64) -> bool
+    requires { ⌜ at + recordBytes ≤ length (now t) ⌝ }
+    ensures { λ b. ⌜ b ≡ slotNames (λ x. eqb x one) (drop at (now (t .entry))) ⌝ }
+{
+    if table_fields::nickname_middle_at(t, at) != one / 8 % 0x100 {
+        return false;
+    }
+    table_fields::nickname_at(t, at) == one
+}
+
+// Whether the slot at an offset has a nickname of a set, learned or not. One byte of the set decides most slots.
+fn has_listed(t: &[u8], at: usize, names: &[u8]) -> bool
+    requires { ⌜ (at + recordBytes ≤ length (now t)) × (length (now names) ≡ nameBytes) ⌝ }
+    ensures { λ b. ⌜ b ≡ slotNames (λ x. bitAt x (now (names .entry))) (drop at (now (t .entry))) ⌝ }
+{
+    if flush_bits::none_at(names, table_fields::nickname_high_at(t, at)) {
+        return false;
+    }
+    flush_bits::has(names, table_fields::nickname_at(t, at))
+}
+
+// The first slot from slot `from` on, and before slot e, that has this nickname; e where none has.
+fn first_single(t: &[u8], from: usize, e: usize, one: u64) -> usize
+    requires { ⌜ Scanning from e (now t) ⌝ }
+    ensures { λ k. ⌜ FirstNamed (λ x. eqb x one) (now (t .entry)) from e k ⌝ }
+{
+    let mut k = from;
+    while k < e {
+        if has_nickname(t, SLOT_BYTES * k, one) {
+            return k;
+        }
+        k += 1;
+    }
+    e
+}
+
+// The same, of a set of nicknames.
+fn first_listed(t: &[u8], from: usize, e: usize, names: &[u8]) -> usize
+    requires { ⌜ Scanning from e (now t) × (length (now names) ≡ nameBytes) ⌝ }
+    ensures { λ k. ⌜ FirstNamed (λ x. bitAt x (now (names .entry))) (now (t .entry)) from e k ⌝ }
+{
+    let mut k = from;
+    while k < e {
+        if has_listed(t, SLOT_BYTES * k, names) {
+            return k;
+        }
+        k += 1;
+    }
+    e
+}
+
+// Whether the label of the slot at an offset passes: a VLAN by a set, a fine-grained label by a flag. Twelve bits of a VLAN are enough:
+// a record with a higher one is spoilt. Both kinds take the same way, since which kind comes next cannot be foreseen.
+fn label_passes(t: &[u8], at: usize, vlans: &[u8], fine: bool) -> bool
+    requires { ⌜ (at + recordBytes ≤ length (now t)) × (length (now vlans) ≡ vlanBytes) ⌝ }
+    ensures { λ b. ⌜ b ≡ labelPart (now (vlans .entry)) fine (drop at (now (t .entry))) ⌝ }
+{
+    let vlan = table_fields::kind_at(t, at) == 0;
+    let meant = flush_bits::has(vlans, table_fields::label_at(t, at) % 0x1000);
+    (vlan & meant) | (!vlan & fine)
+}
+
+// Whether the slot at an offset is to be marked, by one nickname. One byte of it decides most slots, and then the label.
+fn single_at(t: &[u8], at: usize, one: u64, vlans: &[u8], fine: bool) -> bool
+    requires { ⌜ (at + recordBytes ≤ length (now t)) × (length (now vlans) ≡ vlanBytes) ⌝ }
+    ensures { λ b. ⌜ b ≡ slotMarked (λ x. eqb x one) (now (vlans .entry)) fine (drop at (now (t .entry))) ⌝ }
+{
+    if table_fields::nickname_middle_at(t, at) != one / 8 % 0x100 {
+        return false;
+    }
+    if !label_passes(t, at, vlans, fine) {
+        return false;
+    }
+    if table_fields::nickname_at(t, at) != one {
+        return false;
+    }
+    table_states::learned_at(t, at)
+}
+
+// The same, by a set of nicknames. One byte of the set decides most slots.
+fn listed_at(t: &[u8], at: usize, names: &[u8], vlans: &[u8], fine: bool) -> bool
+    requires { ⌜ (at + recordBytes ≤ length (now t)) × ((length (now names) ≡ nameBytes) × (length (now vlans) ≡ vlanBytes)) ⌝ }
+    ensures { λ b. ⌜ b ≡ slotMarked (λ x. bitAt x (now (names .entry))) (now (vlans .entry)) fine (drop at (now (t .entry))) ⌝ }
+{
+    if flush_bits::none_at(names, table_fields::nickname_high_at(t, at)) {
+        return false;
+    }
+    if !label_passes(t, at, vlans, fine) {
+        return false;
+    }
+    if !flush_bits::has(names, table_fields::nickname_at(t, at)) {
+        return false;
+    }
+    table_states::learned_at(t, at)
+}
+
+// A byte with bit i alone.
+fn one_bit(i: usize) -> u8
+    requires { ⌜ i < 8 ⌝ }
+    ensures { λ r. ⌜ r ≡ 128 / 2 ^ i ⌝ }
+{
+    (128u64 >> i) as u8
+}
+
+// Marks a slot.
+fn add_mark(marks: &mut [u8], k: usize)
+    requires { ⌜ (length (now marks) ≡ markBytes) × (k < mostSlots) ⌝ }
+    ensures { λ _. ⌜ Ranged (now (marks .entry)) (now (marks .exit)) k (k + 1) ⌝ }
+{
+    flush_bits::add_byte(marks, k / 8, one_bit(k % 8));
+}
+
+// Marks the slots from slot `from` on, and before slot e, by one nickname.
+fn mark_single(
+    table: &[u8],
+    from: usize,
+    e: usize,
+    one: u64,
+    vlans: &[u8],
+    fine: bool,
+    marks: &mut [u8],
+)
+    requires { ⌜ ((from ≤ e) × Marking from (e - from) (now table) (now marks)) × (length (now vlans) ≡ vlanBytes) ⌝ }
+    ensures { λ _. ⌜ Chosen (slotMarked (λ x. eqb x one) (now (vlans .entry)) fine) from (e - from) (now (table .entry)) (now (marks .exit)) ⌝ }
+{
+    let mut k = from;
+    while k < e {
+        if single_at(table, SLOT_BYTES * k, one, vlans, fine) {
+            add_mark(marks, k);
+            k += 1;
+        } else {
+            k += 1;
+        }
+    }
+}
+
+// The same, by a set of nicknames.
+fn mark_listed(
+    table: &[u8],
+    from: usize,
+    e: usize,
+    names: &[u8],
+    vlans: &[u8],
+    fine: bool,
+    marks: &mut [u8],
+)
+    requires { ⌜ ((from ≤ e) × Marking from (e - from) (now table) (now marks)) × ((length (now names) ≡ nameBytes) × (length (now vlans) ≡ vlanBytes)) ⌝ }
+    ensures { λ _. ⌜ Chosen (slotMarked (λ x. bitAt x (now (names .entry))) (now (vlans .entry)) fine) from (e - from) (now (table .entry)) (now (marks .exit)) ⌝ }
+{
+    let mut k = from;
+    while k < e {
+        if listed_at(table, SLOT_BYTES * k, names, vlans, fine) {
+            add_mark(marks, k);
+            k += 1;
+        } else {
+            k += 1;
+        }
+    }
+}
+
+// Marks the slots of a range, by one nickname. Where no slot has it nothing is prepared.
+fn mark_one(
+    one: u64,
+    rest: &[u8],
+    f: Kinds,
+    table: &[u8],
+    from: usize,
+    count: usize,
+    marks: &mut [u8],
+)
+    requires { ⌜ Marking from count (now table) (now marks) × ((blockBytes * f .blocks ≤ length (now rest)) × VlansNoted (piecesOf (f .blocks) (now rest)) f) ⌝ }
+    ensures { λ _. ⌜ Chosen (slotFirst (λ x. eqb x one) (piecesOf (f .blocks) (now (rest .entry))) (fineNoted f)) from count (now (table .entry)) (now (marks .exit)) ⌝ }
+{
+    let e = from + count;
+    let k = first_single(table, from, e, one);
+    if e <= k {
+        return;
+    }
+    let mut vlans = [0u8; VLAN_BYTES];
+    flush_vlans::vlan_set(rest, f, &mut vlans);
+    let fine = f.every | (f.lists | f.maps);
+    mark_single(table, k, e, one, &vlans, fine, marks);
+}
+
+// The same, by a list of nicknames.
+fn mark_several(
+    nicks: &[u8],
+    rest: &[u8],
+    f: Kinds,
+    table: &[u8],
+    from: usize,
+    count: usize,
+    marks: &mut [u8],
+)
+    requires { ⌜ Marking from count (now table) (now marks) × ((blockBytes * f .blocks ≤ length (now rest)) × VlansNoted (piecesOf (f .blocks) (now rest)) f) ⌝ }
+    ensures { λ _. ⌜ Chosen (slotFirst (inNicknames (now (nicks .entry))) (piecesOf (f .blocks) (now (rest .entry))) (fineNoted f)) from count (now (table .entry)) (now (marks .exit)) ⌝ }
+{
+    let mut names = [0u8; NAME_BYTES];
+    add_nicknames(nicks, &mut names);
+    let e = from + count;
+    let k = first_listed(table, from, e, &names);
+    if e <= k {
+        return;
+    }
+    let mut vlans = [0u8; VLAN_BYTES];
+    flush_vlans::vlan_set(rest, f, &mut vlans);
+    let fine = f.every | (f.lists | f.maps);
+    mark_listed(table, k, e, &names, &vlans, fine, marks);
+}
+
+// Marks the slots of a range by nickname, state and kind of label. A set of nicknames is made only where there is not one alone.
+pub fn mark(
+    ingress: u32,
+    nicks: &[u8],
+    rest: &[u8],
+    f: Kinds,
+    table: &[u8],
+    from: usize,
+    count: usize,
+    marks: &mut [u8],
+)
+    requires { ⌜ Marking from count (now table) (now marks) × ((blockBytes * f .blocks ≤ length (now rest)) × VlansNoted (piecesOf (f .blocks) (now rest)) f) ⌝ }
+    ensures { λ _. ⌜ Chosen (slotFirst (nicknameMeant ingress (now (nicks .entry))) (piecesOf (f .blocks) (now (rest .entry))) (fineNoted f)) from count (now (table .entry)) (now (marks .exit)) ⌝ }
+{
+    match nicknames_of(nicks, ingress) {
+        Nicknames::One(one) => {
+            mark_one(one, rest, f, table, from, count, marks);
+        }
+        Nicknames::Several => {
+            mark_several(nicks, rest, f, table, from, count, marks);
+        }
+    }
+}

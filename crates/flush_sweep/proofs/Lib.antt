@@ -1,3 +1,0 @@
--- Laws of clearing slots, for this crate and those above it.
-pub mod Parts
-pub mod Slots

@@ -1,0 +1,17 @@
+-- `table_fields::mac_low_at` meets its contract: its bits are the high three of byte 9.
+-- Assumes nothing.
+use native.Mathlib.Omega.{arith}
+use Rattle.numbers.specs.Bytes.{AreBytes}
+use Rattle.table_fields.proofs.Laws.{byte-of}
+use borrow.Author.Needs.{needs}
+use Rattle.table_fields.proofs.mac_low_at.Statement.{statement}
+use Rattle.table_fields.proofs.mac_low_at.Tie as tie
+
+returns : tie.Need-returns
+returns c =
+    let start = c .before .before .before in
+    let known : AreBytes (start .args .t .now) = λ i. c .before .before .shared-slice-known .given i .fits in
+    omega (arith, byte-of (start .args .t .now) (start .args .at) known 9 4 (start .pre))
+
+pub mac-low-at-spec : {M : Type 1} → statement M
+mac-low-at-spec = tie.close (tie.spec (λ c. search needs) (λ c. search needs) (λ c κs. search needs) returns)

@@ -1,0 +1,50 @@
+-- Laws of rounds over several slots.
+-- Assumes nothing.
+use Prim.Native.Nat.{ℕ, _+_, _*_, _<_}
+use mathlib.Core.Bool.{Bool, true, false, not, _&&_}
+use mathlib.Core.List.{List}
+use mathlib.Core.Path.{_≡_, sym, _∙_}
+use native.Mathlib.Decide.{ℕ-discrete, decLt}
+use native.Mathlib.Omega.{arith}
+use lib.Dec.{eqb}
+use lib.ListN.{drop}
+use borrow.Author.Tests.{eqb-false, not-true, not-false}
+use Rattle.numbers.proofs.Truth.{and-both, both-true}
+use Rattle.table.specs.Slots.{slotBytes}
+use Rattle.table_rounds.specs.Rounds.{fourSlots, NoneOfFour, Passed}
+
+module _ (P : List ℕ → Type 0) (t : List ℕ) (from : ℕ) where
+  pub passed-none : Passed P from from t
+  passed-none k low high h = absurd (omega arith)
+
+  -- one round more
+  pub passed-four : (i at : ℕ) → at ≡ slotBytes * i → Passed P from i t → NoneOfFour P at t → Passed P from (i + 4) t
+  passed-four i at e so-far none k low high h = go (decLt k i) (ℕ-discrete k i) (ℕ-discrete k (i + 1)) (ℕ-discrete k (i + 2))
+    where
+      here : (m : ℕ) → slotBytes * k ≡ m → P (drop m t)
+      here m f = rw f at h
+
+      go : Dec (k < i) → Dec (k ≡ i) → Dec (k ≡ i + 1) → Dec (k ≡ i + 2) → ⊥
+      go (yes l) a b c = so-far k low l h
+      go (no l) (yes a) b c = none .first (here at (omega arith))
+      go (no l) (no a) (yes b) c = none .second (here (at + slotBytes) (omega arith))
+      go (no l) (no a) (no b) (yes c) = none .third (here (at + 2 * slotBytes) (omega arith))
+      go (no l) (no a) (no b) (no c) = none .fourth (here (at + 3 * slotBytes) (omega arith))
+
+  -- two of four
+  pub passed-eight : (i at : ℕ) → at ≡ slotBytes * i → Passed P from i t → (a b : Bool) → not (a && b) ≡ false
+      → (a ≡ true → NoneOfFour P at t) → (b ≡ true → NoneOfFour P (at + fourSlots) t) → Passed P from (i + 8) t
+  passed-eight i at e so-far a b h low high k above below =
+      let both = both-true _ _ (sym (and-both a b) ∙ not-false _ h) in
+      passed-four (i + 4) (at + fourSlots) (omega arith) (passed-four i at e so-far (low (both .0))) (high (both .1)) k above (omega arith)
+
+-- the test of a round: none of four numbers is v
+pub four-differ : (v w x y z : ℕ) → (not (eqb w v) && not (eqb x v)) && (not (eqb y v) && not (eqb z v)) ≡ true → (w ≡ v → ⊥) × ((x ≡ v → ⊥) × ((y ≡ v → ⊥) × (z ≡ v → ⊥)))
+four-differ v w x y z e =
+    let p = both-true _ _ (sym (and-both (not (eqb w v) && not (eqb x v)) (not (eqb y v) && not (eqb z v))) ∙ e) in
+    let q = both-true _ _ (sym (and-both (not (eqb w v)) (not (eqb x v))) ∙ p .0) in
+    let r = both-true _ _ (sym (and-both (not (eqb y v)) (not (eqb z v))) ∙ p .1) in
+    (differ w (q .0), (differ x (q .1), (differ y (r .0), differ z (r .1))))
+  where
+    differ : (n : ℕ) → not (eqb n v) ≡ true → n ≡ v → ⊥
+    differ n h = eqb-false n v (not-true _ h)

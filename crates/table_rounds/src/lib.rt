@@ -1,0 +1,79 @@
+// Rounds over several slots: passing by those that a few of their bits exclude.
+ghost use Prim.Native.Nat.{_+_, _≤_};
+ghost use mathlib.Core.Path.{_≡_};
+ghost use mathlib.Core.Bool.{true};
+ghost use lib.ListN.{length};
+ghost use Rattle.table.specs.Slots.{slotsOf};
+ghost use Rattle.table_rounds.specs.Rounds.{Keyed, InState, fourSlots, NoneOfFour, Passed};
+use table::SLOT_BYTES;
+
+// The bytes of several slots, and the slots of a round.
+const TWO_SLOTS: usize = 2 * SLOT_BYTES;
+
+const THREE_SLOTS: usize = 3 * SLOT_BYTES;
+
+pub const FOUR_SLOTS: usize = 4 * SLOT_BYTES;
+
+const ROUND: usize = 8;
+
+// Whether none of the four slots at an offset has a key.
+fn none_keyed(t: &[u8], at: usize, key: u64) -> bool
+    requires { ⌜ at + fourSlots ≤ length (now t) ⌝ }
+    ensures { λ r. ⌜ (r ≡ true → NoneOfFour (Keyed key) at (now (t .entry))) ⌝ }
+{
+    let a = table_fields::round_key_at(t, at) != key;
+    let b = table_fields::round_key_at(t, at + SLOT_BYTES) != key;
+    let c = table_fields::round_key_at(t, at + TWO_SLOTS) != key;
+    let d = table_fields::round_key_at(t, at + THREE_SLOTS) != key;
+    (a & b) & (c & d)
+}
+
+// Whether none of them is in a state. The lowest slot comes last: a caller has read it or reads it next, and where its first byte is
+// at hand already, the compiler does not read four bytes at once.
+pub fn none_in_state(t: &[u8], at: usize, state: u64) -> bool
+    requires { ⌜ at + fourSlots ≤ length (now t) ⌝ }
+    ensures { λ r. ⌜ (r ≡ true → NoneOfFour (InState state) at (now (t .entry))) ⌝ }
+{
+    let d = table_fields::state_at(t, at + THREE_SLOTS) != state;
+    let c = table_fields::state_at(t, at + TWO_SLOTS) != state;
+    let b = table_fields::state_at(t, at + SLOT_BYTES) != state;
+    let a = table_fields::state_at(t, at) != state;
+    (d & c) & (b & a)
+}
+
+// The lowest slot from a slot on in whose round some slot has a key, or that is one of those after the last whole round.
+pub fn next_keyed(t: &[u8], from: usize, key: u64) -> usize
+    requires { ⌜ from ≤ slotsOf (now t) ⌝ }
+    ensures { λ r. ⌜ (from ≤ r) × ((r ≤ slotsOf (now (t .entry))) × Passed (Keyed key) from r (now (t .entry))) ⌝ }
+{
+    let n = t.len() / SLOT_BYTES;
+    let mut i = from;
+    while ROUND <= n - i {
+        let low = none_keyed(t, SLOT_BYTES * i, key);
+        let high = none_keyed(t, SLOT_BYTES * i + FOUR_SLOTS, key);
+        if !(low & high) {
+            return i;
+        }
+        i += ROUND;
+    }
+    i
+}
+
+// The same for a state. Two loops: as one over an enum of the two tests it is not inlined, and a lookup in few slots takes 1.8 times as
+// long.
+pub fn next_in_state(t: &[u8], from: usize, state: u64) -> usize
+    requires { ⌜ from ≤ slotsOf (now t) ⌝ }
+    ensures { λ r. ⌜ (from ≤ r) × ((r ≤ slotsOf (now (t .entry))) × Passed (InState state) from r (now (t .entry))) ⌝ }
+{
+    let n = t.len() / SLOT_BYTES;
+    let mut k = from;
+    while ROUND <= n - k {
+        let low = none_in_state(t, SLOT_BYTES * k, state);
+        let high = none_in_state(t, SLOT_BYTES * k + FOUR_SLOTS, state);
+        if !(low & high) {
+            return k;
+        }
+        k += ROUND;
+    }
+    k
+}

@@ -1,0 +1,52 @@
+/* A copy of the table as it was before a call, and what the call changed. */
+#ifndef SHADOW_H
+#define SHADOW_H
+
+#include "table.h"
+
+/* How many changed slots a line names. */
+#define CHANGES_NAMED 8
+/* Where pairs were found last, by a hash: more places than slots, so that most pairs have one of their own. */
+#define SHADOW_GUESSES 16384
+
+struct change {
+    unsigned slot;
+    uint8_t before[SHINGLEBAR_RECORD_LENGTH], after[SHINGLEBAR_RECORD_LENGTH];
+};
+
+/* The slots that changed, how many of them concern the audience, and the first of those. */
+struct changes {
+    unsigned count;
+    unsigned concerning;
+    struct change list[CHANGES_NAMED];
+};
+
+struct shadow {
+    struct table table;
+    uint16_t guess[SHADOW_GUESSES];
+};
+
+/* Puts the bytes of a record into a slot, and tells what that changed. */
+struct change change_make(struct table *table, unsigned slot, const uint8_t *bytes);
+
+/* Makes the copy anew. */
+void shadow_copy(struct shadow *shadow, const struct table *now);
+
+/* The slot that learning took, by the bytes that changed; and the lowest slot with a pair, by a guess that the bytes confirm. -1 if
+ * there is none. */
+int shadow_learned(struct shadow *shadow, const struct table *now);
+int shadow_find(struct shadow *shadow, const struct table *now, unsigned kind, uint32_t label, uint64_t mac);
+
+/* Adds what changed, in one slot or in all of them, or the slots that became free; the copy follows. */
+void shadow_slot(struct shadow *shadow, const struct table *now, unsigned slot, const struct audience *audience,
+                 struct changes *changes);
+void shadow_all(struct shadow *shadow, const struct table *now, const struct audience *audience,
+                struct changes *changes);
+void shadow_freed(struct shadow *shadow, const struct table *now, const struct audience *audience,
+                  struct changes *changes);
+
+/* Puts one change, and the changes named, with a count of the others. */
+void change_put(struct text *to, const struct change *change);
+void changes_put(struct text *to, const struct changes *changes);
+
+#endif
