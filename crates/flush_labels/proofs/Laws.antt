@@ -35,9 +35,9 @@ use Rattle.flush_intervals.specs.declared.Room.the-variants.{Held}
 use Rattle.flush_words.specs.Words.{mapIn, mapsOf, Words, WordsPrepared}
 use Rattle.flush_words.proofs.Apart.{fine-apart, labels-apart}
 use Rattle.flush_marks.specs.Marks.{Filtered, FilteredTo}
-use Rattle.flush_marks.specs.Filters.{isType, isList, fineSlot}
+use Rattle.flush_marks.specs.Filters.{isType, isList, fineSlot, Filtering}
 use Rattle.flush_marks.proofs.Filters.{filter-all}
-use Rattle.flush_labels.specs.Labels.{Areas, Types, fineNaming, listsOf, Sets, DecidesBy, Decides, DecidingBy, Deciding}
+use Rattle.flush_labels.specs.Labels.{Areas, Types, fineNaming, listsOf, Sets, DecidesBy, Decides, DecidingBy, Deciding, Kept}
 use Rattle.flush_labels.specs.declared.Counts.{Counts}
 use Rattle.flush_labels.specs.declared.Fines.{Fines}
 use Rattle.flush_labels.specs.declared.Fines.the-variants.{Walk, Sorted}
@@ -219,3 +219,19 @@ module _ (ps : List Piece) (keys tops named : List ℕ) (c : Counts) (x : ℕ) (
 
 pub tested-after : (keys : List ℕ) (n m x : ℕ) (b : Bool) → ((s : ℕ → Bool) → Words s (take (length keys - n) (drop n keys)) m → b ≡ s x) → (s : ℕ → Bool) → Words s (drop n keys) m → b ≡ s x
 tested-after keys n m x b told = rw (rest-is n keys) at told
+
+-- ---- room
+
+pub kept-none : (test : List ℕ → Bool) (t m : List ℕ) → Kept false test t m m
+kept-none test t m = record { done = λ e. false-true e; same = λ e. refl }
+
+pub kept-all : (test : List ℕ → Bool) (t before after : List ℕ) → Filtered test t before after → Kept true test t before after
+kept-all test t before after f = record { done = λ e. f; same = λ e. false-true (sym e) }
+
+-- what did nothing leaves all to the next
+module _ (r : Bool) (test : List ℕ → Bool) (t a b : List ℕ) (kept : Kept r test t a b) (full : r ≡ false) where
+  pub full-filtering : Filtering t a → Filtering t b
+  full-filtering f = rw (kept .same full) f
+
+  pub full-filtered : (c : List ℕ) → Filtered test t b c → Filtered test t a c
+  full-filtered c f = rw (kept .same full) at f

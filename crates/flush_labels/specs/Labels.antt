@@ -9,6 +9,7 @@ use Rattle.numbers.specs.Tests.{anyOf}
 use Rattle.numbers.specs.Numberings.{fines, bitAt}
 use Rattle.table.specs.Record.{labelOf}
 use Rattle.flush.specs.Payload.{Piece, tlvs}
+use Rattle.flush_marks.specs.Marks.{Filtered}
 use Rattle.flush_marks.specs.Filters.{isType, isList}
 use Rattle.flush_buckets.specs.Buckets.{bucketOf, Noted}
 use Rattle.flush_intervals.specs.Named.{namedOf, Prepared}
@@ -60,3 +61,8 @@ pub record DecidingBy (ps : List Piece) (t m keys tops named : List ℕ) (c : Co
 
 pub record Deciding (ps : List Piece) (t m keys tops named : List ℕ) (f : Fines) : Type 0 where
   pub by : (c : Counts) → f ≡ Sorted c → DecidingBy ps t m keys tops named c
+
+-- what a filter that may find no room leaves: the marks filtered, or as they were
+pub record Kept (r : Bool) (test : List ℕ → Bool) (t before after : List ℕ) : Type 0 where
+  pub done : r ≡ true → Filtered test t before after
+  pub same : r ≡ false → after ≡ before

@@ -12,7 +12,7 @@ ghost use Rattle.flush.specs.Meaning.{labelMeant};
 ghost use Rattle.flush_buckets.specs.Buckets.{bucketBytes, Noted};
 ghost use Rattle.flush_marks.specs.Marks.{Filtered};
 ghost use Rattle.flush_marks.specs.Filters.{isType, isList, fineSlot, Filtering};
-ghost use Rattle.flush_labels.specs.Labels.{Areas, Types, Sets, Decides, Deciding};
+ghost use Rattle.flush_labels.specs.Labels.{Areas, Types, Sets, Decides, Deciding, Kept};
 ghost use Rattle.flush_labels.specs.declared.Fines.the-variants.{Sorted};
 use flush_buckets::BUCKET_BYTES;
 use flush_intervals::Naming;
@@ -232,7 +232,31 @@ fn keep_decided(
     }
 }
 
-// Prepares the fine-grained labels in areas that are lent, and filters by them.
+// Prepares the fine-grained labels in areas that are lent, and filters by them. Where they find no room it answers false, and does nothing.
+fn keep_held(
+    table: &[u8],
+    rest: &[u8],
+    lists: bool,
+    maps: bool,
+    keys: &mut [u64],
+    past: &mut [u64],
+    tops: &mut [u64],
+    marks: &mut [u8],
+) -> bool
+    requires { ⌜ ((Filtering (now table) (now marks) × (anyOf (isType 6) (tlvs (now rest)) ≡ false)) × Types (now rest) lists maps) × Areas (now keys) (now past) (now tops) ⌝ }
+    ensures { λ r. ⌜ Kept r (fineSlot (tlvs (now (rest .entry)))) (now (table .entry)) (now (marks .entry)) (now (marks .exit)) ⌝ }
+{
+    let mut wanted = [0u8; BUCKET_BYTES];
+    let mut named = [0u8; BUCKET_BYTES];
+    note(table, marks, rest.len(), &mut wanted);
+    let Fines::Sorted(c) = gather(rest, lists, maps, &wanted, keys, past, tops, &mut named) else {
+        return false;
+    };
+    keep_decided(table, rest, keys, tops, &named, Fines::Sorted(c), marks);
+    true
+}
+
+// The same; where they find no room the walk decides.
 fn keep_in(
     table: &[u8],
     rest: &[u8],
@@ -246,11 +270,10 @@ fn keep_in(
     requires { ⌜ ((Filtering (now table) (now marks) × (anyOf (isType 6) (tlvs (now rest)) ≡ false)) × Types (now rest) lists maps) × Areas (now keys) (now past) (now tops) ⌝ }
     ensures { λ _. ⌜ Filtered (fineSlot (tlvs (now (rest .entry)))) (now (table .entry)) (now (marks .entry)) (now (marks .exit)) ⌝ }
 {
-    let mut wanted = [0u8; BUCKET_BYTES];
-    let mut named = [0u8; BUCKET_BYTES];
-    note(table, marks, rest.len(), &mut wanted);
-    let fines = gather(rest, lists, maps, &wanted, keys, past, tops, &mut named);
-    keep_decided(table, rest, keys, tops, &named, fines, marks);
+    if keep_held(table, rest, lists, maps, keys, past, tops, marks) {
+        return;
+    }
+    keep_walked(table, rest, marks);
 }
 
 // In areas for a message of up to 144 bytes, which names no more than 48 labels.
@@ -293,6 +316,26 @@ fn keep_middle(table: &[u8], rest: &[u8], lists: bool, maps: bool, marks: &mut [
     );
 }
 
+// Of a longer message most labels are not wanted: 1,024 find room as a rule. Areas three times as large take longer to make.
+fn keep_likely(table: &[u8], rest: &[u8], lists: bool, maps: bool, marks: &mut [u8]) -> bool
+    requires { ⌜ ((Filtering (now table) (now marks) × (anyOf (isType 6) (tlvs (now rest)) ≡ false)) × Types (now rest) lists maps) ⌝ }
+    ensures { λ r. ⌜ Kept r (fineSlot (tlvs (now (rest .entry)))) (now (table .entry)) (now (marks .entry)) (now (marks .exit)) ⌝ }
+{
+    let mut keys = [0u64; 1024];
+    let mut past = [0u64; 1024];
+    let mut tops = [0u64; 1025];
+    keep_held(
+        table,
+        rest,
+        lists,
+        maps,
+        &mut keys,
+        &mut past,
+        &mut tops,
+        marks,
+    )
+}
+
 // The same for a frame of 9,000 bytes, which names no more than 3,000 labels; where they find no room the walk decides.
 fn keep_long(table: &[u8], rest: &[u8], lists: bool, maps: bool, marks: &mut [u8])
     requires { ⌜ (Filtering (now table) (now marks) × (anyOf (isType 6) (tlvs (now rest)) ≡ false)) × Types (now rest) lists maps ⌝ }
@@ -324,6 +367,9 @@ fn keep_sized(table: &[u8], rest: &[u8], lists: bool, maps: bool, marks: &mut [u
     }
     if rest.len() <= LONG_MESSAGE {
         keep_middle(table, rest, lists, maps, marks);
+        return;
+    }
+    if keep_likely(table, rest, lists, maps, marks) {
         return;
     }
     keep_long(table, rest, lists, maps, marks);

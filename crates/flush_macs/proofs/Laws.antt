@@ -18,6 +18,7 @@ use Rattle.table.proofs.Slots.{Local}
 use Rattle.table.proofs.Contents.{record-near}
 use Rattle.flush.specs.Payload.{everyType, Piece, tlv, block, stump, tlvs, piecesOf}
 use Rattle.flush.specs.Meaning.{macIn, bringsMac, gathersMac, macMeant}
+use Rattle.flush.proofs.Lists.{false-true}
 use Rattle.flush_sort.specs.Sorting as sorting
 use Rattle.flush_buckets.specs.Buckets.{bucketBytes, bucketOf, Noted}
 use Rattle.flush_buckets.proofs.Laws.{no-bit}
@@ -28,9 +29,9 @@ use Rattle.flush_intervals.specs.Named.{namedIn, namedOf, Prepared}
 use Rattle.flush_intervals.specs.declared.Room.{Room}
 use Rattle.flush_intervals.specs.declared.Room.the-variants.{Held}
 use Rattle.flush_marks.specs.Marks.{Filtered, FilteredTo}
-use Rattle.flush_marks.specs.Filters.{slotAddressed}
+use Rattle.flush_marks.specs.Filters.{slotAddressed, Filtering}
 use Rattle.flush_marks.proofs.Filters.{filter-all}
-use Rattle.flush_macs.specs.Macs.{Areas, macNaming, macsOf, DecidesBy, Decides, DecidingBy, Deciding}
+use Rattle.flush_macs.specs.Macs.{Areas, macNaming, macsOf, DecidesBy, Decides, DecidingBy, Deciding, Kept}
 use Rattle.flush_macs.specs.declared.Macs.{Macs}
 use Rattle.flush_macs.specs.declared.Macs.the-variants.{Walk, Sorted}
 
@@ -121,3 +122,19 @@ decides-same ps keys tops named f x y e d = rw e d
 
 pub may-search : (ps : List Piece) (keys tops named : List ℕ) (n x : ℕ) → DecidesBy ps keys tops named n x → x < 2 ^ 48 → ((n ≤ length keys) × (n + 1 ≤ length tops)) × (sorting.Sorted (take n keys) × (x < 2 ^ 48))
 may-search ps keys tops named n x d h = let s = d .sets .covers in ((s .within, s .room), (s .sorted, h))
+
+-- ---- room
+
+pub kept-none : (test : List ℕ → Bool) (t m : List ℕ) → Kept false test t m m
+kept-none test t m = record { done = λ e. false-true e; same = λ e. refl }
+
+pub kept-all : (test : List ℕ → Bool) (t before after : List ℕ) → Filtered test t before after → Kept true test t before after
+kept-all test t before after f = record { done = λ e. f; same = λ e. false-true (sym e) }
+
+-- what did nothing leaves all to the next
+module _ (r : Bool) (test : List ℕ → Bool) (t a b : List ℕ) (kept : Kept r test t a b) (full : r ≡ false) where
+  pub full-filtering : Filtering t a → Filtering t b
+  full-filtering f = rw (kept .same full) f
+
+  pub full-filtered : (c : List ℕ) → Filtered test t b c → Filtered test t a c
+  full-filtered c f = rw (kept .same full) at f

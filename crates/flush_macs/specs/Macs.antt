@@ -1,13 +1,14 @@
 -- What is prepared of the MACs that a message names, and what it decides.
 -- Assumes nothing.
 use Prim.Native.Nat.{ℕ, _+_, _≤_}
-use mathlib.Core.Bool.{Bool, true}
+use mathlib.Core.Bool.{Bool, true, false}
 use mathlib.Core.List.{List}
 use mathlib.Core.Path.{_≡_}
 use lib.ListN.{length}
 use Rattle.numbers.specs.Numberings.{macs, bitAt}
 use Rattle.table.specs.Record.{macOf}
 use Rattle.flush.specs.Payload.{Piece}
+use Rattle.flush_marks.specs.Marks.{Filtered}
 use Rattle.flush_buckets.specs.Buckets.{bucketOf, Noted}
 use Rattle.flush_intervals.specs.Named.{namedOf, Prepared}
 use Rattle.flush_intervals.specs.declared.Naming.{Naming}
@@ -44,3 +45,8 @@ pub record DecidingBy (ps : List Piece) (t m keys tops named : List ℕ) (n : �
 
 pub record Deciding (ps : List Piece) (t m keys tops named : List ℕ) (f : Macs) : Type 0 where
   pub by : (n : ℕ) → f ≡ Sorted n → DecidingBy ps t m keys tops named n
+
+-- what a filter that may find no room leaves: the marks filtered, or as they were
+pub record Kept (r : Bool) (test : List ℕ → Bool) (t before after : List ℕ) : Type 0 where
+  pub done : r ≡ true → Filtered test t before after
+  pub same : r ≡ false → after ≡ before

@@ -12,7 +12,7 @@ ghost use Rattle.flush_buckets.specs.Buckets.{bucketBytes, Noted};
 ghost use Rattle.flush_intervals.specs.Named.{Prepared};
 ghost use Rattle.flush_marks.specs.Marks.{Filtered};
 ghost use Rattle.flush_marks.specs.Filters.{slotAddressed, Filtering};
-ghost use Rattle.flush_macs.specs.Macs.{Areas, macsOf, Decides, Deciding};
+ghost use Rattle.flush_macs.specs.Macs.{Areas, macsOf, Decides, Deciding, Kept};
 ghost use Rattle.flush_macs.specs.declared.Macs.the-variants.{Sorted};
 use flush_buckets::BUCKET_BYTES;
 use flush_intervals::Naming;
@@ -155,7 +155,29 @@ fn keep_decided(
     }
 }
 
-// Prepares the MACs in areas that are lent, and filters by them.
+// Prepares the MACs in areas that are lent, and filters by them. Where they find no room it answers false, and does nothing.
+fn keep_held(
+    table: &[u8],
+    rest: &[u8],
+    keys: &mut [u64],
+    past: &mut [u64],
+    tops: &mut [u64],
+    marks: &mut [u8],
+) -> bool
+    requires { ⌜ (Filtering (now table) (now marks) × (true ≡ anyOf (gathersMac everyType) (tlvs (now rest)))) × Areas (now keys) (now past) (now tops) ⌝ }
+    ensures { λ r. ⌜ Kept r (slotAddressed (tlvs (now (rest .entry)))) (now (table .entry)) (now (marks .entry)) (now (marks .exit)) ⌝ }
+{
+    let mut wanted = [0u8; BUCKET_BYTES];
+    let mut named = [0u8; BUCKET_BYTES];
+    note(table, marks, rest.len(), &mut wanted);
+    let Macs::Sorted(n) = gather(rest, &wanted, keys, past, tops, &mut named) else {
+        return false;
+    };
+    keep_decided(table, rest, keys, tops, &named, Macs::Sorted(n), marks);
+    true
+}
+
+// The same; where they find no room the walk decides.
 fn keep_in(
     table: &[u8],
     rest: &[u8],
@@ -167,11 +189,10 @@ fn keep_in(
     requires { ⌜ (Filtering (now table) (now marks) × (true ≡ anyOf (gathersMac everyType) (tlvs (now rest)))) × Areas (now keys) (now past) (now tops) ⌝ }
     ensures { λ _. ⌜ Filtered (slotAddressed (tlvs (now (rest .entry)))) (now (table .entry)) (now (marks .entry)) (now (marks .exit)) ⌝ }
 {
-    let mut wanted = [0u8; BUCKET_BYTES];
-    let mut named = [0u8; BUCKET_BYTES];
-    note(table, marks, rest.len(), &mut wanted);
-    let macs = gather(rest, &wanted, keys, past, tops, &mut named);
-    keep_decided(table, rest, keys, tops, &named, macs, marks);
+    if keep_held(table, rest, keys, past, tops, marks) {
+        return;
+    }
+    keep_walked(table, rest, marks);
 }
 
 // In areas for a message of up to 144 bytes, which names no more than 24 MACs.
@@ -194,6 +215,17 @@ fn keep_middle(table: &[u8], rest: &[u8], marks: &mut [u8])
     let mut past = [0u64; 128];
     let mut tops = [0u64; 129];
     keep_in(table, rest, &mut keys, &mut past, &mut tops, marks);
+}
+
+// Of a longer message most MACs are not wanted: 512 find room as a rule. Areas three times as large take longer to make.
+fn keep_likely(table: &[u8], rest: &[u8], marks: &mut [u8]) -> bool
+    requires { ⌜ Filtering (now table) (now marks) × (true ≡ anyOf (gathersMac everyType) (tlvs (now rest))) ⌝ }
+    ensures { λ r. ⌜ Kept r (slotAddressed (tlvs (now (rest .entry)))) (now (table .entry)) (now (marks .entry)) (now (marks .exit)) ⌝ }
+{
+    let mut keys = [0u64; 512];
+    let mut past = [0u64; 512];
+    let mut tops = [0u64; 513];
+    keep_held(table, rest, &mut keys, &mut past, &mut tops, marks)
 }
 
 // The same for a frame of 9,000 bytes, which names no more than 1,500 MACs; where they find no room the walk decides.
@@ -232,6 +264,9 @@ fn keep_gathered(table: &[u8], rest: &[u8], marks: &mut [u8])
     }
     if rest.len() <= LONG_MESSAGE {
         keep_middle(table, rest, marks);
+        return;
+    }
+    if keep_likely(table, rest, marks) {
         return;
     }
     keep_long(table, rest, marks);
