@@ -217,14 +217,15 @@ fn keep_middle(table: &[u8], rest: &[u8], marks: &mut [u8])
     keep_in(table, rest, &mut keys, &mut past, &mut tops, marks);
 }
 
-// Of a longer message most MACs are not wanted: 512 find room as a rule. Areas three times as large take longer to make.
+// Of a longer message most MACs are not wanted, and it has no more than 750 blocks: 768 find room as a rule. Areas twice as large take
+// longer to make.
 fn keep_likely(table: &[u8], rest: &[u8], marks: &mut [u8]) -> bool
     requires { ⌜ Filtering (now table) (now marks) × (true ≡ anyOf (gathersMac everyType) (tlvs (now rest))) ⌝ }
     ensures { λ r. ⌜ Kept r (slotAddressed (tlvs (now (rest .entry)))) (now (table .entry)) (now (marks .entry)) (now (marks .exit)) ⌝ }
 {
-    let mut keys = [0u64; 512];
-    let mut past = [0u64; 512];
-    let mut tops = [0u64; 513];
+    let mut keys = [0u64; 768];
+    let mut past = [0u64; 768];
+    let mut tops = [0u64; 769];
     keep_held(table, rest, &mut keys, &mut past, &mut tops, marks)
 }
 
