@@ -110,3 +110,25 @@ fn the_archive_has_no_data_and_asks_for_memmove_and_memset_alone() {
         "{offered:?}"
     );
 }
+
+/// The compiler touches each page of a large stack frame in a loop that counts in r11. Where it puts that
+/// loop after code of the function, a value that this code left in r11 is lost: such an archive is wrong
+/// although its source is proved.
+#[test]
+fn no_value_is_lost_where_a_large_frame_is_made() {
+    let output = Command::new("objdump")
+        .args(["-d", "--no-show-raw-insn", env!("SHINGLEBAR_ARCHIVE")])
+        .output()
+        .expect("objdump");
+    assert!(output.status.success());
+    let listed = String::from_utf8(output.stdout).expect("UTF-8");
+    let mut frames = 0;
+    for function in listed.split("\n\n") {
+        let Some((before, _)) = function.split_once("mov    %rsp,%r11") else {
+            continue;
+        };
+        frames += 1;
+        assert!(!before.contains("%r11"), "r11 is in use before: {before}");
+    }
+    assert!(frames > 0, "no frame is made in such a loop");
+}
