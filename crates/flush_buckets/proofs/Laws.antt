@@ -9,12 +9,16 @@ use native.Mathlib.Numerals.{add-one}
 use native.Mathlib.Omega.{arith}
 use lib.ListN.{length, drop, getD, drop-of-length-le}
 use lib.Seq.{drop-cons}
-use Rattle.numbers.specs.Tests.{either, anyOf}
+use lib.Dec.{leb}
+use borrow.Author.Tests.{leb-true}
+use Rattle.numbers.specs.Tests.{both, either, anyOf}
+use Rattle.numbers.proofs.Truth.{both-true}
+use Rattle.flush.proofs.Lists.{false-true}
 use Rattle.numbers.specs.Numberings.{bitAt}
 use Rattle.flush_bits.specs.Ranged.{Ranged}
 use Rattle.flush_bits.proofs.Laws.{either-all}
 use Rattle.flush_sort.proofs.Laws.{either-none}
-use Rattle.flush_buckets.specs.Buckets.{bucketBytes, bucketOf, Keeps, Added, HasBits}
+use Rattle.flush_buckets.specs.Buckets.{bucketBytes, bucketOf, Keeps, Added, HasBits, Names}
 
 -- ---- a range of bits
 
@@ -40,7 +44,7 @@ too-many s e t = (keeps-none t, λ q x a b. collapse (bitAt (bucketOf x) t) q)
     collapse false q = q
 
 -- numbers of a short range lie between the buckets of its first and its last
-between-buckets : (s l x : ℕ) → s ≤ x → x ≤ l → l < 16384 + s → s / 32 % 32768 ≤ l / 32 % 32768 → (s / 32 % 32768 ≤ x / 32 % 32768) × (x / 32 % 32768 ≤ l / 32 % 32768)
+between-buckets : (s l x : ℕ) → s ≤ x → x ≤ l → l < 16384 + s → s / 256 % 65536 ≤ l / 256 % 65536 → (s / 256 % 65536 ≤ x / 256 % 65536) × (x / 256 % 65536 ≤ l / 256 % 65536)
 between-buckets s l x a b c d = (omega arith, omega arith)
 
 pub adds-range : (s e : ℕ) (t u : List ℕ) (i j : ℕ) → s < e → e - 1 < 16384 + s → i ≡ bucketOf s → j ≡ bucketOf (e - 1) → i ≤ j → Ranged t u i (j + 1) → Keeps t u × (true ≡ true → Added s e u)
@@ -49,19 +53,19 @@ adds-range s e t u i j some few ei ej h r = (
   keeps-range t u i (j + 1) r,
   λ q x a b.
       let p = between-buckets s (e - 1) x a (omega arith) few (omega arith) in
-      r .inside (x / 32 % 32768) (omega arith) (omega arith),
+      r .inside (x / 256 % 65536) (omega arith) (omega arith),
 )
 
-pub adds-bucket : (h : ℕ) (t u : List ℕ) → Ranged t u (h % 32768) (h % 32768 + 1) → Keeps t u × ((x : ℕ) → h ≡ x / 32 → bitAt (bucketOf x) u ≡ true)
+pub adds-bucket : (h : ℕ) (t u : List ℕ) → Ranged t u (h % 65536) (h % 65536 + 1) → Keeps t u × ((x : ℕ) → h ≡ x / 256 → bitAt (bucketOf x) u ≡ true)
 unfolding bucketOf
 adds-bucket h t u r =
-    (keeps-range t u _ _ r, λ x e. r .inside (x / 32 % 32768) (omega arith) (omega arith))
+    (keeps-range t u _ _ r, λ x e. r .inside (x / 256 % 65536) (omega arith) (omega arith))
 
-pub adds-all : (t u : List ℕ) → Ranged t u 0 32768 → Keeps t u × ((s e : ℕ) → Added s e u)
+pub adds-all : (t u : List ℕ) → Ranged t u 0 65536 → Keeps t u × ((s e : ℕ) → Added s e u)
 unfolding bucketOf
-adds-all t u r = (keeps-range t u 0 32768 r, λ s e x a b. r .inside (x / 32 % 32768) (omega arith) (omega arith))
+adds-all t u r = (keeps-range t u 0 65536 r, λ s e x a b. r .inside (x / 256 % 65536) (omega arith) (omega arith))
 
-keeps-twice : (s t u : List ℕ) → Keeps s t → Keeps t u → Keeps s u
+pub keeps-twice : (s t u : List ℕ) → Keeps s t → Keeps t u → Keeps s u
 keeps-twice s t u a b = record { long = b .long ∙ a .long; kept = λ y h. b .kept y (a .kept y h) }
 
 -- ---- a list of numbers
@@ -125,19 +129,31 @@ no-bit q t s x h = go (q x) refl
     go false e = refl
 
 -- a short range lies in the buckets of its first and its last number
-pub not-met : (s e : ℕ) (t : List ℕ) → s < e → e - 1 - s < 32 → (a b : Bool) → a ≡ bitAt (bucketOf s) t → b ≡ bitAt (bucketOf (e - 1)) t → (a || b) ≡ false → (x : ℕ) → s ≤ x → x < e → bitAt (bucketOf x) t ≡ false
+pub not-met : (s e : ℕ) (t : List ℕ) → s < e → e - 1 - s < 256 → (a b : Bool) → a ≡ bitAt (bucketOf s) t → b ≡ bitAt (bucketOf (e - 1)) t → (a || b) ≡ false → (x : ℕ) → s ≤ x → x < e → bitAt (bucketOf x) t ≡ false
 unfolding bucketOf
-not-met s e t some few a b ea eb none x h g = go (decLt (s / 32) (x / 32)) a ea b eb none
+not-met s e t some few a b ea eb none x h g = go (decLt (s / 256) (x / 256)) a ea b eb none
   where
     never : (b : Bool) → true ≡ false → b ≡ false
     never true q = q
     never false q = refl
 
-    go : Dec (s / 32 < x / 32) → (a : Bool) → a ≡ bitAt (s / 32 % 32768) t → (b : Bool) → b ≡ bitAt ((e - 1) / 32 % 32768) t → (a || b) ≡ false → bitAt (x / 32 % 32768) t ≡ false
-    go d true ea b eb none = never (bitAt (x / 32 % 32768) t) none
-    go (yes l) false ea b eb none = let same : x / 32 ≡ (e - 1) / 32 = omega arith in rw same (sym eb ∙ none)
-    go (no l) false ea b eb none = let same : x / 32 ≡ s / 32 = omega arith in rw same (sym ea)
+    go : Dec (s / 256 < x / 256) → (a : Bool) → a ≡ bitAt (s / 256 % 65536) t → (b : Bool) → b ≡ bitAt ((e - 1) / 256 % 65536) t → (a || b) ≡ false → bitAt (x / 256 % 65536) t ≡ false
+    go d true ea b eb none = never (bitAt (x / 256 % 65536) t) none
+    go (yes l) false ea b eb none = let same : x / 256 ≡ (e - 1) / 256 = omega arith in rw same (sym eb ∙ none)
+    go (no l) false ea b eb none = let same : x / 256 ≡ s / 256 = omega arith in rw same (sym ea)
 
-pub bucket-tested : (h k : ℕ) (t : List ℕ) (b : Bool) → k ≡ h % 32768 → b ≡ bitAt k t → (x : ℕ) → h ≡ x / 32 → b ≡ bitAt (bucketOf x) t
-unfolding bucketOf
-bucket-tested h k t b e q x f = q ∙ ap (λ (n : ℕ). bitAt n t) (e ∙ ap (λ (n : ℕ). n % 32768) f)
+-- ---- few numbers, or all
+
+pub names-few : (s e : ℕ) (t u : List ℕ) (r : Bool) → Keeps t u × (r ≡ true → Added s e u) → r ≡ true → Names (λ x. both (leb s x) (leb (suc x) e)) t u false
+names-few s e t u r g h = record {
+  keeps = g .0;
+  each = λ x q. let p = both-true (leb s x) (leb (suc x) e) q in g .1 h x (leb-true s x (p .0)) (leb-true (suc x) e (p .1));
+  all = λ q. false-true q;
+}
+
+pub names-all : (q : ℕ → Bool) (s e : ℕ) (t m u : List ℕ) (r : Bool) → Keeps t m × (r ≡ true → Added s e m) → Keeps m u × ((a b : ℕ) → Added a b u) → Names q t u true
+names-all q s e t m u r g h = record {
+  keeps = keeps-twice t m u (g .0) (h .0);
+  each = λ x p. h .1 x (suc x) x (omega arith) (omega arith);
+  all = λ p x. h .1 x (suc x) x (omega arith) (omega arith);
+}

@@ -1,26 +1,28 @@
-// Filter bits: a bit for each bucket of 32 numbers, counted round. A number whose bit is not set is none of those that were added; most
+// Filter bits: a bit for each bucket of 256 numbers, counted round. A number whose bit is not set is none of those that were added; most
 // numbers that are tested end there.
-ghost use Prim.Native.Nat.{ℕ, _/_, _^_, _≤_, _<_};
+ghost use Prim.Native.Nat.{ℕ, suc, _/_, _^_, _≤_, _<_};
 ghost use mathlib.Core.Bool.{true, false};
 ghost use mathlib.Core.Path.{_≡_};
+ghost use lib.Dec.{leb};
 ghost use lib.ListN.{length};
+ghost use Rattle.numbers.specs.Tests.{both};
 ghost use Rattle.numbers.specs.Numberings.{bitAt};
-ghost use Rattle.flush_buckets.specs.Buckets.{bucketBytes, bucketOf, Keeps, Added};
+ghost use Rattle.flush_buckets.specs.Buckets.{bucketBytes, bucketOf, Keeps, Added, Names};
 
 // The bits, and a byte after them that is not used.
-pub const BUCKET_BYTES: usize = 4097;
+pub const BUCKET_BYTES: usize = 8193;
 
 // The numbers of a bucket, and how many buckets there are.
-const BUCKET: u64 = 32;
+const BUCKET: u64 = 256;
 
-const BUCKETS: u64 = 0x8000;
+const BUCKETS: u64 = 0x1_0000;
 
 // A longer interval adds every number: it would take as long to add as a search takes.
-const LONGEST_ADDED: u64 = 512 * BUCKET;
+const LONGEST_ADDED: u64 = 64 * BUCKET;
 
 // The bucket of a number.
 fn bucket_of(x: u64) -> u64
-    ensures { λ r. ⌜ (r ≡ bucketOf x) × (r < 2 ^ 15) ⌝ }
+    ensures { λ r. ⌜ (r ≡ bucketOf x) × (r < 2 ^ 16) ⌝ }
 {
     x / BUCKET % BUCKETS
 }
@@ -31,14 +33,6 @@ pub fn has_bit(bits: &[u8], x: u64) -> bool
     ensures { λ r. ⌜ r ≡ bitAt (bucketOf x) (now (bits .entry)) ⌝ }
 {
     flush_bits::has(bits, bucket_of(x))
-}
-
-// Whether the bit of the numbers in bucket h, counted without end, is set.
-pub fn has_bucket(bits: &[u8], h: u64) -> bool
-    requires { ⌜ length (now bits) ≡ bucketBytes ⌝ }
-    ensures { λ r. ⌜ ((x : ℕ) → h ≡ x / 32 → r ≡ bitAt (bucketOf x) (now (bits .entry))) ⌝ }
-{
-    flush_bits::has(bits, h % BUCKETS)
 }
 
 // Whether the bit of a number from s to before e may be set. Of a short range the first and the last decide.
@@ -59,13 +53,13 @@ pub fn may_meet(bits: &[u8], s: u64, e: u64) -> bool
 // Adds the bucket h of numbers, counted without end.
 pub fn add_bucket(h: u64, bits: &mut [u8])
     requires { ⌜ length (now bits) ≡ bucketBytes ⌝ }
-    ensures { λ _. ⌜ Keeps (now (bits .entry)) (now (bits .exit)) × ((x : ℕ) → h ≡ x / 32 → bitAt (bucketOf x) (now (bits .exit)) ≡ true) ⌝ }
+    ensures { λ _. ⌜ Keeps (now (bits .entry)) (now (bits .exit)) × ((x : ℕ) → h ≡ x / 256 → bitAt (bucketOf x) (now (bits .exit)) ≡ true) ⌝ }
 {
     flush_bits::add_one(bits, (h % BUCKETS) as usize);
 }
 
 // Adds the numbers from s to before e. Where they are many it answers false and adds nothing.
-pub fn add_short(s: u64, e: u64, bits: &mut [u8]) -> bool
+fn add_short(s: u64, e: u64, bits: &mut [u8]) -> bool
     requires { ⌜ length (now bits) ≡ bucketBytes ⌝ }
     ensures { λ r. ⌜ Keeps (now (bits .entry)) (now (bits .exit)) × (r ≡ true → Added s e (now (bits .exit))) ⌝ }
 {
@@ -86,9 +80,21 @@ pub fn add_short(s: u64, e: u64, bits: &mut [u8]) -> bool
 }
 
 // Adds every number.
-pub fn add_all(bits: &mut [u8])
+fn add_all(bits: &mut [u8])
     requires { ⌜ length (now bits) ≡ bucketBytes ⌝ }
     ensures { λ _. ⌜ Keeps (now (bits .entry)) (now (bits .exit)) × ((s e : ℕ) → Added s e (now (bits .exit))) ⌝ }
 {
     flush_bits::add_range(bits, 0, BUCKETS as usize);
+}
+
+// Adds the numbers from s to before e. Where they are many it adds every number, and answers true.
+pub fn add(s: u64, e: u64, bits: &mut [u8]) -> bool
+    requires { ⌜ length (now bits) ≡ bucketBytes ⌝ }
+    ensures { λ r. ⌜ Names (λ x. both (leb s x) (leb (suc x) e)) (now (bits .entry)) (now (bits .exit)) r ⌝ }
+{
+    if add_short(s, e, bits) {
+        return false;
+    }
+    add_all(bits);
+    true
 }

@@ -1,0 +1,38 @@
+-- Keys of marked slots: a number that the slot's record holds, times 4096, and the slot.
+-- Assumes nothing.
+use Prim.Native.Nat.{ℕ, _+_, _*_, _/_, _%_, _<_, _≤_}
+use mathlib.Core.Bool.{Bool, true, false}
+use mathlib.Core.List.{List}
+use mathlib.Core.Path.{_≡_}
+use lib.Dec.{eqb}
+use lib.ListN.{length, getD}
+use Rattle.numbers.specs.Tests.{both, either, anyOf}
+use Rattle.numbers.specs.Numberings.{bitAt}
+use Rattle.flush_buckets.specs.Buckets.{bucketBytes, bucketOf, HasBits}
+
+-- the key is that of slot j, and its number passes the test
+unfoldable pub keyed : (ℕ → Bool) → ℕ → ℕ → Bool
+keyed q j v = both (eqb (v % 4096) j) (q (v / 4096))
+
+-- the bits of the numbers of keys are set
+pub record Nears (keys bits : List ℕ) : Type 0 where
+  pub long : length bits ≡ bucketBytes
+  pub each : (i : ℕ) → i < length keys → bitAt (bucketOf (getD keys i 0 / 4096)) bits ≡ true
+
+-- bit i says whether the number of key i passes the test
+pub record Hit (q : ℕ → Bool) (keys hits : List ℕ) : Type 0 where
+  pub each : (i : ℕ) → i < length keys → bitAt i hits ≡ q (getD keys i 0 / 4096)
+
+-- the marks s have become u: with the slots of the keys whose number passes the test
+pub record Marked (q : ℕ → Bool) (keys s u : List ℕ) : Type 0 where
+  pub long : length u ≡ length s
+  pub each : (j : ℕ) → bitAt j u ≡ either (bitAt j s) (anyOf (keyed q j) keys)
+
+-- the marks s have become u: with the slots of the list that pass the test
+pub record Joined (test : ℕ → Bool) (slots s u : List ℕ) : Type 0 where
+  pub long : length u ≡ length s
+  pub each : (j : ℕ) → bitAt j u ≡ either (bitAt j s) (both (anyOf (eqb j) slots) (test j))
+
+-- the first n keys are those of the slots of a list that pass a test, each with its number; of a number whose bit is not set the key may be left out
+pub record KeysOf (test : ℕ → Bool) (number : ℕ → ℕ) (slots named keys : List ℕ) : Type 0 where
+  pub each : (q : ℕ → Bool) → HasBits q named → (j : ℕ) → anyOf (keyed q j) keys ≡ both (anyOf (eqb j) slots) (both (test j) (q (number j)))

@@ -1,0 +1,2 @@
+-- Laws of parts, for the crates above.
+pub mod Parts
