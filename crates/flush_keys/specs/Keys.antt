@@ -1,14 +1,34 @@
--- Keys of marked slots: a number that the slot's record holds, times 4096, and the slot.
+-- The number of a record that a filter tests, and keys: such a number, times 4096, and the slot that holds it.
 -- Assumes nothing.
 use Prim.Native.Nat.{ℕ, _+_, _*_, _/_, _%_, _<_, _≤_}
-use mathlib.Core.Bool.{Bool, true, false}
+use mathlib.Core.Bool.{Bool, true, false, not}
 use mathlib.Core.List.{List}
 use mathlib.Core.Path.{_≡_}
 use lib.Dec.{eqb}
 use lib.ListN.{length, getD}
 use Rattle.numbers.specs.Tests.{both, either, anyOf}
 use Rattle.numbers.specs.Numberings.{bitAt}
+use Rattle.table.specs.Record.{recordOf, kindOf, labelOf, macOf}
+use Rattle.table.specs.Slots.{mostSlots, slotsOf}
+use Rattle.flush_sort.specs.Sorting.{All}
 use Rattle.flush_buckets.specs.Buckets.{bucketBytes, bucketOf, HasBits}
+use Rattle.flush_keys.specs.declared.Field.{Field}
+use Rattle.flush_keys.specs.declared.Field.the-variants.{Fine, Mac}
+
+-- the number in a slot that a filter tests
+unfoldable pub numberIn : Field → List ℕ → ℕ
+numberIn Fine r = labelOf (recordOf r)
+numberIn Mac r = macOf (recordOf r)
+
+-- a VLAN is no fine-grained label; every record has a MAC
+unfoldable pub appliesTo : Field → List ℕ → Bool
+appliesTo Fine r = not (eqb (kindOf (recordOf r)) 0)
+appliesTo Mac r = true
+
+-- each is a slot of the table
+pub record InTable (t slots : List ℕ) : Type 0 where
+  pub few : slotsOf t ≤ mostSlots
+  pub each : All (λ s. s < slotsOf t) slots
 
 -- the key is that of slot j, and its number passes the test
 unfoldable pub keyed : (ℕ → Bool) → ℕ → ℕ → Bool
@@ -33,6 +53,6 @@ pub record Joined (test : ℕ → Bool) (slots s u : List ℕ) : Type 0 where
   pub long : length u ≡ length s
   pub each : (j : ℕ) → bitAt j u ≡ either (bitAt j s) (both (anyOf (eqb j) slots) (test j))
 
--- the first n keys are those of the slots of a list that pass a test, each with its number; of a number whose bit is not set the key may be left out
+-- the keys are those of the slots of a list that pass a test, each with its number; one whose number has no bit may be left out
 pub record KeysOf (test : ℕ → Bool) (number : ℕ → ℕ) (slots named keys : List ℕ) : Type 0 where
   pub each : (q : ℕ → Bool) → HasBits q named → (j : ℕ) → anyOf (keyed q j) keys ≡ both (anyOf (eqb j) slots) (both (test j) (q (number j)))
