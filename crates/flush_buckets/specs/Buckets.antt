@@ -4,7 +4,7 @@ use Prim.Native.Nat.{ℕ, _/_, _%_, _≤_, _<_}
 use mathlib.Core.Bool.{Bool, true}
 use mathlib.Core.List.{List}
 use mathlib.Core.Path.{_≡_}
-use lib.ListN.{length}
+use lib.ListN.{length, getD}
 use Rattle.numbers.specs.Numberings.{bitAt}
 
 -- 65,536 bits, and a byte after them that is not used
@@ -34,3 +34,10 @@ pub record Names (q : ℕ → Bool) (s t : List ℕ) (full : Bool) : Type 0 wher
   pub keeps : Keeps s t
   pub each : (x : ℕ) → q x ≡ true → bitAt (bucketOf x) t ≡ true
   pub all : full ≡ true → (x : ℕ) → bitAt (bucketOf x) t ≡ true
+
+-- ---- keys: a number, times 4096, and a slot
+
+-- the bits of the numbers of keys are set
+pub record Nears (keys bits : List ℕ) : Type 0 where
+  pub long : length bits ≡ bucketBytes
+  pub each : (i : ℕ) → i < length keys → bitAt (bucketOf (getD keys i 0 / 4096)) bits ≡ true

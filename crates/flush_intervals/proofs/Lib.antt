@@ -1,4 +1,4 @@
--- Laws of intervals, for this crate and those above it.
+-- Laws of sorted keys and of what hits them.
 pub mod Ranges
-pub mod Parts
-pub mod Tlvs
+pub mod Hits
+pub mod Walks

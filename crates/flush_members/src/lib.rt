@@ -159,7 +159,7 @@ fn bit_at(v: &[u8], at: usize, i: u64) -> bool
 }
 
 // Whether a start with a bit map behind it has x in it.
-fn in_map(v: &[u8], w: Numbering, x: u64) -> bool
+pub fn in_map(v: &[u8], w: Numbering, x: u64) -> bool
     requires { ⌜ Sound w ⌝ }
     ensures { λ r. ⌜ r ≡ inMap w x (now (v .entry)) ⌝ }
 {

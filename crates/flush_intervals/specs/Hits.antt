@@ -1,0 +1,46 @@
+-- Sorted keys, a number times 4096 and a slot each, and bits that say of which keys the number passes a test.
+-- Assumes nothing.
+use Prim.Native.Nat.{ℕ, _/_, _≤_, _<_}
+use mathlib.Core.Bool.{Bool}
+use mathlib.Core.List.{List}
+use mathlib.Core.Path.{_≡_}
+use lib.ListN.{length, take, drop, getD}
+use Rattle.numbers.specs.Tests.{either}
+use Rattle.numbers.specs.Numberings.{bitAt}
+use Rattle.flush_sort.specs.Sorting.{All, Sorted}
+use Rattle.flush_buckets.specs.Buckets.{Nears}
+
+-- a bit for each of 4,096 keys, and a byte after them that is not used
+abbrev pub hitBytes : ℕ
+hitBytes = 513
+
+-- r of the list are below y, and they stand in front
+pub record Splits (l : List ℕ) (y r : ℕ) : Type 0 where
+  pub within : r ≤ length l
+  pub below : All (λ v. v < y) (take r l)
+  pub above : All (λ v. y ≤ v) (drop r l)
+
+-- keys that are searched, filter bits of their numbers, and a bit for each
+pub record Searched (near keys hits : List ℕ) : Type 0 where
+  pub sorted : Sorted keys
+  pub few : length keys ≤ 4096
+  pub nears : Nears keys near
+  pub room : length hits ≡ hitBytes
+
+-- the bits h₀ have become h: those of the keys whose number passes the test are set
+pub record Hits (q : ℕ → Bool) (keys h₀ h : List ℕ) : Type 0 where
+  pub long : length h ≡ length h₀
+  pub each : (i : ℕ) → i < length keys → bitAt i h ≡ either (bitAt i h₀) (q (getD keys i 0 / 4096))
+
+-- the same so far: of the keys before key i
+pub record HitsTo (q : ℕ → Bool) (keys h₀ : List ℕ) (i : ℕ) (h : List ℕ) : Type 0 where
+  pub long : length h ≡ length h₀
+  pub done : (k : ℕ) → k < i → bitAt k h ≡ either (bitAt k h₀) (q (getD keys k 0 / 4096))
+  pub rest : (k : ℕ) → i ≤ k → bitAt k h ≡ bitAt k h₀
+
+-- where b is true the bits from i to before j are set; all others are as before
+pub record GroupHit (b : Bool) (i j : ℕ) (h₀ h : List ℕ) : Type 0 where
+  pub long : length h ≡ length h₀
+  pub below : (k : ℕ) → k < i → bitAt k h ≡ bitAt k h₀
+  pub inside : (k : ℕ) → i ≤ k → k < j → bitAt k h ≡ either (bitAt k h₀) b
+  pub above : (k : ℕ) → j ≤ k → bitAt k h ≡ bitAt k h₀
