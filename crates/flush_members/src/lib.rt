@@ -16,14 +16,14 @@ const VLANS: Numbering = Numbering {
     high: 0xffe,
 };
 
-const FINES: Numbering = Numbering {
+pub const FINES: Numbering = Numbering {
     size: 3,
     top: 0x100_0000,
     low: 0,
     high: 0xff_ffff,
 };
 
-const MACS: Numbering = Numbering {
+pub const MACS: Numbering = Numbering {
     size: 6,
     top: 0x1_0000_0000_0000,
     low: 0,

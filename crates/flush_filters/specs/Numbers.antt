@@ -1,0 +1,29 @@
+-- The test of a filter by a number: a slot passes whose number the message names, or that has no such number.
+-- Assumes nothing.
+use Prim.Native.Nat.{ℕ}
+use mathlib.Core.Bool.{Bool, true, false, not}
+use mathlib.Core.List.{List}
+use mathlib.Core.Path.{_≡_}
+use lib.ListN.{length}
+use Rattle.numbers.specs.Tests.{either}
+use Rattle.numbers.specs.Numberings.{fines, macs}
+use Rattle.flush.specs.Payload.{Piece}
+use Rattle.flush_parts.specs.Named.{namedOf}
+use Rattle.flush_parts.specs.declared.Naming.{Naming}
+use Rattle.flush_marks.specs.Marks.{Filtered}
+use Rattle.flush_keys.specs.Keys.{numberIn, appliesTo}
+use Rattle.flush_keys.specs.declared.Field.{Field}
+use Rattle.flush_keys.specs.declared.Field.the-variants.{Fine, Mac}
+
+-- type 3 names fine-grained labels in blocks, type 4 in a list, type 5 in a bit map; type 8 names MACs in blocks, type 7 in a list
+unfoldable pub namingOf : Field → Naming
+namingOf Fine = record { blocks = 3; singles = 4; mapped = true; maps = 5; numbering = fines }
+namingOf Mac = record { blocks = 8; singles = 7; mapped = false; maps = 8; numbering = macs }
+
+unfoldable pub slotPasses : Field → List Piece → List ℕ → Bool
+slotPasses f ps r = either (not (appliesTo f r)) (namedOf (namingOf f) ps (numberIn f r))
+
+-- what a filter that may find no room leaves: the marks filtered, or as they were
+pub record Kept (r : Bool) (test : List ℕ → Bool) (t before after : List ℕ) : Type 0 where
+  pub done : r ≡ true → Filtered test t before after
+  pub same : r ≡ false → after ≡ before

@@ -1,4 +1,0 @@
-pub mod Shifts
-pub mod Gathering
-pub mod Uniting
-pub mod Apart
