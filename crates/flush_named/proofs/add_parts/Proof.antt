@@ -1,0 +1,50 @@
+-- `flush_named::add_parts` meets its contract. The invariant: a number of some part has its bit, or is of a part from `at` on.
+-- Assumes nothing.
+use Prim.Native.Nat.{_-_, _≤_}
+use lib.ListN.{length, drop}
+use Rattle.flush_parts.specs.Parts.{partsHit}
+use Rattle.flush_named.proofs.Laws.{Adding, adding-start, adding-long, adding-full, parts-done, parts-next}
+use borrow.Author.Needs.{needs}
+use Rattle.flush_named.proofs.add_parts.Statement.{statement}
+use Rattle.flush_named.proofs.add_parts.Tie as tie
+
+abbrev Inv-loop : tie.InvT-loop
+Inv-loop v block w bits₀ k at₀ bits at = (at ≤ length v) × Adding (partsHit block w v) (partsHit block w (drop at v)) bits₀ bits
+
+abbrev μ-loop : tie.MeasureT-loop
+μ-loop v block w bits₀ k at₀ bits at = length v - at
+
+loop-holds : tie.Need-loop-holds Inv-loop μ-loop
+loop-holds c = (search needs, search adding-start)
+
+add-requires : tie.Need-add-requires Inv-loop μ-loop
+add-requires c κs = search adding-long
+
+returns : tie.Need-returns Inv-loop μ-loop
+returns c = search adding-full
+
+loop-again : tie.Need-loop-again Inv-loop μ-loop
+loop-again c = (search needs, search parts-next)
+
+returns-2 : tie.Need-returns-2 Inv-loop μ-loop
+returns-2 c = search parts-done
+
+pub add-parts-spec : {M : Type 1} → statement M
+add-parts-spec =
+    tie.close
+    (tie.spec
+    Inv-loop
+    μ-loop
+    (λ c κs. search needs)
+    loop-holds
+    (λ c. search needs)
+    (λ c κs. search needs)
+    (λ c κs. search needs)
+    add-requires
+    (λ c. search needs)
+    returns
+    (λ c. search needs)
+    (λ c. search needs)
+    loop-again
+    (λ c. search needs)
+    returns-2)
