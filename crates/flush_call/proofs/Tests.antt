@@ -27,7 +27,7 @@ use Rattle.flush_payload.specs.declared.Kinds.{Kinds}
 use Rattle.flush_payload.proofs.Laws.{none-brought}
 use Rattle.flush_vlans.specs.Vlans.{VlansNoted}
 use Rattle.flush_marks.specs.Marks.{Unmarked, Filtered, Chosen}
-use Rattle.flush_marks.specs.Filters.{isType, isList, slotNamed, slotLabelled, slotAddressed, fineSlot, Within}
+use Rattle.flush_marks.specs.Filters.{isType, slotNamed, slotLabelled, slotAddressed, fineSlot, Within}
 use Rattle.flush_marks.proofs.Filters.{filter-all, filter-unmarked, filtered-same, chosen-filtered, chosen-same}
 use Rattle.flush_nicknames.specs.First.{kindMeant, fineNoted, slotFirst}
 use Rattle.flush_call.specs.Clearing.{payloadFrom, fineLeft}
@@ -59,17 +59,11 @@ module _ (p q : Piece → Bool) where
 
 -- ---- what was noted
 
-list-type : (x : Piece) → ofKind everyType listKind x ≡ isList x
-unfolding ofKind isList isType both either
-list-type (tlv k v) = refl
-list-type (block b) = refl
-list-type stump = refl
-
-map-type : (x : Piece) → ofKind everyType mapKind x ≡ isType 5 x
+every-type : (x : Piece) → ofKind everyType everyKind x ≡ isType 6 x
 unfolding ofKind isType both
-map-type (tlv k v) = refl
-map-type (block b) = refl
-map-type stump = refl
+every-type (tlv k v) = refl
+every-type (block b) = refl
+every-type stump = refl
 
 -- a piece of no kind of fine-grained labels brings none
 not-fine : (x : ℕ) (p : Piece) → ofKind everyType everyKind p ≡ false → ofKind everyType listKind p ≡ false → ofKind everyType mapKind p ≡ false → bringsLabel everyType (Fine x) p ≡ false
@@ -217,11 +211,8 @@ module _ (n : ℕ) (r : List ℕ) (f : Kinds) (noted : Noted everyType n (pieces
     no-blocks : n ≡ 0
     no-blocks = some-kind _ _ refl refl (sym (or-either (f .lists) (f .maps)) ∙ h)
 
-    pub lists-are : f .lists ≡ anyOf isList (tlvs r)
-    lists-are = noted .lists ∙ any-same _ _ list-type (piecesOf n r) ∙ ap (anyOf isList) (pieces-tlvs no-blocks)
-
-    pub maps-are : f .maps ≡ anyOf (isType 5) (tlvs r)
-    maps-are = noted .maps ∙ any-same _ _ map-type (piecesOf n r) ∙ ap (anyOf (isType 5)) (pieces-tlvs no-blocks)
+    pub none-every : anyOf (isType 6) (tlvs r) ≡ false
+    none-every = ap (anyOf (isType 6)) (sym (pieces-tlvs no-blocks)) ∙ sym (any-same _ _ every-type (piecesOf n r)) ∙ sym (noted .every) ∙ e
 
     pub labels-kept : (t a b : List ℕ) → Filtered (fineSlot (tlvs r)) t a b → Filtered (fineLeft (fineNoted f) (piecesOf n r)) t a b
     unfolding fineLeft either

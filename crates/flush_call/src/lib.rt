@@ -33,7 +33,7 @@ fn keep_labels(table: &[u8], rest: &[u8], f: Kinds, marks: &mut [u8])
     if !(f.lists | f.maps) {
         return;
     }
-    flush_labels::keep_fines(table, rest, f.lists, f.maps, marks);
+    flush_filters::keep_fines(table, rest, marks);
 }
 
 // Of the marked slots those stay marked whose MAC is meant: without a TLV of MACs every one is.
@@ -44,7 +44,7 @@ fn keep_macs(table: &[u8], rest: &[u8], f: Kinds, marks: &mut [u8])
     if !f.macs {
         return;
     }
-    flush_macs::keep_macs(table, rest, marks);
+    flush_filters::keep_macs(table, rest, marks);
 }
 
 // Marks the slots of a range that a good payload means. Where the first pass leaves no mark the filters have nothing to do.

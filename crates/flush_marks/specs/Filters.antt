@@ -22,10 +22,6 @@ isType t (tlv k v) = eqb k t
 isType t (block b) = false
 isType t stump = false
 
--- fine-grained labels in blocks or in a list
-unfoldable pub isList : Piece → Bool
-isList p = either (isType 3 p) (isType 4 p)
-
 -- ---- the tests of a slot
 
 -- the slot holds a learned record whose nickname passes the test
