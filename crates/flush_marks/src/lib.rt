@@ -1,12 +1,14 @@
-// Marks: one bit for each slot of a table. They are looked through, one is removed, and the marked slots are cleared and counted.
+// Marks: one bit for each slot of a table. They are looked through and listed, one is removed or added, and the marked slots are cleared and
+// counted.
 ghost use Prim.Native.Nat.{_-_, _*_, _/_, _%_, _^_, _<_, _≤_};
 ghost use mathlib.Core.Bool.{false};
 ghost use mathlib.Core.Path.{_≡_};
 ghost use lib.Count.{leadingZeros};
 ghost use lib.ListN.{length};
+ghost use Rattle.numbers.specs.Tests.{pick};
 ghost use Rattle.numbers.specs.After.{onTable};
 ghost use Rattle.table.specs.Slots.{mostSlots, slotsOf};
-ghost use Rattle.flush_marks.specs.Marks.{markBytes, restOf, Unmarked, Passing, NextMark, Removed, Narrowed, clearedMarks};
+ghost use Rattle.flush_marks.specs.Marks.{markBytes, restOf, Unmarked, Passing, NextMark, Removed, Narrowed, Widened, Listing, clearedMarks};
 use table::MOST_SLOTS;
 use table::Place;
 use table::SLOT_BYTES;
@@ -150,4 +152,58 @@ pub fn clear_marked(table: &mut [u8], marks: &[u8]) -> usize
         }
     }
     count
+}
+
+// How many slots were listed, or that they found no room.
+pub enum Room {
+    Held(usize),
+    Full,
+}
+
+// Lists the marked slots before slot n.
+pub fn list_marked(marks: &[u8], n: usize, slots: &mut [u64]) -> Room
+    requires { ⌜ (length (now marks) ≡ markBytes) × (n ≤ mostSlots) ⌝ }
+    ensures { λ r. ⌜ Listing (now (marks .entry)) n (now (slots .entry)) (now (slots .exit)) r ⌝ }
+{
+    let mut c = 0;
+    let mut k = 0;
+    while k < n {
+        match next_marked(marks, k, n) {
+            Place::At(s) => {
+                if c == slots.len() {
+                    return Room::Full;
+                }
+                slots[c] = s as u64;
+                c += 1;
+                k = s + 1;
+            }
+            Place::Nowhere => {
+                return Room::Held(c);
+            }
+        }
+    }
+    Room::Held(c)
+}
+
+// The high bit of a byte, or none.
+fn high_if(b: bool) -> u64
+    ensures { λ r. ⌜ r ≡ pick b 128 0 ⌝ }
+{
+    if b { 128 } else { 0 }
+}
+
+// Bit k of a byte, or none.
+fn bit_if(k: usize, b: bool) -> u8
+    requires { ⌜ k < 8 ⌝ }
+    ensures { λ r. ⌜ r ≡ pick b 128 0 / 2 ^ k ⌝ }
+{
+    (high_if(b) >> k) as u8
+}
+
+// Marks a slot where b is true. There is no branch on b.
+pub fn add_if(marks: &mut [u8], k: usize, b: bool)
+    requires { ⌜ (length (now marks) ≡ markBytes) × (k < mostSlots) ⌝ }
+    ensures { λ _. ⌜ Widened (now (marks .entry)) (now (marks .exit)) k b ⌝ }
+{
+    flush_bits::add_byte(marks, k / 8, bit_if(k % 8, b));
 }
