@@ -1,7 +1,7 @@
 -- The number of a record that a filter tests, and keys: such a number, times 4096, and the slot that holds it.
 -- Assumes nothing.
-use Prim.Native.Nat.{ℕ, _+_, _*_, _/_, _%_, _<_, _≤_}
-use mathlib.Core.Bool.{Bool, true, false, not}
+use Prim.Native.Nat.{ℕ, _/_, _%_, _<_, _≤_}
+use mathlib.Core.Bool.{Bool, true, not}
 use mathlib.Core.List.{List}
 use mathlib.Core.Path.{_≡_}
 use lib.Dec.{eqb}
@@ -11,7 +11,7 @@ use Rattle.numbers.specs.Numberings.{bitAt}
 use Rattle.table.specs.Record.{recordOf, kindOf, labelOf, macOf}
 use Rattle.table.specs.Slots.{mostSlots, slotsOf}
 use Rattle.flush_sort.specs.Sorting.{All}
-use Rattle.flush_buckets.specs.Buckets.{bucketBytes, bucketOf, HasBits}
+use Rattle.flush_buckets.specs.Buckets.{HasBits}
 use Rattle.flush_keys.specs.declared.Field.{Field}
 use Rattle.flush_keys.specs.declared.Field.the-variants.{Fine, Mac}
 
@@ -33,11 +33,6 @@ pub record InTable (t slots : List ℕ) : Type 0 where
 -- the key is that of slot j, and its number passes the test
 unfoldable pub keyed : (ℕ → Bool) → ℕ → ℕ → Bool
 keyed q j v = both (eqb (v % 4096) j) (q (v / 4096))
-
--- the bits of the numbers of keys are set
-pub record Nears (keys bits : List ℕ) : Type 0 where
-  pub long : length bits ≡ bucketBytes
-  pub each : (i : ℕ) → i < length keys → bitAt (bucketOf (getD keys i 0 / 4096)) bits ≡ true
 
 -- bit i says whether the number of key i passes the test
 pub record Hit (q : ℕ → Bool) (keys hits : List ℕ) : Type 0 where

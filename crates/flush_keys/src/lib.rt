@@ -1,13 +1,14 @@
 // The number of a record that a filter tests, a fine-grained label or a MAC, and keys: such a number, times 4096, and the slot that holds it.
-ghost use Prim.Native.Nat.{ℕ, _+_, _*_, _/_, _%_, _^_, _<_, _≤_};
-ghost use mathlib.Core.Bool.{Bool, true, false, not};
+ghost use Prim.Native.Nat.{ℕ, _+_, _*_, _^_, _<_, _≤_};
+ghost use mathlib.Core.Bool.{Bool, true, not};
 ghost use mathlib.Core.Path.{_≡_};
 ghost use lib.ListN.{length, take, drop};
+ghost use Rattle.numbers.specs.Tests.{pick};
 ghost use Rattle.table.specs.Record.{recordBytes};
 ghost use Rattle.table.specs.Slots.{slotAt};
-ghost use Rattle.flush_buckets.specs.Buckets.{bucketBytes};
+ghost use Rattle.flush_buckets.specs.Buckets.{bucketBytes, Nears};
 ghost use Rattle.flush_marks.specs.Marks.{markBytes};
-ghost use Rattle.flush_keys.specs.Keys.{numberIn, appliesTo, InTable, Nears, Hit, Marked, Joined, KeysOf};
+ghost use Rattle.flush_keys.specs.Keys.{numberIn, appliesTo, InTable, Hit, Marked, Joined, KeysOf};
 use table::SLOT_BYTES;
 
 // What a filter tests.
@@ -30,7 +31,7 @@ fn number_at(t: &[u8], at: usize, field: Field) -> u64
     }
 }
 
-// 1 where the slot at an offset has such a number, else 0.
+// Whether the slot at an offset has such a number.
 fn applies_at(t: &[u8], at: usize, field: Field) -> bool
     requires { ⌜ at + recordBytes ≤ length (now t) ⌝ }
     ensures { λ r. ⌜ r ≡ appliesTo field (drop at (now (t .entry))) ⌝ }
@@ -39,6 +40,12 @@ fn applies_at(t: &[u8], at: usize, field: Field) -> bool
         Field::Fine => table_fields::kind_at(t, at) != 0,
         Field::Mac => true,
     }
+}
+
+fn one(b: bool) -> usize
+    ensures { λ r. ⌜ (r ≡ pick b 1 0) × (r ≤ 1) ⌝ }
+{
+    if b { 1 } else { 0 }
 }
 
 // Makes the keys of slots. Each is stored, and counted where it applies and its number may be named: there is no branch on what is read.

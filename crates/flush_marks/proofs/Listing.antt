@@ -1,8 +1,8 @@
 -- Laws of a walk over marks that lists the marked slots.
 -- Assumes nothing.
 use Prim.{tt}
-use Prim.Native.Nat.{ℕ, zero, suc, _+_, _<_, _≤_}
-use mathlib.Core.Bool.{Bool, true, false}
+use Prim.Native.Nat.{ℕ, _+_, _<_, _≤_}
+use mathlib.Core.Bool.{true, false}
 use mathlib.Core.List.{List, [], _∷_, _++_}
 use mathlib.Core.Path.{_≡_, refl, sym, ap, _∙_}
 use native.Mathlib.Decide.{ℕ-discrete, decLt}
@@ -18,8 +18,7 @@ use Rattle.table.specs.declared.Place.{Place}
 use Rattle.table.specs.declared.Place.the-variants.{At, Nowhere}
 use Rattle.flush_sort.specs.Sorting.{All}
 use Rattle.flush_sort.proofs.Laws.{any-append, all-append, either-none}
-use Rattle.flush_marks.specs.Marks.{Unmarked, Found, NextMark, Listed, Listing}
-use Rattle.flush_marks.specs.declared.Room.{Room}
+use Rattle.flush_marks.specs.Marks.{Unmarked, NextMark, Listed, Listing}
 use Rattle.flush_marks.specs.declared.Room.the-variants.{Held, Full}
 
 -- so far: the first c numbers of the list u are the marked slots before slot k

@@ -1,6 +1,5 @@
 -- `flush_marks::bit_if` meets its contract: a shift is a division.
 -- Assumes nothing.
-use mathlib.Core.Path.{refl}
 use Rattle.flush_marks.proofs.Adding.{bit-size}
 use borrow.Author.Needs.{needs}
 use Rattle.flush_marks.proofs.bit_if.Statement.{statement}

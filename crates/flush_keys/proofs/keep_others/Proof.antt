@@ -1,0 +1,63 @@
+-- `flush_keys::keep_others` meets its contract. The invariant: what is marked and the slots from `i` on make up the whole.
+-- Assumes nothing.
+use Prim.Native.Nat.{_-_, _<_}
+use native.Mathlib.Omega.{arith}
+use lib.ListN.{length, getD}
+use Rattle.table.specs.Slots.{mostSlots}
+use Rattle.flush_keys.proofs.Fields.{slot-room, slot-few}
+use Rattle.flush_keys.proofs.Marking.{Joining, without, joining-start, without-none, without-next, joining-done}
+use borrow.Author.Needs.{needs}
+use Rattle.flush_keys.proofs.keep_others.Statement.{statement}
+use Rattle.flush_keys.proofs.keep_others.Tie as tie
+
+abbrev Inv-loop : tie.InvT-loop
+Inv-loop table field slots marks₀ i₀ marks i = Joining (without field table) slots marks₀ i marks
+
+abbrev μ-loop : tie.MeasureT-loop
+μ-loop table field slots marks₀ i₀ marks i = length slots - i
+
+-- the slot that is tested
+slot : (c : tie.After-shared-slice-known3 Inv-loop μ-loop) → getD (c .before .before .before .before .before .before .before .before .args .slots .now) (c .before .before .loop .i) 0 < mostSlots
+slot c = slot-few _ _ _ (c .before .before .before .before .before .before .before .before .pre .0) (omega arith)
+
+returns : tie.Need-returns Inv-loop μ-loop
+returns c = without-none _ _ _ _ (c .enum-told2 .given .1)
+
+loop-holds : tie.Need-loop-holds Inv-loop μ-loop
+loop-holds c = search joining-start
+
+mul-applies-at : tie.Need-mul-applies-at Inv-loop μ-loop
+mul-applies-at c = let l = slot (c .before) in omega arith
+
+applies-at-requires : tie.Need-applies-at-requires Inv-loop μ-loop
+applies-at-requires c κs = search slot-room
+
+add-if-requires : tie.Need-add-if-requires Inv-loop μ-loop
+add-if-requires c κs = let l = slot (c .before .before) in (search needs, omega arith)
+
+loop-again : tie.Need-loop-again Inv-loop μ-loop
+loop-again c = search without-next
+
+returns-2 : tie.Need-returns-2 Inv-loop μ-loop
+returns-2 c = search joining-done
+
+pub keep-others-spec : {M : Type 1} → statement M
+keep-others-spec =
+    tie.close
+    (tie.spec
+    Inv-loop
+    μ-loop
+    (λ c. search needs)
+    (λ c. search needs)
+    returns
+    loop-holds
+    (λ c. search needs)
+    (λ c. search needs)
+    mul-applies-at
+    applies-at-requires
+    add-if-requires
+    (λ c. search needs)
+    (λ c. search needs)
+    loop-again
+    (λ c. search needs)
+    returns-2)
