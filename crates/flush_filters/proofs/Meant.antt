@@ -30,11 +30,10 @@ filtered-same p q same t a b f = record { long = f .long; each = λ k h. f .each
 
 -- a piece brings a label as type 6, or it names it
 piece-apart : (x : ℕ) (p : Piece) → bringsLabel everyType (label.Fine x) p ≡ either (isType 6 p) (namedIn (namingOf Fine) p x)
-unfolding bringsLabel fineIn isType namedIn namingOf both either
+unfolding bringsLabel fineIn isType namedIn namingOf both either pick
 piece-apart x (tlv k v) = go (eqb k 6) (pick (eqb k 3) (inBlocks fines x v) (pick (eqb k 4) (inList fines x v) (pick (eqb k 5) (inMap fines x v) false)))
   where
     go : (a b : Bool) → pick a true b ≡ either a b
-    unfolding pick either
     go true b = refl
     go false b = refl
 piece-apart x (block b) = refl
@@ -96,5 +95,4 @@ module _ (l : List ℕ) (g : Bool) (gathered : g ≡ anyOf (gathersMac everyType
   every-mac none t m = rw (of-none l) at (filter-all (slotAddressed (piecesOf 0 l)) mac-near t m (λ r. rw (← gathered, none)))
     where
       mac-near : Local (slotAddressed (piecesOf 0 l))
-      unfolding slotAddressed
       mac-near x = rw (record-near x)

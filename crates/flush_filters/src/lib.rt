@@ -8,12 +8,14 @@ ghost use lib.ListN.{length};
 ghost use Rattle.numbers.specs.Tests.{anyOf};
 ghost use Rattle.table.specs.Slots.{slotsOf};
 ghost use Rattle.flush.specs.Payload.{tlvs};
+ghost use Rattle.flush_sort.specs.Sorting.{Sorted};
 ghost use Rattle.flush_parts.specs.Parts.{Narrow};
 ghost use Rattle.flush_parts.specs.Named.{namedOf};
 ghost use Rattle.flush_marks.specs.Marks.{markBytes, Filtered, Listed};
 ghost use Rattle.flush_marks.specs.Filters.{isType, fineSlot, slotAddressed, Filtering};
-ghost use Rattle.flush_keys.specs.Keys.{Marked};
-ghost use Rattle.flush_filters.specs.Numbers.{namingOf, slotPasses, Kept};
+ghost use Rattle.flush_keys.specs.Keys.{InTable, Marked};
+ghost use Rattle.flush_intervals.specs.Hits.{hitBytes, Hits};
+ghost use Rattle.flush_filters.specs.Numbers.{namingOf, slotPasses, Keyed, Kept};
 use flush_buckets::BUCKET_BYTES;
 use flush_intervals::HIT_BYTES;
 use flush_keys::Field;
@@ -48,17 +50,44 @@ fn naming_of(field: Field) -> Naming
     }
 }
 
+// Sets the bits of the sorted keys whose number the message names.
+fn hit_keys(rest: &[u8], field: Field, keys: &[u64], hits: &mut [u8])
+    requires { ⌜ (Sorted (now keys) × (length (now keys) ≤ 4096)) × (length (now hits) ≡ hitBytes) ⌝ }
+    ensures { λ _. ⌜ Hits (namedOf (namingOf field) (tlvs (now (rest .entry)))) (now (keys .entry)) (now (hits .entry)) (now (hits .exit)) ⌝ }
+{
+    let mut near = [0u8; BUCKET_BYTES];
+    flush_keys::note(keys, &mut near);
+    flush_intervals::hit_named(rest, naming_of(field), &near, keys, hits);
+}
+
 // Marks the slots of keys whose number the message names.
 fn mark_named(rest: &[u8], field: Field, keys: &mut [u64], work: &mut [u64], marks: &mut [u8])
     requires { ⌜ ((length (now keys) ≤ 4096) × (length (now keys) ≤ length (now work))) × (length (now marks) ≡ markBytes) ⌝ }
     ensures { λ _. ⌜ Marked (namedOf (namingOf field) (tlvs (now (rest .entry)))) (now (keys .entry)) (now (marks .entry)) (now (marks .exit)) ⌝ }
 {
     flush_sort::sort(keys, work);
-    let mut near = [0u8; BUCKET_BYTES];
-    flush_keys::note(keys, &mut near);
     let mut hits = [0u8; HIT_BYTES];
-    flush_intervals::hit_named(rest, naming_of(field), &near, keys, &mut hits);
+    hit_keys(rest, field, keys, &mut hits);
     flush_keys::collect(keys, &hits, marks);
+}
+
+// Makes the keys of the slots whose number may be named, and leaves those marked that have no such number.
+fn key_slots(
+    table: &[u8],
+    rest: &[u8],
+    field: Field,
+    slots: &[u64],
+    keys: &mut [u64],
+    marks: &mut [u8],
+) -> usize
+    requires { ⌜ InTable (now table) (now slots) × ((length (now slots) ≤ length (now keys)) × (length (now marks) ≡ markBytes)) ⌝ }
+    ensures { λ n. ⌜ Keyed field (tlvs (now (rest .entry))) (now (table .entry)) (now (slots .entry)) (now (keys .exit)) n (now (marks .exit)) ⌝ }
+{
+    flush_marks::remove_all(marks);
+    flush_keys::keep_others(table, field, slots, marks);
+    let mut named = [0u8; BUCKET_BYTES];
+    flush_named::add_named(rest, naming_of(field), &mut named);
+    flush_keys::keys_of(table, field, slots, &named, keys)
 }
 
 // Of the listed slots, which are the marked ones, those stay marked that pass.
@@ -74,11 +103,7 @@ fn keep_listed(
     requires { ⌜ (Filtering (now table) (now marks) × Listed (now marks) (slotsOf (now table)) c (now slots)) × ((length (now slots) ≤ 4096) × (length (now keys) ≡ length (now slots))) ⌝ }
     ensures { λ _. ⌜ Filtered (slotPasses field (tlvs (now (rest .entry)))) (now (table .entry)) (now (marks .entry)) (now (marks .exit)) ⌝ }
 {
-    let mut named = [0u8; BUCKET_BYTES];
-    flush_named::add_named(rest, naming_of(field), &mut named);
-    flush_marks::remove_all(marks);
-    flush_keys::keep_others(table, field, &slots[..c], marks);
-    let n = flush_keys::keys_of(table, field, &slots[..c], &named, keys);
+    let n = key_slots(table, rest, field, &slots[..c], keys, marks);
     mark_named(rest, field, &mut keys[..n], slots, marks);
 }
 
@@ -103,26 +128,6 @@ fn keep_in(
     }
 }
 
-// In areas for few marks.
-fn keep_few(table: &[u8], rest: &[u8], field: Field, marks: &mut [u8]) -> bool
-    requires { ⌜ Filtering (now table) (now marks) ⌝ }
-    ensures { λ r. ⌜ Kept r (slotPasses field (tlvs (now (rest .entry)))) (now (table .entry)) (now (marks .entry)) (now (marks .exit)) ⌝ }
-{
-    let mut slots = [0u64; FEW];
-    let mut keys = [0u64; FEW];
-    keep_in(table, rest, field, &mut slots, &mut keys, marks)
-}
-
-// In areas for some.
-fn keep_some(table: &[u8], rest: &[u8], field: Field, marks: &mut [u8]) -> bool
-    requires { ⌜ Filtering (now table) (now marks) ⌝ }
-    ensures { λ r. ⌜ Kept r (slotPasses field (tlvs (now (rest .entry)))) (now (table .entry)) (now (marks .entry)) (now (marks .exit)) ⌝ }
-{
-    let mut slots = [0u64; SOME];
-    let mut keys = [0u64; SOME];
-    keep_in(table, rest, field, &mut slots, &mut keys, marks)
-}
-
 // In areas for all slots that a table has.
 fn keep_many(table: &[u8], rest: &[u8], field: Field, marks: &mut [u8])
     requires { ⌜ Filtering (now table) (now marks) ⌝ }
@@ -133,6 +138,32 @@ fn keep_many(table: &[u8], rest: &[u8], field: Field, marks: &mut [u8])
     keep_in(table, rest, field, &mut slots, &mut keys, marks);
 }
 
+// In areas for few marks.
+fn keep_few(table: &[u8], rest: &[u8], field: Field, marks: &mut [u8])
+    requires { ⌜ Filtering (now table) (now marks) ⌝ }
+    ensures { λ _. ⌜ Filtered (slotPasses field (tlvs (now (rest .entry)))) (now (table .entry)) (now (marks .entry)) (now (marks .exit)) ⌝ }
+{
+    let mut slots = [0u64; FEW];
+    let mut keys = [0u64; FEW];
+    if keep_in(table, rest, field, &mut slots, &mut keys, marks) {
+        return;
+    }
+    keep_many(table, rest, field, marks);
+}
+
+// In areas for some.
+fn keep_some(table: &[u8], rest: &[u8], field: Field, marks: &mut [u8])
+    requires { ⌜ Filtering (now table) (now marks) ⌝ }
+    ensures { λ _. ⌜ Filtered (slotPasses field (tlvs (now (rest .entry)))) (now (table .entry)) (now (marks .entry)) (now (marks .exit)) ⌝ }
+{
+    let mut slots = [0u64; SOME];
+    let mut keys = [0u64; SOME];
+    if keep_in(table, rest, field, &mut slots, &mut keys, marks) {
+        return;
+    }
+    keep_many(table, rest, field, marks);
+}
+
 // Of the marked slots those stay marked that pass.
 fn keep(table: &[u8], rest: &[u8], field: Field, marks: &mut [u8])
     requires { ⌜ Filtering (now table) (now marks) ⌝ }
@@ -140,13 +171,12 @@ fn keep(table: &[u8], rest: &[u8], field: Field, marks: &mut [u8])
 {
     let n = flush_marks::weight(marks);
     if n <= FEW {
-        if keep_few(table, rest, field, marks) {
-            return;
-        }
-    } else if n <= SOME {
-        if keep_some(table, rest, field, marks) {
-            return;
-        }
+        keep_few(table, rest, field, marks);
+        return;
+    }
+    if n <= SOME {
+        keep_some(table, rest, field, marks);
+        return;
     }
     keep_many(table, rest, field, marks);
 }
