@@ -2,20 +2,22 @@
 -- Assumes nothing.
 use Prim.Native.Nat.{ℕ, zero, suc, _+_, _-_, _*_, _/_, _%_, _^_, _≤_, _<_, min}
 use mathlib.Core.Bool.{Bool, true, false, not}
-use mathlib.Core.List.{List}
+use mathlib.Core.List.{List, _++_}
 use mathlib.Core.Path.{_≡_, refl, sym, ap, _∙_}
 use native.Mathlib.Decide.{ℕ-discrete}
 use native.Mathlib.Nat.{mod-lt, zero-div}
 use native.Mathlib.Omega.{arith}
 use lib.Bits.{bitAnd, and-shr, and-step}
 use lib.Dec.{eqb, leb}
-use lib.ListN.{length, getD, set, replicate, length-set, length-replicate}
+use lib.ListN.{length, take, drop, getD, replicate, length-replicate}
 use borrow.Author.Tests.{eq-eqb, ne-eqb, leb-true}
 use Rattle.numbers.specs.Tests.{both}
+use Rattle.numbers.specs.Bytes.{AreBytes, num, bytesOf}
 use Rattle.numbers.specs.Numberings.{bitOf, bitAt}
 use Rattle.numbers.proofs.Truth.{both-right}
-use Rattle.flush_bits.proofs.Laws.{every, every-at, alike, alike-same, byte-same, byte-other}
-use Rattle.flush_marks.specs.Marks.{markBytes, NoMarks, Removed, Narrowed}
+use Rattle.flush_bits.proofs.Laws.{every, every-at, alike, alike-same}
+use Rattle.flush_marks.specs.Marks.{markBytes, highBit, othersOf, NoMarks, Removed, Narrowed}
+use Rattle.flush_marks.proofs.Words.{word-bit, stored-bit, stored-other, stored-length}
 
 min-digit : (x y : ℕ) → x < 2 → y < 2 → eqb (min x y) 1 ≡ both (eqb x 1) (eqb y 1)
 unfolding both
@@ -42,33 +44,33 @@ and-odd a b =
     few (suc zero) (suc (suc y)) h g = absurd (omega arith)
     few (suc (suc x)) y h g = absurd (omega arith)
 
-pub and-bit : (a b k : ℕ) → bitOf (bitAnd a b) k ≡ both (bitOf a k) (bitOf b k)
-unfolding bitOf
-and-bit a b k =
-    ap (λ (n : ℕ). eqb (n % 2) 1) (and-shr a b (7 - k))
-    ∙ ap (λ (n : ℕ). eqb n 1) (and-odd (a / 2 ^ (7 - k)) (b / 2 ^ (7 - k)))
-    ∙ min-digit (a / 2 ^ (7 - k) % 2) (b / 2 ^ (7 - k) % 2) (mod-lt _ (omega arith)) (mod-lt _ (omega arith))
+and-high : (a b i : ℕ) → highBit (bitAnd a b) i ≡ both (highBit a i) (highBit b i)
+unfolding highBit
+and-high a b i =
+    ap (λ (n : ℕ). eqb (n % 2) 1) (and-shr a b (63 - i))
+    ∙ ap (λ (n : ℕ). eqb n 1) (and-odd (a / 2 ^ (63 - i)) (b / 2 ^ (63 - i)))
+    ∙ min-digit (a / 2 ^ (63 - i) % 2) (b / 2 ^ (63 - i) % 2) (mod-lt _ (omega arith)) (mod-lt _ (omega arith))
 
--- ---- every bit of a byte but bit k
+-- ---- every bit of a word but one
 
 abbrev othersRule : ℕ → ℕ → Bool
-othersRule k j = alike (bitOf (255 - 128 / 2 ^ k) j) (not (eqb j k))
+othersRule k j = alike (highBit (othersOf k) j) (not (eqb j k))
 
-others-computed : every 8 (λ k. every 8 (othersRule k)) ≡ true
-unfolding bitOf both
+others-computed : every 64 (λ k. every 64 (othersRule k)) ≡ true
+unfolding highBit othersOf both
 others-computed = refl
 
-sizes-computed : every 8 (λ k. leb (128 / 2 ^ k) 255) ≡ true
+sizes-computed : every 64 (λ k. leb (2 ^ 63 / 2 ^ k) (2 ^ 63)) ≡ true
 unfolding both
 sizes-computed = refl
 
-pub others-size : (k : ℕ) → k < 8 → 128 / 2 ^ k ≤ 255
-others-size k h = leb-true _ _ (every-at 8 (λ k. leb (128 / 2 ^ k) 255) sizes-computed k h)
+pub others-size : (k : ℕ) → k < 64 → 2 ^ 63 / 2 ^ k ≤ 2 ^ 63
+others-size k h = leb-true _ _ (every-at 64 (λ k. leb (2 ^ 63 / 2 ^ k) (2 ^ 63)) sizes-computed k h)
 
-others-bit : (k j : ℕ) → k < 8 → j < 8 → bitOf (255 - 128 / 2 ^ k) j ≡ not (eqb j k)
+others-bit : (k j : ℕ) → k < 64 → j < 64 → highBit (othersOf k) j ≡ not (eqb j k)
 others-bit k j h g =
-    alike-same (bitOf (255 - 128 / 2 ^ k) j) (not (eqb j k))
-    (every-at 8 (othersRule k) (every-at 8 (λ k. every 8 (othersRule k)) others-computed k h) j g)
+    alike-same (highBit (othersOf k) j) (not (eqb j k))
+    (every-at 64 (othersRule k) (every-at 64 (λ k. every 64 (othersRule k)) others-computed k h) j g)
 
 pub both-all : (a : Bool) → both a true ≡ a
 unfolding both
@@ -77,30 +79,30 @@ both-all false = refl
 
 -- ---- the bit removed
 
-module _ (s : List ℕ) (k : ℕ) (room : k < 8 * length s) where
+module _ (s : List ℕ) (known : AreBytes s) (long : length s ≡ markBytes) (k : ℕ) (room : k < 4096) (y : ℕ) (old : y ≡ num (take 8 (drop (k / 64 * 8) s))) where
   abbrev less : List ℕ
-  less = set s (k / 8) (bitAnd (getD s (k / 8) 0) (255 - 128 / 2 ^ (k % 8)))
+  less = take (k / 64 * 8) s ++ (bytesOf 8 (bitAnd y (othersOf (k % 64))) ++ drop (k / 64 * 8 + 8 - k / 64 * 8) (drop (k / 64 * 8) s))
 
-  same-byte : (j : ℕ) → j / 8 ≡ k / 8 → bitAt j less ≡ both (bitAt j s) (not (eqb (j % 8) (k % 8)))
-  unfolding bitAt
-  same-byte j e =
-      byte-same s (k / 8) _ j (omega arith) e
-      ∙ and-bit (getD s (k / 8) 0) (255 - 128 / 2 ^ (k % 8)) (j % 8)
-      ∙ rw (others-bit (k % 8) (j % 8) (omega arith) (omega arith), e)
+  same-word : (j : ℕ) → j / 64 ≡ k / 64 → bitAt j less ≡ both (bitAt j s) (not (eqb (j % 64) (k % 64)))
+  same-word j e =
+      let place : 8 * (k / 64 * 8) + j % 64 ≡ j = omega arith in
+      let was : highBit y (j % 64) ≡ bitAt j s = rw (← old, place) at (word-bit s known (k / 64 * 8) (omega arith) (j % 64) (omega arith)) in
+      rw place at (stored-bit s (k / 64 * 8) (bitAnd y (othersOf (k % 64))) (omega arith) (j % 64) (omega arith))
+      ∙ and-high y (othersOf (k % 64)) (j % 64)
+      ∙ rw (was, others-bit (k % 64) (j % 64) (omega arith) (omega arith))
 
-  other-bit : (j : ℕ) → (j ≡ k → ⊥) → Dec (j / 8 ≡ k / 8) → bitAt j less ≡ bitAt j s
-  other-bit j d (no n) = byte-other s (k / 8) _ j n
-  other-bit j d (yes e) = same-byte j e ∙ rw (ne-eqb (j % 8) (k % 8) (λ f. d (omega arith))) (both-all (bitAt j s))
+  other-bit : (j : ℕ) → (j ≡ k → ⊥) → Dec (j / 64 ≡ k / 64) → bitAt j less ≡ bitAt j s
+  other-bit j d (no n) = stored-other s (k / 64 * 8) (bitAnd y (othersOf (k % 64))) (omega arith) j (λ l. omega arith)
+  other-bit j d (yes e) = same-word j e ∙ rw (ne-eqb (j % 64) (k % 64) (λ f. d (omega arith))) (both-all (bitAt j s))
 
-  bit-removed : Removed s less k
-  bit-removed = record {
-    long = length-set s (k / 8) _;
-    gone = same-byte k refl ∙ rw (eq-eqb (k % 8) (k % 8) refl) (both-right (bitAt k s) false refl);
-    rest = λ j d. other-bit j d (ℕ-discrete (j / 8) (k / 8));
-  }
-
-  pub mark-removed : (b : ℕ) → b ≡ 255 - 128 / 2 ^ (k % 8) → (t : List ℕ) → t ≡ set s (k / 8) (bitAnd (getD s (k / 8) 0) b) → Removed s t k
-  mark-removed b e t f = rw (f, e) bit-removed
+  pub mark-removed : (b : ℕ) → b ≡ othersOf (k % 64) → (r : List ℕ) → r ≡ bytesOf 8 (bitAnd y b)
+      → Removed s (take (k / 64 * 8) s ++ (r ++ drop (k / 64 * 8 + 8 - k / 64 * 8) (drop (k / 64 * 8) s))) k
+  mark-removed b e r f =
+      rw (f, e) (record {
+        long = stored-length s (k / 64 * 8) (bitAnd y (othersOf (k % 64))) (omega arith);
+        gone = same-word k refl ∙ rw (eq-eqb (k % 64) (k % 64) refl) (both-right (bitAt k s) false refl);
+        rest = λ j d. other-bit j d (ℕ-discrete (j / 64) (k / 64));
+      })
 
 -- where the test passed nothing is removed
 pub kept-mark : (s : List ℕ) (k : ℕ) (b : Bool) → b ≡ true → Narrowed s s k b
