@@ -16,8 +16,7 @@ use Rattle.table.specs.Slots.{slotsOf}
 use Rattle.table.specs.declared.Label.the-variants.{Vlan, Fine}
 use Rattle.table.specs.declared.Slot.{Slot}
 use Rattle.table.specs.declared.Slot.the-variants.{Free, Spoilt, Learned, Configured}
-use Rattle.table.proofs.Slots.{Local}
-use Rattle.table.proofs.Contents.{record-near, learned-is, slot-held, state-learned, free-state}
+use Rattle.table.proofs.Contents.{learned-is, slot-held, state-learned, free-state}
 use Rattle.flush.specs.Payload.{everyType, Piece, tlv, block, stump, tlvs, piecesOf, Payload}
 use Rattle.flush.specs.Meaning.{fineIn, someMacIn, bringsLabel, gathersMac, nicknameMeant, labelMeant, macMeant, entryMeant}
 use Rattle.flush.specs.Flush.{heldMeant, slotMeant}
@@ -155,14 +154,6 @@ module _ (p : Payload) (ingress : ℕ) where
       four-assoc (isLearned (unpacked r)) (nicknameMeant ingress (p .nicks) (nicknameOf (recordOf r))) (labelMeant everyType (p .pieces) (labelFrom (kindOf (recordOf r)) (labelOf (recordOf r)))) (macMeant everyType (p .pieces) (macOf (recordOf r)))
       ∙ sym (by-learned r (isLearned (unpacked r)) refl)
 
-fine-near : (fine : Bool) (ps : List Piece) → Local (fineLeft fine ps)
-unfolding fineLeft fineSlot
-fine-near fine ps x = rw (record-near x)
-
-addressed-near : (ps : List Piece) → Local (slotAddressed ps)
-unfolding slotAddressed
-addressed-near ps x = rw (record-near x)
-
 either-all : (a : Bool) → either a true ≡ true
 unfolding either
 either-all true = refl
@@ -192,14 +183,14 @@ module _ (n : ℕ) (r : List ℕ) (f : Kinds) (noted : Noted everyType n (pieces
   pub labels-every : f .every ≡ true → (t m : List ℕ) → Filtered (fineLeft (fineNoted f) (piecesOf n r)) t m m
   unfolding fineLeft fineSlot labelMeant
   labels-every e t m =
-      filter-all (fineLeft (fineNoted f) (piecesOf n r)) (fine-near (fineNoted f) (piecesOf n r)) t m (λ s.
+      filter-all (fineLeft (fineNoted f) (piecesOf n r)) t m (λ s.
       rw (any-passes _ _ (every-fine (labelOf (recordOf s))) (piecesOf n r) (sym (noted .every) ∙ e), either-all (eqb (kindOf (recordOf s)) 0)) (either-all (not (fineNoted f))))
 
   pub labels-none : f .every ≡ false → f .lists || f .maps ≡ false → (t m : List ℕ) → Filtered (fineLeft (fineNoted f) (piecesOf n r)) t m m
   unfolding fineLeft either
   labels-none e h t m =
       let g : either (f .lists) (f .maps) ≡ false = sym (or-either (f .lists) (f .maps)) ∙ h in
-      filter-all (fineLeft (fineNoted f) (piecesOf n r)) (fine-near (fineNoted f) (piecesOf n r)) t m (λ s. rw (e, g))
+      filter-all (fineLeft (fineNoted f) (piecesOf n r)) t m (λ s. rw (e, g))
 
   module _ (e : f .every ≡ false) (h : f .lists || f .maps ≡ true) where
     some-kind : (a b : Bool) → f .lists ≡ a → f .maps ≡ b → either a b ≡ true → n ≡ 0
@@ -225,7 +216,7 @@ module _ (n : ℕ) (r : List ℕ) (f : Kinds) (noted : Noted everyType n (pieces
   pub macs-none : f .macs ≡ false → (t m : List ℕ) → Filtered (slotAddressed (piecesOf n r)) t m m
   unfolding slotAddressed macMeant either
   macs-none e t m =
-      filter-all (slotAddressed (piecesOf n r)) (addressed-near (piecesOf n r)) t m (λ s. rw (none-gathers (piecesOf n r) (sym (noted .macs) ∙ e)))
+      filter-all (slotAddressed (piecesOf n r)) t m (λ s. rw (none-gathers (piecesOf n r) (sym (noted .macs) ∙ e)))
 
   pub macs-kept : f .macs ≡ true → (t a b : List ℕ) → Filtered (slotAddressed (tlvs r)) t a b → Filtered (slotAddressed (piecesOf n r)) t a b
   macs-kept e t a b g = rw (pieces-tlvs (of-blocks macKind (sym (noted .macs) ∙ e))) g

@@ -11,20 +11,15 @@ use Rattle.numbers.specs.Tests.{pick, both, either, anyOf}
 use Rattle.numbers.specs.Numberings.{fines, macs, inBlocks, inList, inMap}
 use Rattle.table.specs.Record.{recordOf, kindOf, labelOf, macOf}
 use Rattle.table.specs.declared.Label.the-variants as label
-use Rattle.table.proofs.Slots.{Local}
-use Rattle.table.proofs.Contents.{record-near}
 use Rattle.flush.specs.Payload.{everyType, Piece, tlv, block, stump, tlvs, piecesOf}
 use Rattle.flush.specs.Meaning.{fineIn, bringsLabel, labelMeant, macIn, bringsMac, gathersMac, macMeant}
 use Rattle.flush_parts.specs.Named.{namedIn, namedOf}
 use Rattle.flush_marks.specs.Marks.{Filtered}
 use Rattle.flush_marks.specs.Filters.{isType, fineSlot, slotAddressed}
-use Rattle.flush_marks.proofs.Filters.{filter-all}
+use Rattle.flush_marks.proofs.Filters.{filter-all, filtered-same}
 use Rattle.flush_keys.specs.Keys.{numberIn, appliesTo}
 use Rattle.flush_keys.specs.declared.Field.the-variants.{Fine, Mac}
 use Rattle.flush_filters.specs.Numbers.{namingOf, slotPasses}
-
-filtered-same : (p q : List ℕ → Bool) → ((r : List ℕ) → p r ≡ q r) → (t a b : List ℕ) → Filtered p t a b → Filtered q t a b
-filtered-same p q same t a b f = record { long = f .long; each = λ k h. f .each k h ∙ ap (both _) (same _) }
 
 -- ---- fine-grained labels
 
@@ -60,7 +55,7 @@ not-twice false = refl
 
 pub fines-kept : (ps : List Piece) → anyOf (isType 6) ps ≡ false → (t a b : List ℕ) → Filtered (slotPasses Fine ps) t a b → Filtered (fineSlot ps) t a b
 unfolding slotPasses fineSlot appliesTo numberIn either
-fines-kept ps none t a b f = filtered-same _ _ (λ r. rw (not-twice (eqb (kindOf (recordOf r)) 0), fines-apart (labelOf (recordOf r)) ps, none)) t a b f
+fines-kept ps none t a b f = filtered-same _ _ t a b (λ r. rw (not-twice (eqb (kindOf (recordOf r)) 0), fines-apart (labelOf (recordOf r)) ps, none)) f
 
 -- ---- MACs
 
@@ -87,12 +82,9 @@ of-none l = refl
 module _ (l : List ℕ) (g : Bool) (gathered : g ≡ anyOf (gathersMac everyType) (piecesOf 0 l)) where
   pub macs-kept : g ≡ true → (t a b : List ℕ) → Filtered (slotPasses Mac (tlvs l)) t a b → Filtered (slotAddressed (tlvs l)) t a b
   unfolding slotPasses slotAddressed appliesTo numberIn macMeant either
-  macs-kept some t a b f = filtered-same _ _ (λ r. rw (← of-none l, ← gathered, some) (sym (macs-are (macOf (recordOf r)) (piecesOf 0 l)))) t a b f
+  macs-kept some t a b f = filtered-same _ _ t a b (λ r. rw (← of-none l, ← gathered, some) (sym (macs-are (macOf (recordOf r)) (piecesOf 0 l)))) f
 
   -- where no MAC was gathered every slot passes
   pub every-mac : g ≡ false → (t m : List ℕ) → Filtered (slotAddressed (tlvs l)) t m m
   unfolding slotAddressed macMeant either
-  every-mac none t m = rw (of-none l) at (filter-all (slotAddressed (piecesOf 0 l)) mac-near t m (λ r. rw (← gathered, none)))
-    where
-      mac-near : Local (slotAddressed (piecesOf 0 l))
-      mac-near x = rw (record-near x)
+  every-mac none t m = rw (of-none l) at (filter-all (slotAddressed (piecesOf 0 l)) t m (λ r. rw (← gathered, none)))

@@ -1,80 +1,28 @@
--- Laws of a filter, a walk over the marked slots that removes the mark of each slot that fails the test; and of marking slots.
+-- Laws of marking slots, and of filters.
 -- Assumes nothing.
 use Prim.Native.Nat.{ℕ, _+_, _*_, _<_, _≤_}
 use mathlib.Core.Bool.{Bool, true, false}
 use mathlib.Core.List.{List}
 use mathlib.Core.Path.{_≡_, refl, sym, ap, _∙_}
-use native.Mathlib.Decide.{ℕ-discrete, decLt}
+use native.Mathlib.Decide.{ℕ-discrete}
 use native.Mathlib.Omega.{arith}
 use lib.ListN.{length, drop}
 use Rattle.numbers.specs.Tests.{both}
 use Rattle.numbers.specs.Numberings.{bitAt}
 use Rattle.numbers.proofs.Truth.{both-left, both-right}
 use Rattle.table.specs.Slots.{slotBytes, slotsOf, slotAt}
-use Rattle.table.specs.declared.Place.{Place}
-use Rattle.table.specs.declared.Place.the-variants.{At, Nowhere}
 use Rattle.table.proofs.Slots.{Local}
 use Rattle.flush_bits.specs.Ranged.{Ranged}
-use Rattle.flush_marks.specs.Marks.{markBytes, Unmarked, Found, NextMark, Narrowed, NoMarks, MarkedTo, Filtered, FilteredTo, Chosen}
+use Rattle.flush_marks.specs.Marks.{markBytes, Unmarked, NoMarks, MarkedTo, Filtered, Chosen}
 
 both-all : (a b : Bool) → b ≡ true → both a b ≡ a
 unfolding both
 both-all true b e = e
 both-all false b e = refl
 
-module _ (test : List ℕ → Bool) (near : Local test) (t before : List ℕ) where
-  pub filter-none : FilteredTo test t before 0 before
-  filter-none = record { long = refl; done = λ k h. absurd (omega arith); rest = λ k h. refl }
-
-  -- a test that every slot passes changes nothing
-  pub filter-all : ((r : List ℕ) → test r ≡ true) → Filtered test t before before
-  filter-all every = record { long = refl; each = λ k h. sym (both-all (bitAt k before) _ (every (slotAt k t))) }
-
-  module _ (i : ℕ) (after : List ℕ) (so-far : FilteredTo test t before i after) where
-    filter-skip : (k : ℕ) → i ≤ k → Unmarked after i k → FilteredTo test t before k after
-    filter-skip k far none = record {
-      long = so-far .long;
-      done = λ j h. go j h (decLt j i);
-      rest = λ j h. so-far .rest j (omega arith);
-    }
-      where
-        go : (j : ℕ) → j < k → Dec (j < i) → bitAt j after ≡ both (bitAt j before) (test (slotAt j t))
-        go j h (yes l) = so-far .done j l
-        go j h (no l) =
-            let empty : bitAt j after ≡ false = none .none j (omega arith) h in
-            empty ∙ sym (both-left (bitAt j before) (test (slotAt j t)) (sym (so-far .rest j (omega arith)) ∙ empty))
-
-    pub filter-ends : slotsOf t ≤ i → Filtered test t before after
-    filter-ends h = record { long = so-far .long; each = λ k l. so-far .done k (omega arith) }
-
-    pub filter-long : length before ≡ markBytes → length after ≡ markBytes
-    filter-long h = so-far .long ∙ h
-
-    module _ (p : Place) (next : NextMark after i (slotsOf t) p) where
-      pub filter-rest : i ≤ slotsOf t → p ≡ Nowhere → Filtered test t before after
-      filter-rest h e = let f = filter-skip (slotsOf t) h (next .miss e) in record { long = f .long; each = λ k l. f .done k l }
-
-      module _ (k : ℕ) (e : p ≡ At k) where
-        pub filter-within : k < slotsOf t
-        filter-within = next .hit k e .within
-
-        skipped : FilteredTo test t before k after
-        skipped = let f = next .hit k e in filter-skip k (f .behind) (f .passed)
-
-        module _ (b : Bool) (here : b ≡ test (drop (slotBytes * k) t)) where
-          told : test (slotAt k t) ≡ b
-          told = near (drop (slotBytes * k) t) ∙ sym here
-
-          pub filter-next : (less : List ℕ) → Narrowed after less k b → FilteredTo test t before (k + 1) less
-          filter-next less narrowed = record {
-            long = narrowed .long ∙ so-far .long;
-            done = λ j h. go j h (ℕ-discrete j k);
-            rest = λ j h. narrowed .rest j (λ q. omega arith) ∙ skipped .rest j (omega arith);
-          }
-            where
-              go : (j : ℕ) → j < k + 1 → Dec (j ≡ k) → bitAt j less ≡ both (bitAt j before) (test (slotAt j t))
-              go j h (yes q) = rw q (narrowed .here ∙ rw (skipped .rest k (omega arith), told))
-              go j h (no d) = narrowed .rest j d ∙ skipped .done j (omega arith)
+-- a test that every slot passes changes nothing
+pub filter-all : (test : List ℕ → Bool) (t before : List ℕ) → ((r : List ℕ) → test r ≡ true) → Filtered test t before before
+filter-all test t before every = record { long = refl; each = λ k h. sym (both-all (bitAt k before) _ (every (slotAt k t))) }
 
 -- ---- marking slots of a range
 
@@ -140,15 +88,6 @@ chosen-filtered p q from count t m n room c f = record {
 -- another test that says the same
 pub chosen-same : (p q : List ℕ → Bool) (from count : ℕ) (t m : List ℕ) → ((r : List ℕ) → p r ≡ q r) → Chosen p from count t m → Chosen q from count t m
 chosen-same p q from count t m e c = record { long = c .long; inside = λ k a b. c .inside k a b ∙ e (slotAt k t); below = c .below; above = c .above }
-
--- two filters in a row are one by both tests
-pub filtered-both : (p q : List ℕ → Bool) (t a b c : List ℕ) → Filtered p t a b → Filtered q t b c → Filtered (λ r. both (p r) (q r)) t a c
-unfolding both
-filtered-both p q t a b c f g = record { long = g .long ∙ f .long; each = λ k h. g .each k h ∙ rw (f .each k h) (both-assoc (bitAt k a) (p (slotAt k t)) (q (slotAt k t))) }
-  where
-    both-assoc : (x y z : Bool) → both (both x y) z ≡ both x (both y z)
-    both-assoc true y z = refl
-    both-assoc false y z = refl
 
 pub filtered-same : (p q : List ℕ → Bool) (t a b : List ℕ) → ((r : List ℕ) → p r ≡ q r) → Filtered p t a b → Filtered q t a b
 filtered-same p q t a b e f = record { long = f .long; each = λ k h. f .each k h ∙ ap (both (bitAt k a)) (e (slotAt k t)) }

@@ -1,6 +1,5 @@
-// Marks: one bit for each slot of a table. They are looked through and listed, one is removed or added, and the marked slots are cleared and
-// counted.
-ghost use Prim.Native.Nat.{_-_, _*_, _/_, _%_, _^_, _<_, _≤_};
+// Marks: one bit for each slot of a table. They are looked through and listed, added, and the marked slots are cleared and counted.
+ghost use Prim.Native.Nat.{_/_, _^_, _<_, _≤_};
 ghost use mathlib.Core.Bool.{false};
 ghost use mathlib.Core.Path.{_≡_};
 ghost use lib.Count.{leadingZeros};
@@ -8,100 +7,61 @@ ghost use lib.ListN.{length};
 ghost use Rattle.numbers.specs.Tests.{pick};
 ghost use Rattle.numbers.specs.After.{onTable};
 ghost use Rattle.table.specs.Slots.{mostSlots, slotsOf};
-ghost use Rattle.flush_marks.specs.Marks.{markBytes, restOf, Unmarked, Passing, NextMark, Removed, Narrowed, Widened, NoMarks, Listing, clearedMarks};
-use table::MOST_SLOTS;
+ghost use Rattle.flush_marks.specs.Marks.{markBytes, RestOf, Unmarked, NextMark, Widened, NoMarks, Listing, clearedMarks};
 use table::Place;
 use table::SLOT_BYTES;
 
 // A bit for each slot.
 pub const MARK_BYTES: usize = 512;
 
-// A byte without the bits before bit f.
-fn rest_of(b: u8, f: usize) -> u8
-    requires { ⌜ f < 8 ⌝ }
-    ensures { λ r. ⌜ r ≡ restOf b f ⌝ }
+// The first bit of a word of 64 slots, and all its bits.
+const FIRST_BIT: u64 = 0x8000_0000_0000_0000;
+
+const ALL_BITS: u64 = 0xffff_ffff_ffff_ffff;
+
+// The marks of slot k and of those after it in its word of 64 slots, as the high bits of a number.
+fn rest_of(marks: &[u8], k: usize) -> u64
+    requires { ⌜ (length (now marks) ≡ markBytes) × (k < mostSlots) ⌝ }
+    ensures { λ w. ⌜ RestOf (now (marks .entry)) k w ⌝ }
 {
-    (numbers::wide(b) % (256u64 >> f)) as u8
+    numbers::be8(marks, k / 64 * 8) << (k % 64)
 }
 
-// How many bits of a byte stand before the first that is set.
-fn lead_of(b: u8) -> usize
-    ensures { λ r. ⌜ (r ≡ leadingZeros 8 b) × (r ≤ 8) ⌝ }
+// How many bits of a word stand before the first that is set.
+fn lead_of(w: u64) -> usize
+    ensures { λ r. ⌜ (r ≡ leadingZeros 64 w) × (r ≤ 64) ⌝ }
 {
-    u8::leading_zeros(b) as usize
+    u64::leading_zeros(w) as usize
 }
 
-// Passes over slots without a mark, from the first slot of a byte on, 64 at a time.
-fn pass_over(marks: &[u8], from: usize) -> usize
-    requires { ⌜ (length (now marks) ≡ markBytes) × ((from ≤ mostSlots) × (from % 8 ≡ 0)) ⌝ }
-    ensures { λ k. ⌜ Passing (now (marks .entry)) from k ⌝ }
-{
-    let mut k = from;
-    while k + 64 <= MOST_SLOTS {
-        if numbers::be8(marks, k / 8) != 0 {
-            return k;
-        }
-        k += 64;
-    }
-    k
-}
-
-// The next slot that is marked, from a slot on and before slot n. Marks that stand close are found bit by bit, which does not wait for
-// the byte to be computed; others byte by byte, and what is empty 64 slots at a time.
+// The next slot that is marked, from a slot on and before slot n, by words. Where marks stand close the slot itself is mostly the one, and
+// what follows does not wait for the count; where they do not, which slot is next takes no branch.
 pub fn next_marked(marks: &[u8], from: usize, n: usize) -> Place
     requires { ⌜ (length (now marks) ≡ markBytes) × (n ≤ mostSlots) ⌝ }
     ensures { λ p. ⌜ NextMark (now (marks .entry)) from n p ⌝ }
 {
     let mut k = from;
     while k < n {
-        if flush_bits::has(marks, k as u64) {
+        let w = rest_of(marks, k);
+        if FIRST_BIT <= w {
             return Place::At(k);
         }
-        let b = rest_of(marks[k / 8], k % 8);
-        if b != 0 {
-            let j = k / 8 * 8 + lead_of(b);
+        if w != 0 {
+            let j = k + lead_of(w);
             if n <= j {
                 return Place::Nowhere;
             }
             return Place::At(j);
         }
-        k = pass_over(marks, k / 8 * 8 + 8);
+        k = k / 64 * 64 + 64;
     }
     Place::Nowhere
 }
 
-// Every bit of a byte but bit k.
-fn others(k: usize) -> u8
-    requires { ⌜ k < 8 ⌝ }
-    ensures { λ r. ⌜ r ≡ 255 - 128 / 2 ^ k ⌝ }
+fn ones(w: u64) -> usize
+    ensures { λ r. ⌜ r ≤ 64 ⌝ }
 {
-    (255 - (128u64 >> k)) as u8
-}
-
-// Removes the mark of a slot.
-fn remove(marks: &mut [u8], k: usize)
-    requires { ⌜ (length (now marks) ≡ markBytes) × (k < mostSlots) ⌝ }
-    ensures { λ _. ⌜ Removed (now (marks .entry)) (now (marks .exit)) k ⌝ }
-{
-    let i = k / 8;
-    marks[i] = marks[i] & others(k % 8);
-}
-
-// Keeps the mark of a slot only where a test passed.
-pub fn keep_if(marks: &mut [u8], k: usize, pass: bool)
-    requires { ⌜ (length (now marks) ≡ markBytes) × (k < mostSlots) ⌝ }
-    ensures { λ _. ⌜ Narrowed (now (marks .entry)) (now (marks .exit)) k pass ⌝ }
-{
-    if pass {
-        return;
-    }
-    remove(marks, k);
-}
-
-fn ones(b: u8) -> usize
-    ensures { λ r. ⌜ r ≤ 8 ⌝ }
-{
-    u8::count_ones(b) as usize
+    u64::count_ones(w) as usize
 }
 
 // Whether a slot before slot n is marked.
@@ -122,9 +82,9 @@ pub fn weight(marks: &[u8]) -> usize
 {
     let mut sum = 0;
     let mut i = 0;
-    while i < marks.len() {
-        sum += ones(marks[i]);
-        i += 1;
+    while i + 8 <= marks.len() {
+        sum += ones(numbers::be8(marks, i));
+        i += 8;
     }
     sum
 }

@@ -9,7 +9,7 @@ use native.Mathlib.Decide.{decLt}
 use native.Mathlib.Omega.{arith}
 use lib.Dec.{leb, eqb}
 use lib.ListN.{length, take, drop, getD, length-drop}
-use lib.Seq.{length-take-le}
+use lib.Seq.{length-take-le, getD-drop}
 use borrow.Author.Tests.{le-leb, lt-leb, eq-eqb, ne-eqb, leb-false}
 use Rattle.numbers.specs.Tests.{pick, both, either, anyOf, between}
 use Rattle.numbers.specs.Result.{Result, refused, got, check}
@@ -20,7 +20,7 @@ use Rattle.flush.specs.Payload.{Types, everyType, vlanTypes, typesOf, Piece, tl
 use Rattle.flush.specs.declared.Model.{Model}
 use Rattle.flush.specs.declared.Model.the-variants.{Full, VlanOnly}
 use Rattle.flush_tlvs.proofs.Laws.{tlvs-done, tlv-cut, tlv-here, tlv-hit, tlv-next}
-use Rattle.flush_payload.specs.Judging.{everyKind, vlanKind, listKind, mapKind, macKind, ofKind, ruled, Noted, NotedMore, Nothing, JudgedTlvs, JudgedPayload}
+use Rattle.flush_payload.specs.Judging.{everyKind, vlanKind, listKind, mapKind, macKind, ofKind, ruled, EmptyPassed, Noted, NotedMore, Nothing, JudgedTlvs, JudgedPayload}
 use Rattle.flush_payload.specs.declared.Kinds.{Kinds}
 use Rattle.flush_payload.specs.declared.Judged.{Judged}
 use Rattle.flush_payload.specs.declared.Judged.the-variants.{Corrupt, Good}
@@ -287,6 +287,44 @@ module _ (types : Types) (l : List ℕ) where
             maps = left-rule mapKind _ _ (w .maps) (m .maps);
             macs = left-rule macKind _ _ (w .macs) (m .macs);
           }
+
+-- ---- empty TLVs of types without a rule
+
+module _ (l : List ℕ) (from : ℕ) where
+  pub pass-start : from ≤ length l → EmptyPassed l from from
+  pass-start h = record { order = omega arith; place = h; same = λ test none. refl }
+
+  module _ (at : ℕ) (p : EmptyPassed l from at) where
+    pub pass-next : 2 ≤ length l - at → getD l (at + 1) 0 ≡ 0 → leb 1 (getD l at 0) && leb (getD l at 0) 8 ≡ false → EmptyPassed l from (at + 2)
+    unfolding between both
+    pass-next more empty other =
+        let o = p .order in
+        let n : getD (drop at l) 1 0 ≡ 0 = getD-drop at l 1 0 ∙ empty in
+        let none : at + 2 - (at + 2) ≡ 0 = omega arith in
+        let unruled : between 1 8 (getD l at 0) ≡ false = sym (and-both (leb 1 (getD l at 0)) (leb (getD l at 0) 8)) ∙ other in
+        record {
+          order = omega arith;
+          place = omega arith;
+          same = λ test off.
+              p .same test off
+              ∙ tlv-next test l at _ refl (omega arith) (at + 2) (omega arith) (omega arith) false (sym (rw none (off (getD l at 0) unruled))) refl;
+        }
+
+    pub walk-passed : (types : Types) (f : Kinds) → Walked types l from f → Walked types l at f
+    unfolding corrupt ofKind
+    walk-passed types f w = record {
+      place = p .place;
+      whole = w .whole ∙ p .same (corrupt types) (λ k none. both-right (types k) _ (ap not (no-rule k none 0)));
+      blocks = w .blocks;
+      every = left everyKind no-every _ (w .every);
+      vlans = left vlanKind no-vlan _ (w .vlans);
+      lists = left listKind no-list _ (w .lists);
+      maps = left mapKind no-map _ (w .maps);
+      macs = left macKind no-mac _ (w .macs);
+    }
+      where
+        left : (kind : ℕ → Bool) → ((k : ℕ) → between 1 8 k ≡ false → kind k ≡ false) → (b : Bool) → Left types l from kind b → Left types l at kind b
+        left kind off b s = s ∙ ap (either b) (p .same (ofKind types kind) (λ k none. both-right (types k) _ (off k none)))
 
 -- ---- the whole payload
 

@@ -1,11 +1,11 @@
 -- What judging a payload finds: whether it is corrupt, and else which kinds of TLVs it has.
 -- Assumes nothing.
-use Prim.Native.Nat.{ℕ}
+use Prim.Native.Nat.{ℕ, _≤_}
 use mathlib.Core.Bool.{Bool, true, false}
-use mathlib.Core.List.{List}
+use mathlib.Core.List.{List, []}
 use mathlib.Core.Path.{_≡_}
 use lib.Dec.{eqb}
-use lib.ListN.{drop}
+use lib.ListN.{length, drop}
 use Rattle.numbers.specs.Tests.{both, either, anyOf, between}
 use Rattle.numbers.specs.Result.{refused, got}
 use Rattle.numbers.specs.Refusals.{payload-corrupt}
@@ -45,6 +45,13 @@ ofKind types kind stump = false
 -- the type is implemented, and has a row in document 01's table; other types are skipped by length
 unfoldable pub ruled : Types → ℕ → Bool
 ruled types k = both (types k) (between 1 8 k)
+
+-- from offset `from` to offset `at` there are only empty TLVs of types without a rule: a test that none of these passes finds the same
+-- from both
+pub record EmptyPassed (l : List ℕ) (from at : ℕ) : Type 0 where
+  pub order : from ≤ at
+  pub place : at ≤ length l
+  pub same : (test : Piece → Bool) → ((k : ℕ) → between 1 8 k ≡ false → test (tlv k []) ≡ false) → anyOf test (tlvs (drop from l)) ≡ anyOf test (tlvs (drop at l))
 
 -- ---- what judging finds
 

@@ -6,7 +6,7 @@ ghost use Rattle.numbers.specs.Tests.{anyOf};
 ghost use Rattle.table.specs.Record.{labelFrom};
 ghost use Rattle.flush.specs.Payload.{everyType, typesOf, tlvs, lengthGood, nickBytes, blockCount, blockBytes, piecesOf};
 ghost use Rattle.flush.specs.Meaning.{gathersMac, nicknameMeant, labelMeant, macMeant};
-ghost use Rattle.flush_payload.specs.Judging.{ruled, NotedMore, Nothing, JudgedTlvs, JudgedPayload};
+ghost use Rattle.flush_payload.specs.Judging.{ruled, EmptyPassed, NotedMore, Nothing, JudgedTlvs, JudgedPayload};
 use flush::Model;
 
 // The last type that document 01's table has.
@@ -100,6 +100,26 @@ fn blocks_alone(blocks: usize) -> Kinds
     }
 }
 
+// Passes over empty TLVs of types that have no length rule, from an offset on. The next of them lies two bytes on whatever its length byte
+// says, so that the loop does not wait for it.
+fn pass_empty(l: &[u8], from: usize) -> usize
+    requires { ⌜ from ≤ length (now l) ⌝ }
+    ensures { λ at. ⌜ EmptyPassed (now (l .entry)) from at ⌝ }
+{
+    let mut at = from;
+    while 2 <= l.len() - at {
+        if l[at + 1] != 0 {
+            return at;
+        }
+        let k = l[at];
+        if (1 <= k) & (k <= LAST_TYPE) {
+            return at;
+        }
+        at += 2;
+    }
+    at
+}
+
 // Judges TLVs to their end. Bytes that make no TLV are corrupt, and so is a broken length rule of a type that is implemented.
 fn judge_tlvs(model: Model, l: &[u8]) -> Judged
     ensures { λ r. ⌜ JudgedTlvs (typesOf model) (tlvs (now (l .entry))) r ⌝ }
@@ -119,7 +139,7 @@ fn judge_tlvs(model: Model, l: &[u8]) -> Judged
             f = note(f, k);
             at = e;
         } else {
-            at = e;
+            at = pass_empty(l, e);
         }
     }
     Judged::Good(f)

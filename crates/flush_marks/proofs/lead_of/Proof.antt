@@ -8,10 +8,10 @@ use Rattle.flush_marks.proofs.lead_of.Statement.{statement}
 use Rattle.flush_marks.proofs.lead_of.Tie as tie
 
 cast-result : tie.Need-cast-result
-cast-result c = let h = leading-le 8 (c .args .b) in omega arith
+cast-result c = let h = leading-le 64 (c .args .w) in omega arith
 
 returns : tie.Need-returns
-returns c = (refl, leading-le 8 (c .args .b))
+returns c = (refl, leading-le 64 (c .args .w))
 
 pub lead-of-spec : {M : Type 1} → statement M
 lead-of-spec = tie.close (tie.spec cast-result returns)

@@ -1,9 +1,8 @@
 -- `flush_marks::next_marked` meets its contract. The invariant: no slot from `from` on and before `k` is marked.
 -- Assumes nothing.
-use Prim.Native.Nat.{_-_, _/_, _≤_}
-use native.Mathlib.Omega.{arith}
+use Prim.Native.Nat.{_-_, _≤_}
 use Rattle.flush_marks.specs.Marks.{Unmarked}
-use Rattle.flush_marks.proofs.Walks.{unmarked-none, next-found, tail-none, tail-past, tail-hit, pass-on, next-nowhere}
+use Rattle.flush_marks.proofs.Walks.{unmarked-none, tail-here, tail-none, tail-past, tail-hit, next-nowhere}
 use borrow.Author.Needs.{needs}
 use Rattle.flush_marks.proofs.next_marked.Statement.{statement}
 use Rattle.flush_marks.proofs.next_marked.Tie as tie
@@ -18,16 +17,16 @@ loop-holds : tie.Need-loop-holds Inv-loop μ-loop
 loop-holds c = (search needs, search unmarked-none)
 
 returns : tie.Need-returns Inv-loop μ-loop
-returns c = search next-found
+returns c = search tail-here
 
 returns-2 : tie.Need-returns-2 Inv-loop μ-loop
-returns-2 c = tail-past _ _ _ (c .before .before .before .before .before .before .before .before .loop .inv .1) (c .before .before .before .before .before .before .before .before .loop .inv .0) (c .before .before .before .before .shared-slice-known2 .given (c .before .before .before .before .before .before .before .before .loop .k / 8) .fits) _ (c .before .before .before .rest-of .ensures) (c .before .before .if2 .taken) _ (c .before .lead-of .ensures .0) _ (c .if3 .taken)
+returns-2 c = search tail-past
 
 returns-3 : tie.Need-returns-3 Inv-loop μ-loop
-returns-3 c = tail-hit _ _ _ (c .before .before .before .before .before .before .before .before .loop .inv .1) (c .before .before .before .before .before .before .before .before .loop .inv .0) (c .before .before .before .before .shared-slice-known2 .given (c .before .before .before .before .before .before .before .before .loop .k / 8) .fits) _ (c .before .before .before .rest-of .ensures) (c .before .before .if2 .taken) _ (c .before .lead-of .ensures .0) _ (c .if3 .left)
+returns-3 c = search tail-hit
 
 loop-again : tie.Need-loop-again Inv-loop μ-loop
-loop-again c = (search needs, pass-on _ _ _ _ (tail-none _ _ _ (c .before .before .before .before .before .before .before .loop .inv .1) (c .before .before .before .before .before .before .before .loop .inv .0) (c .before .before .before .shared-slice-known2 .given (c .before .before .before .before .before .before .before .loop .k / 8) .fits) _ (c .before .before .rest-of .ensures) (c .before .if2 .left)) (c .pass-over .ensures))
+loop-again c = (search needs, search tail-none)
 
 returns-4 : tie.Need-returns-4 Inv-loop μ-loop
 returns-4 c = search next-nowhere
@@ -41,16 +40,12 @@ next-marked-spec =
     loop-holds
     (λ c κs. search needs)
     returns
-    (λ c. search needs)
-    (λ c κs. search needs)
-    (λ c. search needs)
     (λ c κs. search needs)
     (λ c. search needs)
     returns-2
     returns-3
     (λ c. search needs)
     (λ c. search needs)
-    (λ c κs. search needs)
     (λ c. search needs)
     loop-again
     returns-4)

@@ -1,22 +1,15 @@
--- `flush_marks::rest_of` meets its contract: a shift is a division.
+-- `flush_marks::rest_of` meets its contract: the shift drops the marks before slot k.
 -- Assumes nothing.
-use Prim.Native.Nat.{ℕ, _/_, _%_, _^_}
-use mathlib.Core.Path.{ap}
-use native.Mathlib.Nat.{mod-le}
-use native.Mathlib.Omega.{arith}
-use Rattle.flush_marks.proofs.Walks.{rest-divisor}
+use Rattle.numbers.specs.Bytes.{AreBytes}
+use Rattle.flush_marks.proofs.Words.{rest-is}
 use borrow.Author.Needs.{needs}
 use Rattle.flush_marks.proofs.rest_of.Statement.{statement}
 use Rattle.flush_marks.proofs.rest_of.Tie as tie
 
-rem-result : tie.Need-rem-result
-rem-result c = rest-divisor (c .before .args .f) (c .before .pre)
-
-cast-result : tie.Need-cast-result
-cast-result c = let h = mod-le (c .wide .result) (256 / 2 ^ c .before .args .f) in omega arith
-
 returns : tie.Need-returns
-returns c = ap (λ (x : ℕ). x % (256 / 2 ^ c .before .args .f)) (c .wide .ensures .0)
+returns c =
+    let known : AreBytes (c .before .before .args .marks .now) = λ i. c .before .shared-slice-known .given i .fits in
+    search rest-is
 
 pub rest-of-spec : {M : Type 1} → statement M
-rest-of-spec = tie.close (tie.spec (λ c κs. search needs) (λ c. search needs) rem-result cast-result returns)
+rest-of-spec = tie.close (tie.spec (λ c. search needs) (λ c κs. search needs) (λ c. search needs) returns)

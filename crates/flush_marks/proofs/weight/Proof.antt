@@ -1,4 +1,4 @@
--- `flush_marks::weight` meets its contract: a byte has at most eight bits.
+-- `flush_marks::weight` meets its contract: a word has at most 64 bits.
 -- Assumes nothing.
 use Prim.Native.Nat.{_-_, _*_, _≤_}
 use lib.ListN.{length}
@@ -20,6 +20,7 @@ weight-spec =
     μ-loop
     (λ c. search needs)
     (λ c. search needs)
+    (λ c κs. search needs)
     (λ c κs. search needs)
     (λ c. search needs)
     (λ c. search needs)

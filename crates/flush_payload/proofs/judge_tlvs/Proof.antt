@@ -5,7 +5,7 @@ use Prim.Native.Nat.{_-_}
 use lib.ListN.{length}
 use borrow.Author.Tests.{not-true, not-false}
 use Rattle.flush.specs.Payload.{typesOf}
-use Rattle.flush_payload.proofs.Judging.{Walked, walk-start, walk-done, walk-cut, walk-skip, walk-bad, walk-next}
+use Rattle.flush_payload.proofs.Judging.{Walked, walk-start, walk-done, walk-cut, walk-skip, walk-bad, walk-next, walk-passed}
 use borrow.Author.Needs.{needs}
 use Rattle.flush_payload.proofs.judge_tlvs.Statement.{statement}
 use Rattle.flush_payload.proofs.judge_tlvs.Tie as tie
@@ -29,7 +29,7 @@ loop-again : tie.Need-loop-again Inv-loop μ-loop
 loop-again c = search (walk-next, not-false)
 
 loop-again-2 : tie.Need-loop-again-2 Inv-loop μ-loop
-loop-again-2 c = search walk-skip
+loop-again-2 c = search (walk-passed, walk-skip)
 
 returns-3 : tie.Need-returns-3 Inv-loop μ-loop
 returns-3 c = search walk-done
@@ -53,6 +53,7 @@ judge-tlvs-spec =
     (λ c κs. search needs)
     (λ c. search needs)
     loop-again
+    (λ c κs. search needs)
     (λ c. search needs)
     loop-again-2
     returns-3)
