@@ -196,6 +196,45 @@ fn every_vlan_is_cleared_or_stays_as_the_paper_says() {
     );
 }
 
+/// The column "Length rule" of document 01.
+fn length_good(kind: u8, length: u8) -> bool {
+    match kind {
+        1 => length % 4 == 0,
+        2 => length >= 2,
+        3 | 7 => length % 6 == 0,
+        4 => length % 3 == 0,
+        5 => length >= 3,
+        6 => length == 0,
+        8 => length % 12 == 0,
+        _ => true,
+    }
+}
+
+/// One TLV of every type and length, its value whole: only the length rule can refuse it.
+#[test]
+fn every_length_of_every_type_is_judged_as_the_paper_says() {
+    let mut random = run::random("every_length_of_every_type_is_judged_as_the_paper_says");
+    let table = Raw {
+        state: 1,
+        kind: 0,
+        label: 10,
+        mac: 0,
+        nickname: 1,
+        confidence: 0,
+        seconds: 0,
+    }
+    .bytes();
+    for kind in 0..=u8::MAX {
+        for length in 0..=u8::MAX {
+            let value = vec![0; usize::from(length)];
+            let payload = [&[0, 0, kind, length], &value[..]].concat();
+            let word = compare::flush(&mut random, 1, &payload, &mut table.clone());
+            let good = length_good(kind, length);
+            assert_eq!(word != 15, good, "type {kind}, length {length}");
+        }
+    }
+}
+
 /// A payload of one map or block at the ends of the numberings, over a table of all labels there.
 #[test]
 fn maps_and_blocks_at_the_ends_of_the_numberings_mean_what_the_paper_says() {

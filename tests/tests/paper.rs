@@ -153,6 +153,8 @@ fn p6_a_map_does_not_wrap() {
 fn p7_and_p8_a_broken_length_rule_is_15() {
     assert_eq!(flush_of_p1(0x1234, "00 00 01 03 00 0A 00"), 15);
     assert_eq!(flush_of_p1(0x1234, "00 00 06 01"), 15);
+    // P8 ends before its value; here the value is there, and its length alone is wrong.
+    assert_eq!(flush_of_p1(0x1234, "00 00 06 01 00"), 15);
 }
 
 #[test]
