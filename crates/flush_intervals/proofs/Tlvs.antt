@@ -15,7 +15,7 @@ use Rattle.numbers.specs.Tests.{pick, either, anyOf}
 use Rattle.numbers.specs.Numberings.{inBlocks, inList, bitAt}
 use Rattle.numbers.proofs.Truth.{both-true}
 use Rattle.flush.specs.Payload.{tlv, tlvEnd, tlvs}
-use Rattle.flush.proofs.Validity.{tlvs-end, tlvs-stump, tlvs-more}
+use Rattle.flush.proofs.Validity.{tlvs-end, tlvs-rest, tlvs-more}
 use Rattle.flush_sort.specs.Sorting.{All, SortOf}
 use Rattle.flush_sort.proofs.Laws.{either-none, either-assoc}
 use Rattle.flush_sort.proofs.Parts.{back-front, back-whole}
@@ -100,7 +100,7 @@ module _ (d : Naming) (wanted l keys₀ : List ℕ) where
       walk-cut h m q =
           let z : length (drop at l) ≡ length l - at = length-drop at l in
           let same : n ≡ m = cc in
-          rw (← same) (record { within = g .within; means = λ x want. g .means x want ∙ rw (tlvs-stump (drop at l) (omega arith) (omega arith)) (either-none (covered past x (take n keys))) })
+          rw (← same) (record { within = g .within; means = λ x want. g .means x want ∙ rw (tlvs-rest (λ p. namedIn d p x) refl (drop at l) (omega arith)) (either-none (covered past x (take n keys))) })
 
       pub walk-next : e ≤ length l → (u q : List ℕ) (r : Room) → ((m : ℕ) → r ≡ Held m → Extended wanted (namedIn d (tlv (getD l at 0) (take (e - (at + 2)) (drop (at + 2) l)))) keys past n u q m)
           → (m : ℕ) → r ≡ Held m → Walking d wanted l keys₀ u q m e

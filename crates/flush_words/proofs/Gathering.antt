@@ -21,7 +21,7 @@ use Rattle.numbers.proofs.Truth.{both-true, both-left, both-right, between-in, 
 use Rattle.numbers.proofs.Widths.{bit-past}
 use Rattle.flush.specs.Payload.{tlv, tlvEnd, tlvs}
 use Rattle.flush.proofs.Lists.{false-true}
-use Rattle.flush.proofs.Validity.{tlvs-end, tlvs-stump, tlvs-more}
+use Rattle.flush.proofs.Validity.{tlvs-end, tlvs-rest, tlvs-more}
 use Rattle.flush_sort.proofs.Laws.{any-append, either-none, either-assoc}
 use Rattle.flush_buckets.specs.Buckets.{bucketOf, Keeps, HasBits}
 use Rattle.flush_intervals.specs.declared.Room.{Room}
@@ -252,7 +252,7 @@ module _ (wanted l keys₀ : List ℕ) where
       walk-cut h m q =
           let d : length (drop at l) ≡ length l - at = length-drop at l in
           let same : n ≡ m = cc in
-          rw (← same) (record { within = g .within; means = λ x want. g .means x want ∙ rw (tlvs-stump (drop at l) (omega arith) (omega arith)) (either-none (marked x (take n keys))) })
+          rw (← same) (record { within = g .within; means = λ x want. g .means x want ∙ rw (tlvs-rest (λ p. mapIn p x) refl (drop at l) (omega arith)) (either-none (marked x (take n keys))) })
 
       pub walk-next : e ≤ length l → (u : List ℕ) (r : Room) → ((m : ℕ) → r ≡ Held m → Added wanted (mapIn (tlv (getD l at 0) (take (e - (at + 2)) (drop (at + 2) l)))) keys n u m) → (m : ℕ) → r ≡ Held m → Walking wanted l keys₀ u m e
       unfolding mapsOf anyOf
