@@ -281,6 +281,27 @@ fn the_worked_example_prints_the_stored_lines() {
     expect_text(&printed, "refusals.expected");
 }
 
+/// The customer's flush of document 02, 2026-02.
+#[test]
+fn a_padded_flush_is_carried_out_in_both_formats() {
+    let folder = folder("padded");
+    let capture = data("padded.pcap");
+    let printed = good(&run_in(
+        &folder,
+        &receive_words(capture.to_str().expect("UTF-8")),
+    ));
+    expect_text(&printed, "padded.expected");
+    assert_eq!(
+        printed.matches("| flushed, 1 cleared;").count(),
+        3,
+        "{printed}"
+    );
+    assert!(
+        printed.contains("a lone last byte that is not 0"),
+        "{printed}"
+    );
+}
+
 #[test]
 fn the_refusals_of_a_frame_are_all_in_the_stored_lines() {
     let stored = text(&bytes(&data("refusals.expected")));
@@ -782,7 +803,12 @@ fn a_flush_is_told_in_words() {
         (vec![2, 0x12, 0x34, 0x12], "byte 1 of the payload: K-nicks 2 means 4 bytes of nicknames: 3 are left".into()),
         (vec![1, 0x12, 0x34], "byte 3 of the payload: K-VLBs is missing".into()),
         (vec![0, 2, 0, 1, 0, 2, 0], "byte 2 of the payload: K-VLBs 2 means 8 bytes of VLAN blocks: 5 are left".into()),
-        (tlvs(&[tlv(6, &[]), vec![7]]), "byte 4 of the payload: a lone last byte, where a TLV has type and length".into()),
+        (
+            tlvs(&[tlv(6, &[]), vec![7]]),
+            "byte 4 of the payload: a lone last byte that is not 0, where a TLV has type and length".into(),
+        ),
+        (tlvs(&[vec![0]]), format!("{sender}none; MACs: all")),
+        (tlvs(&[tlv(6, &[]), vec![0]]), format!("{sender}all; MACs: all")),
         (tlvs(&[vec![9, 1]]), "byte 2 of the payload: a TLV of type 9 and length 1 passes the end: 0 bytes are left".into()),
         (tlvs(&[tlv(1, &[0; 3])]), "byte 2 of the payload: a TLV of type 1 has length 3, no multiple of 4".into()),
         (tlvs(&[tlv(2, &[0])]), "byte 2 of the payload: a TLV of type 2 has length 1, under 2".into()),
