@@ -18,7 +18,7 @@ const SETTINGS: Settings = Settings {
     nickname: 0x0102,
     compact: 1,
     confidence: 20,
-    seconds: 0,
+    seconds: 300,
 };
 
 const OFF: Settings = Settings {

@@ -14,9 +14,10 @@ ghost use Rattle.promises.specs.Cases.{Cases};
 ghost use Rattle.promises.specs.Claims.{RefusalChangesNothing, PairsStayUnique, SpoiltStays, ConfiguredStays};
 ghost use Rattle.promises.specs.Example.{InterchangeExample};
 ghost use Rattle.promises.specs.Interchange.{Interchange};
+ghost use Rattle.promises.specs.Lives.{LifeAsBefore, OtherLivesStay};
 
 pub fn claims()
-    ensures demands { λ _. ⌜ Interchange × InterchangeExample × ExpandCompacted × CompactExpanded × RefusalChangesNothing × Validity × FlushExact × ReadFlushExact × PaddedFlush × PaddedRead × ReadsExactly × PairsStayUnique × SpoiltStays × ConfiguredStays × SendsExactly × ChosenSent × Cases ⌝ }
+    ensures demands { λ _. ⌜ Interchange × InterchangeExample × ExpandCompacted × CompactExpanded × RefusalChangesNothing × Validity × FlushExact × ReadFlushExact × PaddedFlush × PaddedRead × ReadsExactly × PairsStayUnique × SpoiltStays × ConfiguredStays × SendsExactly × ChosenSent × LifeAsBefore × OtherLivesStay × Cases ⌝ }
     ensures calls { λ _. ⌜ ReadRefusal × FlushRefusal × AgeingRefusal × ConvertRefusals × ReadingKeepsUnique × FlushingKeepsUnique × AgeingKeepsUnique × LearningKeepsUnique × ReadingLeavesAlone × FlushingLeavesAlone × AgeingLeavesAlone × LearningLeavesAlone ⌝ }
     ensures laws { λ _. ⌜ Blocks × Maps × UnpackPacked × PackUnpacked × KeptWritesNothing × HeaderLocal × LabelLocal × LabelsGood × ReadsSame × ReadsParsed ⌝ }
 {}

@@ -22,6 +22,7 @@ use Rattle.promises.specs.Claims.{RefusalChangesNothing, PairsStayUnique
 use Rattle.promises.proofs.Cases.{cases-hold}
 use Rattle.promises.proofs.Example.{example-holds}
 use Rattle.promises.proofs.Interchange.{interchange}
+use Rattle.promises.proofs.Lives.{life-as-before, other-lives-stay}
 use Rattle.promises.proofs.claims.Statement.{statement}
 use Rattle.promises.proofs.claims.Tie as tie
 
@@ -47,7 +48,7 @@ stays-configured = record {
 
 returns : tie.Need-returns
 returns c = (
-  (interchange, example-holds, expand-compacted, compact-expanded, refusals, validity, flush-exact, read-flush-exact, padded-flush, padded-read, reads-exactly, pairs, stays-spoilt, stays-configured, sends-exactly, chosen-sent, cases-hold),
+  (interchange, example-holds, expand-compacted, compact-expanded, refusals, validity, flush-exact, read-flush-exact, padded-flush, padded-read, reads-exactly, pairs, stays-spoilt, stays-configured, sends-exactly, chosen-sent, life-as-before, other-lives-stay, cases-hold),
   (
     (read-refusal, flush-refusal, ageing-refusal, convert-refusals, reading-unique, flushing-keeps-unique, ageing-unique, learning-unique, reading-leaves-alone, flushing-leaves-alone, ageing-leaves-alone, learning-leaves-alone),
     (blocks-hold, maps-hold, unpack-packed, pack-unpacked, kept-writes-nothing, header-local, label-local, labels-good, reads-same, reads-parsed),
