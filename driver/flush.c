@@ -50,10 +50,16 @@ __attribute__((format(printf, 3, 4))) static int broken(struct flush_fault *faul
     return 0;
 }
 
+/* TLVs end where nothing is left but a lone zero, which is padding. */
+static int tlvs_are_done(const uint8_t *payload, size_t length, size_t at)
+{
+    return at >= length || (length - at == 1 && payload[at] == 0);
+}
+
 static int tlv_is_good(const uint8_t *payload, size_t length, size_t at, struct flush_fault *fault)
 {
     if (length - at < 2)
-        return broken(fault, at, "a lone last byte, where a TLV has type and length");
+        return broken(fault, at, "a lone last byte that is not 0, where a TLV has type and length");
     unsigned type = payload[at], has = payload[at + 1];
     size_t left = length - at - 2;
     if (has > left)
@@ -84,7 +90,7 @@ int flush_is_good(const uint8_t *payload, size_t length, struct flush_fault *fau
         return broken(fault, at, "K-VLBs %zu means %zu bytes of VLAN blocks: %zu are left", blocks, 4 * blocks, length - at);
     if (blocks > 0)
         return 1;
-    for (; at < length; at += 2 + (size_t)payload[at + 1])
+    for (; !tlvs_are_done(payload, length, at); at += 2 + (size_t)payload[at + 1])
         if (!tlv_is_good(payload, length, at, fault))
             return 0;
     return 1;
@@ -190,7 +196,7 @@ static void tlv_macs(struct list *list, const struct tlv *tlv)
 /* Takes the TLV at `tlv->at`, which goes on to the next: 1, or 0 at the end of a good payload. */
 static int tlv_next(const uint8_t *payload, size_t length, struct tlv *tlv)
 {
-    if (tlv->at >= length)
+    if (tlvs_are_done(payload, length, tlv->at))
         return 0;
     tlv->type = payload[tlv->at];
     tlv->length = payload[tlv->at + 1];

@@ -55,7 +55,7 @@ static const struct option OPTIONS[] = {
      AT(settings.compact), 0, 0},
     {"--confidence", "N", "learning confidence, 0 to 255 (32)", NUMBER, WITH_SETTINGS, 0, AT(settings.confidence), 0,
      255},
-    {"--seconds", "N", "learning seconds, 10 to 8191, or 0 for the default 300 (0)", NUMBER, WITH_SETTINGS, 0,
+    {"--seconds", "N", "learning seconds, 10 to 8191, or 0 for the default 1200 (0)", NUMBER, WITH_SETTINGS, 0,
      AT(settings.seconds), 0, 8191},
     {"--source", "ADDRESS", "the outer source, an individual address", ADDRESS, EXPAND, EXPAND, AT(source), 0, 0},
     {"--tag", "N", "writes an outer tag with this VLAN, 1 to 4094", NUMBER, EXPAND, 0, AT(tag), 1, 4094},

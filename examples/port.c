@@ -11,7 +11,7 @@
 
 #include "shinglebar.h"
 
-/* Port address, own inner address, own nickname, Compact on, confidence, seconds (0: the default 300). */
+/* Port address, own inner address, own nickname, Compact on, confidence, seconds (0: the default 1200). */
 #define SETTINGS 0x0200000000A1, 0x0200000000B1, 0x0102, 1, 32, 0
 #define SLOTS 1024
 

@@ -203,7 +203,7 @@ extern "C" {
  *   nickname    the own nickname, 0001 to FFBF
  *   compact     1 Compact on, 0 off
  *   confidence  learning confidence, 0 to 255
- *   seconds     learning seconds, 10 to 8191, or 0 for the default 300
+ *   seconds     learning seconds, 10 to 8191, or 0 for the default 1200
  */
 
 /* The nickname in the lowest slot with the label and address, or none. `kind` 0 is VLAN, 1 is
@@ -220,7 +220,7 @@ uint64_t shinglebar_spoilt(const uint8_t *table, size_t table_len);
 #ifndef SHINGLEBAR_TABLE_ONLY
 
 /* Carries out the payload of an Address Flush. `ingress` is any number; one outside 0001 to FFBF
- * matches no record. */
+ * matches no record. Zero bytes after a good payload, with which links pad frames, mean nothing. */
 uint64_t shinglebar_flush(uint32_t ingress, const uint8_t *payload, size_t payload_len,
                           uint8_t *table, size_t table_len);
 

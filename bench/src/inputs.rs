@@ -129,7 +129,7 @@ pub const SETTINGS: Settings = Settings {
 };
 
 /// The seconds that are learned where the setting is 0.
-pub const DEFAULT_SECONDS: u16 = 300;
+pub const DEFAULT_SECONDS: u16 = 1200;
 
 #[derive(Clone, Copy)]
 pub enum Format {

@@ -111,9 +111,9 @@ fn main() {
     port.look_up();
 
     port.receive("The General frame comes in again", &GENERAL);
-    let aged = shinglebar::age(300, &mut port.table);
+    let aged = shinglebar::age(1200, &mut port.table);
     assert_eq!(aged, Ok(Aged));
-    port.show("300 seconds pass", "done");
+    port.show("1,200 seconds pass", "done");
 
     let mut work = [0; 64];
     for (far, name) in [(true, "on"), (false, "off")] {

@@ -95,7 +95,7 @@ pub struct Settings {
     pub compact: bool,
     /// The confidence with which addresses are learned.
     pub confidence: u8,
-    /// The seconds for which addresses are learned, 10 to 8191, or 0 for the default 300.
+    /// The seconds for which addresses are learned, 10 to 8191, or 0 for the default 1200.
     pub seconds: u16,
 }
 

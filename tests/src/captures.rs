@@ -298,12 +298,12 @@ fn refusals() -> Vec<Vec<u8>> {
             frame.content[5] = 1;
         }),
         with(|frame| frame.content = flush(&OWN_VLAN_10)),
-        // 15: nothing, a cut block, P7 and P8 of document 01, a lone last byte
+        // 15: nothing, a cut block, P7 and P8 of document 01, a lone last byte that is not 0
         ask(|frame| frame.content = flush(&[])),
         ask(|frame| frame.content = flush(&OWN_VLAN_10[..5])),
         ask(|frame| frame.content = flush(&[0x00, 0x00, 0x01, 0x03, 0x00, 0x0A, 0x00])),
         ask(|frame| frame.content = flush(&[0x00, 0x00, 0x06, 0x01])),
-        ask(|frame| frame.content = flush(&[0x00, 0x00, 0x06, 0x00, 0x00])),
+        ask(|frame| frame.content = flush(&[0x00, 0x00, 0x06, 0x00, 0x07])),
     ]
 }
 
@@ -375,11 +375,57 @@ fn lab_flush(length: usize) -> Vec<Vec<u8>> {
     vec![frame.bytes()]
 }
 
+/// No nickname, so the sender's; one fine-grained label, 70,000.
+const OWN_FGL_70000: [u8; 7] = [0x00, 0x00, 0x04, 0x03, 0x01, 0x11, 0x70];
+
+/// Frames as a link pads them, to 60 bytes.
+fn pad(frame: &Frame) -> Vec<u8> {
+    let mut bytes = frame.bytes();
+    bytes.resize(bytes.len().max(60), 0);
+    bytes
+}
+
+/// The customer's flush of document 02, 2026-02: a VLAN label, one label of type 4, 49 bytes, and padded to 60. As it is, padded and
+/// compacted, each after a frame from which the label is learned; then one whose lone last byte is not 0.
+pub fn padded() -> Vec<Vec<u8>> {
+    let learned = || {
+        Frame {
+            label: fgl(70_000),
+            ..general(&PORT, 0x1234, station(8))
+        }
+        .bytes()
+    };
+    let gone = Frame {
+        inner_destination: PORT.inner,
+        label: vlan(1),
+        content: flush(&OWN_FGL_70000),
+        ..general(&PORT, 0x1234, RIGHT.inner)
+    };
+    let compact = Frame {
+        compact: true,
+        ..gone.clone()
+    };
+    let mut other = pad(&gone);
+    other[59] = 1;
+    assert_eq!(gone.bytes().len(), 49);
+    vec![
+        learned(),
+        gone.bytes(),
+        learned(),
+        pad(&gone),
+        learned(),
+        pad(&compact),
+        learned(),
+        other,
+    ]
+}
+
 /// The frames of each capture, by the capture's name.
 pub fn all() -> Vec<(&'static str, Vec<Vec<u8>>)> {
     vec![
         ("hall", hall()),
         ("refusals", refusals()),
+        ("padded", padded()),
         ("to_compact", to_compact()),
         ("lab_to_left", lab(&PORT, RIGHT.nickname, 0x10)),
         ("lab_to_right", lab(&RIGHT, PORT.nickname, 0x20)),

@@ -840,6 +840,8 @@ pub fn payload(random: &mut Random, pool: &Pool) -> Vec<u8> {
         2 => append_any_tlv(random, &mut payload),
         // A lone last byte.
         3 => payload.push(random.below(10) as u8),
+        // Padding.
+        4..=5 => payload.resize(payload.len() + random.length(0, 20), 0),
         _ => {}
     }
     payload
@@ -1053,6 +1055,24 @@ pub fn good_frame(random: &mut Random, pool: &Pool, settings: &Settings) -> Fram
         frame.set_length(random, length);
     }
     frame
+}
+
+/// A flush frame that a port with Compact on carries out if its payload is good, in the format said.
+pub fn flush_frame(random: &mut Random, pool: &Pool, settings: &Settings, compact: bool) -> Frame {
+    let payload = payload(random, pool);
+    let frame = good_frame(random, pool, settings);
+    let content = channel_content(random, 0x009, &payload);
+    let own = settings.nickname as u16;
+    let good = |nickname: &u16| (0x0001..=0xFFBF).contains(nickname) && *nickname != own;
+    let others = [frame.ingress, 0x0001, 0x1234];
+    Frame {
+        compact,
+        egress: own,
+        ingress: others.into_iter().find(good).expect("two of them differ"),
+        inner_destination: settings.inner & MASK_48,
+        content,
+        ..frame
+    }
 }
 
 /// The faults that `add_fault` knows.

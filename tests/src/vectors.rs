@@ -3,6 +3,7 @@
 
 use std::collections::BTreeMap;
 
+use crate::captures;
 use crate::generate::{self, Pool};
 use crate::random::Random;
 use crate::reference::{self, Settings, RECORD};
@@ -337,6 +338,22 @@ pub fn files() -> (String, String) {
         vectors: 0,
         answers: BTreeMap::new(),
     };
+    // The customer's padded flush and its frames (2026-02), on a table of three free slots.
+    for (place, frame) in captures::padded().into_iter().enumerate() {
+        let table = if place == 0 {
+            vec![0; 3 * RECORD]
+        } else {
+            replay.table.clone()
+        };
+        replay.offer(
+            table,
+            &Call::Receive {
+                settings: captures::PORT,
+                room: 64,
+                frame,
+            },
+        );
+    }
     let mut case = 0;
     while !replay.is_whole() {
         assert!(

@@ -281,6 +281,27 @@ fn the_worked_example_prints_the_stored_lines() {
     expect_text(&printed, "refusals.expected");
 }
 
+/// The customer's flush of document 02, 2026-02.
+#[test]
+fn a_padded_flush_is_carried_out_in_both_formats() {
+    let folder = folder("padded");
+    let capture = data("padded.pcap");
+    let printed = good(&run_in(
+        &folder,
+        &receive_words(capture.to_str().expect("UTF-8")),
+    ));
+    expect_text(&printed, "padded.expected");
+    assert_eq!(
+        printed.matches("| flushed, 1 cleared;").count(),
+        3,
+        "{printed}"
+    );
+    assert!(
+        printed.contains("a lone last byte that is not 0"),
+        "{printed}"
+    );
+}
+
 #[test]
 fn the_refusals_of_a_frame_are_all_in_the_stored_lines() {
     let stored = text(&bytes(&data("refusals.expected")));
@@ -401,7 +422,7 @@ fn the_table_is_kept_between_runs() {
     // nothing changes in the second run, and the slot is shown all the same
     let printed = good(&run_in(&folder, &receive_words("in")));
     let line =
-        "refreshed | table unchanged (slot 1: learned VLAN 20 02-00-00-00-00-11 behind 1234, confidence 32, 300 s)";
+        "refreshed | table unchanged (slot 1: learned VLAN 20 02-00-00-00-00-11 behind 1234, confidence 32, 1200 s)";
     assert!(printed.contains(line), "{printed}");
     assert_eq!(names(&folder), ["in", "out", "table", "table.aged"]);
 }
@@ -499,14 +520,14 @@ fn a_line_tells_what_a_slot_held_before_and_after() {
     .concat();
     let printed = good(&run_in(&folder, &words));
     let wanted = [
-        "slot 0: VLAN 10 02-00-00-00-00-01 behind 1234 -> 1235, confidence 20 -> 32, 17 -> 300 s",
-        "table unchanged (slot 0: learned VLAN 10 02-00-00-00-00-01 behind 1235, confidence 32, 300 s)",
+        "slot 0: VLAN 10 02-00-00-00-00-01 behind 1234 -> 1235, confidence 20 -> 32, 17 -> 1200 s",
+        "table unchanged (slot 0: learned VLAN 10 02-00-00-00-00-01 behind 1235, confidence 32, 1200 s)",
         "table unchanged (slot 1: configured VLAN 11 02-00-00-00-00-01 behind 1234, confidence 1, 0 s)",
         "table unchanged (slot 2: learned VLAN 12 02-00-00-00-00-01 behind 1234, confidence 200, 17 s)",
-        "slot 3: free -> learned VLAN 13 02-00-00-00-00-01 behind 1235, confidence 32, 300 s",
+        "slot 3: free -> learned VLAN 13 02-00-00-00-00-01 behind 1235, confidence 32, 1200 s",
         "slot 3: VLAN 13 02-00-00-00-00-01 behind 1235 -> 1236",
         "slot 0: VLAN 10 02-00-00-00-00-01 behind 1235 -> free; slot 3: VLAN 13 02-00-00-00-00-01 behind 1236 -> free",
-        "slot 0: free -> learned VLAN 14 02-00-00-00-00-01 behind 1235, confidence 32, 300 s",
+        "slot 0: free -> learned VLAN 14 02-00-00-00-00-01 behind 1235, confidence 32, 1200 s",
     ];
     for (place, wanted) in wanted.iter().enumerate() {
         assert_eq!(parts(&printed, place + 1)[2], *wanted);
@@ -534,10 +555,10 @@ fn the_table_ages_by_the_time_stamps_and_never_backwards() {
         // a clock that was set back: no time passes until it has caught up
         (40, from(3)),
         (100, from(3)),
-        (299, from(4)),
+        (1199, from(4)),
         // more than 16 bits of seconds, and all at once
-        (300, from(5)),
-        (300 + 70_000, from(6)),
+        (1200, from(5)),
+        (1200 + 70_000, from(6)),
     ];
     fs::write(folder.join("in"), capture_at(&frames)).expect("a capture");
     let printed = good(&run_in(&folder, &receive_words("in")));
@@ -552,11 +573,11 @@ fn the_table_ages_by_the_time_stamps_and_never_backwards() {
         aged,
         [
             format!(
-                "aged: 2025-11-16T08:05:00Z 1 seconds passed | 1 became free | {}",
+                "aged: 2025-11-16T08:20:00Z 1 seconds passed | 1 became free | {}",
                 slot(0, 1)
             ),
             format!(
-                "aged: 2025-11-17T03:31:40Z 70000 seconds passed | 4 became free | {}; {}; {}; {}",
+                "aged: 2025-11-17T03:46:40Z 70000 seconds passed | 4 became free | {}; {}; {}; {}",
                 slot(0, 5),
                 slot(1, 2),
                 slot(2, 3),
@@ -610,19 +631,19 @@ fn the_second_that_a_table_was_aged_to_is_kept_beside_it() {
     // the seconds between two runs pass too
     let printed = run(&[(250, from(2))]);
     assert!(printed
-        .contains("slot 0: learned VLAN 10 02-00-00-00-00-01 behind 1234, confidence 32, 60 s"));
+        .contains("slot 0: learned VLAN 10 02-00-00-00-00-01 behind 1234, confidence 32, 960 s"));
     assert_eq!(second(), 250);
     // and those that pass by hand
     good(&run_in(&folder, &["age", "--table", "table", "--by", "20"]));
     assert_eq!(second(), 270);
-    let printed = run(&[(269, from(3)), (309, from(4))]);
+    let printed = run(&[(269, from(3)), (1209, from(4))]);
     assert!(printed
         .contains("slot 0: learned VLAN 10 02-00-00-00-00-01 behind 1234, confidence 32, 1 s"));
     // no time passes without ageing, and none is lost
     let words = [&receive_words("in")[..], &["--no-ageing"]].concat();
     good(&run_in(&folder, &words));
-    assert_eq!(second(), 309);
-    let printed = run(&[(310, from(4))]);
+    assert_eq!(second(), 1209);
+    let printed = run(&[(1210, from(4))]);
     assert!(
         printed.contains("| 1 became free | slot 0: VLAN 10 02-00-00-00-00-01 behind 1234 -> free")
     );
@@ -782,7 +803,12 @@ fn a_flush_is_told_in_words() {
         (vec![2, 0x12, 0x34, 0x12], "byte 1 of the payload: K-nicks 2 means 4 bytes of nicknames: 3 are left".into()),
         (vec![1, 0x12, 0x34], "byte 3 of the payload: K-VLBs is missing".into()),
         (vec![0, 2, 0, 1, 0, 2, 0], "byte 2 of the payload: K-VLBs 2 means 8 bytes of VLAN blocks: 5 are left".into()),
-        (tlvs(&[tlv(6, &[]), vec![7]]), "byte 4 of the payload: a lone last byte, where a TLV has type and length".into()),
+        (
+            tlvs(&[tlv(6, &[]), vec![7]]),
+            "byte 4 of the payload: a lone last byte that is not 0, where a TLV has type and length".into(),
+        ),
+        (tlvs(&[vec![0]]), format!("{sender}none; MACs: all")),
+        (tlvs(&[tlv(6, &[]), vec![0]]), format!("{sender}all; MACs: all")),
         (tlvs(&[vec![9, 1]]), "byte 2 of the payload: a TLV of type 9 and length 1 passes the end: 0 bytes are left".into()),
         (tlvs(&[tlv(1, &[0; 3])]), "byte 2 of the payload: a TLV of type 1 has length 3, no multiple of 4".into()),
         (tlvs(&[tlv(2, &[0])]), "byte 2 of the payload: a TLV of type 2 has length 1, under 2".into()),

@@ -163,6 +163,73 @@ fn flush_answers_and_clears_as_the_paper_says() {
     );
 }
 
+/// Document 02, 2026-02: zeros after a payload, as links add them, and each value of a lone last byte.
+#[test]
+fn a_padded_payload_means_what_it_meant() {
+    const SAME: &str = "padded: as before";
+    const WHOLE: &str = "padded: a cut payload made whole";
+    const CORRUPT: &str = "padded: still corrupt";
+    const ZERO: &str = "a lone zero: good";
+    const OTHER: &str = "a lone byte above 0: corrupt";
+    const BEHIND: &str = "a byte behind VLAN blocks: good";
+    run::cases(
+        "a_padded_payload_means_what_it_meant",
+        40,
+        &[(15, "refusal 15: flush payload corrupt"), (67, "flushed")],
+        &[
+            SAME,
+            WHOLE,
+            CORRUPT,
+            ZERO,
+            OTHER,
+            BEHIND,
+            "flushed: none cleared",
+            "flushed: 1 cleared",
+            "flushed: 2 to 9 cleared",
+        ],
+        |random, tally| {
+            let pool = Pool::new(random);
+            let mut payload = generate::payload(random, &pool);
+            if random.one_in(4) {
+                payload.truncate(random.length(0, payload.len()));
+            }
+            let mut table = generate::good_length_table(random, &pool);
+            table.truncate(20 * RECORD);
+            let ingress = generate::ingress(random, &pool);
+            let mut before = table.clone();
+            let given = compare::flush(random, ingress, &payload, &mut before);
+
+            for zeros in 0..=20 {
+                let padded = [&payload[..], &vec![0; zeros]].concat();
+                let mut after = table.clone();
+                let word = compare::flush(random, ingress, &padded, &mut after);
+                count_answer(tally, word);
+                if given & 0xFF == 67 {
+                    assert_eq!((word, &after), (given, &before), "{zeros} zeros");
+                }
+                tally.situation(match (given, word) {
+                    (15, 15) => CORRUPT,
+                    (15, _) => WHOLE,
+                    _ => SAME,
+                });
+            }
+
+            for last in 0..=255 {
+                let longer = [&payload[..], &[last]].concat();
+                let word = compare::flush(random, ingress, &longer, &mut table.clone());
+                count_answer(tally, word);
+                if given & 0xFF == 67 {
+                    tally.situation(match (last, word) {
+                        (0, _) => ZERO,
+                        (_, 15) => OTHER,
+                        _ => BEHIND,
+                    });
+                }
+            }
+        },
+    );
+}
+
 /// A table with one learned record for each VLAN, and any payload that follows the grammar.
 #[test]
 fn every_vlan_is_cleared_or_stays_as_the_paper_says() {

@@ -1,4 +1,4 @@
-//! Whole call lists, once as they are and once with frames compacted, through the C boundary.
+//! Whole call lists, once as they are and once with frames compacted, through the C boundary; and with the old and the new default life.
 
 use shinglebar_tests::boundary;
 use shinglebar_tests::compare::hex;
@@ -67,8 +67,9 @@ fn make(
     }
 }
 
-/// The same of the second implementation.
+/// The same of the second implementation, with a default of the learning seconds.
 fn make_by_paper(
+    life: u16,
     settings: &Settings,
     call: &Call,
     frame: &[u8],
@@ -77,7 +78,7 @@ fn make_by_paper(
     match call {
         Call::Receive { out, .. } => {
             let mut out = out.clone();
-            let word = reference::receive(settings, frame, table, &mut out);
+            let word = reference::receive_with(life, settings, frame, table, &mut out);
             (word, out)
         }
         Call::Age { seconds } => (reference::age(*seconds, table), Vec::new()),
@@ -174,7 +175,8 @@ fn call_lists_give_the_same_with_frames_compacted() {
                 let replaced = compacted.as_deref().unwrap_or(given);
                 let first = make(random, &settings, &call, given, &mut plain);
                 let second = make(random, &settings, &call, replaced, &mut mixed);
-                let third = make_by_paper(&settings, &call, given, &mut paper);
+                let third =
+                    make_by_paper(reference::DEFAULT_LIFE, &settings, &call, given, &mut paper);
                 let context = || {
                     format!(
                         "call {step}\n{settings:#x?}\nframe {}\ncompacted {}\ntable at the start {}",
@@ -199,6 +201,76 @@ fn call_lists_give_the_same_with_frames_compacted() {
                 );
                 if compacted.is_some() {
                     count_replaced(tally, first.0);
+                }
+            }
+        },
+    );
+}
+
+/// "Show that a port passing 300 behaves after the change as one passing 0 did before" (document 02, 2026-10): the library now, and the
+/// second implementation with its old default.
+#[test]
+fn call_lists_at_a_port_that_passes_300_give_what_one_passing_0_gave_before() {
+    run::cases(
+        "call_lists_at_a_port_that_passes_300_give_what_one_passing_0_gave_before",
+        8,
+        &[],
+        &[
+            "300: learned",
+            "300: refreshed",
+            "300: kept",
+            "300: refused",
+            "300: flushed",
+            "another life: learned",
+            "another life: refreshed",
+            "age",
+            "lookup",
+            "spoilt",
+        ],
+        |random, tally| {
+            let pool = Pool::new(random);
+            let mut now = generate::settings(random, &pool);
+            let mut before = now;
+            let old_life = random.one_in(2) || now.seconds == 0;
+            if old_life {
+                (now.seconds, before.seconds) = (300, 0);
+            }
+            let start = generate::table(random, &pool);
+            let (mut after, mut paper) = (start.clone(), start.clone());
+            for step in 0..random.length(1, 16) {
+                let call = call(random, &pool, &now, &start);
+                let given: &[u8] = match &call {
+                    Call::Receive { frame, .. } => frame,
+                    _ => &[],
+                };
+                let first = make(random, &now, &call, given, &mut after);
+                let second = make_by_paper(reference::OLD_LIFE, &before, &call, given, &mut paper);
+                assert!(
+                    first == second && after == paper,
+                    "call {step}: words {:#x} and {:#x}\n{now:#x?}\nframe {}\ntable at the start {}",
+                    first.0,
+                    second.0,
+                    hex(given),
+                    hex(&start)
+                );
+                match (&call, first.0 & 0xFF) {
+                    (Call::Receive { .. }, 65) => {
+                        tally.situation(match (old_life, first.0 >> 24 & 3) {
+                            (true, 0) => "300: learned",
+                            (true, 1) => "300: refreshed",
+                            (true, 2) => "300: kept",
+                            (true, _) => "300: full",
+                            (false, 0) => "another life: learned",
+                            (false, 1) => "another life: refreshed",
+                            (false, _) => "another life: kept or full",
+                        })
+                    }
+                    (Call::Receive { .. }, 67) if old_life => tally.situation("300: flushed"),
+                    (Call::Receive { .. }, ..=63) if old_life => tally.situation("300: refused"),
+                    (Call::Receive { .. }, _) => tally.situation("receive: another answer"),
+                    (Call::Age { .. }, _) => tally.situation("age"),
+                    (Call::Lookup { .. }, _) => tally.situation("lookup"),
+                    (Call::Spoilt, _) => tally.situation("spoilt"),
                 }
             }
         },

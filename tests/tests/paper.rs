@@ -18,7 +18,7 @@ const SETTINGS: Settings = Settings {
     nickname: 0x0102,
     compact: 1,
     confidence: 20,
-    seconds: 0,
+    seconds: 300,
 };
 
 const OFF: Settings = Settings {
@@ -556,7 +556,8 @@ fn reading_18_trailing_bytes_empty_ends_and_unknown_types() {
     for kind in ["00", "09", "FF"] {
         let payload = format!("00 00 {kind} 01 AA 01 04 000A 000A {kind} 00");
         assert_eq!(flush_of_p1(0x1234, &payload), flushed(1));
-        assert_eq!(flush_of_p1(0x1234, &format!("{payload} {kind}")), 15);
+        let lone = if kind == "00" { flushed(1) } else { 15 };
+        assert_eq!(flush_of_p1(0x1234, &format!("{payload} {kind}")), lone);
         assert_eq!(flush_of_p1(0x1234, &format!("{payload} {kind} 01")), 15);
     }
     for kind in ["01", "03", "04", "07", "08"] {
@@ -568,6 +569,31 @@ fn reading_18_trailing_bytes_empty_ends_and_unknown_types() {
     for kind in ["02", "05"] {
         assert_eq!(flush_of_p1(0x1234, &format!("00 00 {kind} 00 06 00")), 15);
     }
+}
+
+/// Document 02, 2026-02, and readings 130 to 132.
+#[test]
+fn reading_130_a_lone_last_zero_is_padding() {
+    // behind TLVs, and straight behind K-VLBs 0
+    assert_eq!(flush_of_p1(0x1234, "00 00 01 04 000A 000A 00"), flushed(1));
+    assert_eq!(flush_of_p1(0x1234, "00 00 00"), flushed(0));
+    assert_eq!(flush_of_p1(0x1234, "01 1234 00 00"), flushed(0));
+    // "any other stays 15"
+    for last in 1..=255 {
+        assert_eq!(flush_of_p1(0x1234, &format!("00 00 {last:02X}")), 15);
+        let payload = format!("00 00 01 04 000A 000A {last:02X}");
+        assert_eq!(flush_of_p1(0x1234, &payload), 15);
+    }
+    // a missing K byte, a cut list, a cut block stay 15
+    assert_eq!(flush_of_p1(0x1234, "00"), 15);
+    assert_eq!(flush_of_p1(0x1234, "01 12"), 15);
+    assert_eq!(flush_of_p1(0x1234, "01 1234"), 15);
+    assert_eq!(flush_of_p1(0x1234, "00 01 00"), 15);
+    // a TLV that is cut and ends with 0 stays 15
+    assert_eq!(flush_of_p1(0x1234, "00 00 00 01"), 15);
+    assert_eq!(flush_of_p1(0x1234, "00 00 01 04 00"), 15);
+    // cut in a value and padded, it is a whole one: here the VLANs 10 to 0, none
+    assert_eq!(flush_of_p1(0x1234, "00 00 01 04 000A 0000"), flushed(0));
 }
 
 #[test]

@@ -188,6 +188,56 @@ fn a_sequence_of_frames_is_read_as_the_paper_says() {
     );
 }
 
+/// Document 02, 2026-02: a flush frame padded to 60 bytes and by 0 to 20 zeros, in both formats, on the same table.
+#[test]
+fn a_padded_flush_frame_answers_and_leaves_what_the_frame_does() {
+    const TO_60: [&str; 2] = ["General padded to 60", "Compact padded to 60"];
+    run::cases(
+        "a_padded_flush_frame_answers_and_leaves_what_the_frame_does",
+        20,
+        &[(15, "refusal 15: flush payload corrupt"), (67, "flushed")],
+        &[
+            TO_60[0],
+            TO_60[1],
+            "flushed some, General",
+            "flushed some, Compact",
+        ],
+        |random, tally| {
+            let pool = Pool::new(random);
+            let mut settings = generate::good_settings(random, &pool);
+            settings.compact = 1;
+            let mut table = generate::good_length_table(random, &pool);
+            table.truncate(20 * RECORD);
+            let out = random.bytes(64);
+            for (compact, name) in [false, true].into_iter().zip(TO_60) {
+                let frame = generate::flush_frame(random, &pool, &settings, compact).bytes();
+                if frame.len() > 9_216 - 20 {
+                    continue;
+                }
+                let (mut left, mut written) = (table.clone(), out.clone());
+                let given = compare::receive(random, &settings, &frame, &mut left, &mut written);
+                count_answer(tally, &settings, &frame, given);
+                let mut lengths: Vec<usize> = (0..=20).map(|zeros| frame.len() + zeros).collect();
+                if frame.len() < 60 {
+                    tally.situation(name);
+                    lengths.push(60);
+                }
+                for length in lengths {
+                    let mut padded = frame.clone();
+                    padded.resize(length, 0);
+                    let (mut after, mut area) = (table.clone(), out.clone());
+                    let word = compare::receive(random, &settings, &padded, &mut after, &mut area);
+                    count_answer(tally, &settings, &padded, word);
+                    assert_eq!(area, out);
+                    if given & 0xFF == 67 {
+                        assert_eq!((word, &after), (given, &left), "padded to {length}");
+                    }
+                }
+            }
+        },
+    );
+}
+
 /// A good frame of 9,215 to 9,217 bytes in both formats, with every area length around the native
 /// frame's.
 #[test]

@@ -1,4 +1,4 @@
-//! The user's fault replayed: a good flush cut at each of its lengths. The rows are those of docs/REPLAY.md.
+//! The user's fault replayed: a good flush cut at each of its lengths, and padded. The rows are those of docs/REPLAY.md.
 
 use shinglebar_tests::compare;
 use shinglebar_tests::random::Random;
@@ -24,34 +24,77 @@ fn record(learned: bool, vlan: u32, mac: u64, nickname: u16) -> [u8; RECORD] {
     )
 }
 
-#[test]
-fn a_flush_cut_inside_a_field_changes_nothing() {
-    let table = [
+fn table() -> Vec<u8> {
+    [
         record(true, 10, 0x0200_0000_0001, 0x1234),
         record(true, 12, 0x0200_0000_0002, 0x1234),
         record(false, 11, 0x0200_0000_0001, 0x1234),
         record(true, 10, 0x0200_0000_0003, 0x1235),
     ]
-    .concat();
-    let mut random = Random::new(1);
+    .concat()
+}
+
+/// The flush answers the count of these slots, which it clears, or 15.
+fn check(payload: &[u8], cleared: Result<&[usize], u64>) {
+    let mut expected = table();
+    for slot in cleared.unwrap_or(&[]) {
+        expected[RECORD * slot..RECORD * (slot + 1)].fill(0);
+    }
+    let answer = cleared.map_or_else(|refusal| refusal, |slots| 67 | (slots.len() as u64) << 8);
+    let mut after = table();
+    let word = compare::flush(&mut Random::new(1), 0x0102, payload, &mut after);
+    assert_eq!(word, answer, "{} bytes", payload.len());
+    assert_eq!(after, expected, "{} bytes", payload.len());
+}
+
+#[test]
+fn a_flush_cut_inside_a_field_changes_nothing() {
     for length in 0..=PAYLOAD.len() {
-        let (answer, cleared): (u64, &[usize]) = match length {
-            // no TLV: no label was gathered
-            4 => (67, &[]),
-            // the VLANs alone: every MAC is meant
-            10 => (67 | 2 << 8, &[0, 1]),
-            // the VLANs and the MAC
-            18 => (67 | 1 << 8, &[0]),
-            // cut inside a field
-            _ => (15, &[]),
-        };
-        let mut expected = table.clone();
-        for slot in cleared {
-            expected[RECORD * slot..RECORD * (slot + 1)].fill(0);
+        check(
+            &PAYLOAD[..length],
+            match length {
+                // no TLV: no label was gathered
+                4 => Ok(&[]),
+                // the VLANs alone: every MAC is meant
+                10 => Ok(&[0, 1]),
+                // the VLANs and the MAC
+                18 => Ok(&[0]),
+                // cut inside a field
+                _ => Err(15),
+            },
+        );
+    }
+}
+
+/// A link pads what arrives with zeros: the cut payload is then read as if the zeros were its own.
+#[test]
+fn a_flush_that_is_cut_and_padded_is_read_with_its_zeros() {
+    for length in 0..=PAYLOAD.len() {
+        for zeros in 1..=42 {
+            let padded = [&PAYLOAD[..length], &vec![0; zeros]].concat();
+            let missing = match length {
+                0 => 2,
+                1 => 3,
+                2 => 2,
+                3 => 1,
+                5 | 11 => 1,
+                6..=9 => 10 - length,
+                12..=17 => 18 - length,
+                _ => 0,
+            };
+            check(
+                &padded,
+                match length {
+                    _ if zeros < missing => Err(15),
+                    // no TLV, or a type 1 without a block, or the VLANs 10 to 0
+                    0..=9 => Ok(&[]),
+                    // the VLANs alone; padding, or a type 7 without a MAC
+                    10 | 11 => Ok(&[0, 1]),
+                    // a MAC that ends with zeros, which no record has
+                    12..=17 => Ok(&[]),
+                    _ => Ok(&[0]),
+                },
+            );
         }
-        let mut after = table.clone();
-        let word = compare::flush(&mut random, 0x0102, &PAYLOAD[..length], &mut after);
-        assert_eq!(word, answer, "{length} bytes");
-        assert_eq!(after, expected, "{length} bytes");
     }
 }

@@ -28,7 +28,7 @@ impl Port {
         seconds: u32,
     ) -> Result<Port, u64> {
         let addresses = is_individual(port | inner) && port != inner;
-        let seconds = if seconds == 0 { 300 } else { seconds };
+        let seconds = if seconds == 0 { 1200 } else { seconds };
         if !addresses
             || !nickname_good(u64::from(nickname))
             || compact > 1

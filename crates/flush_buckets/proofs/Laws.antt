@@ -56,6 +56,9 @@ adds-range s e t u i j some few ei ej h r = (
       r .inside (x / 256 % 65536) (omega arith) (omega arith),
 )
 
+pub adds-one : (s e : ℕ) (t u : List ℕ) (i j : ℕ) → s < e → e - 1 < 16384 + s → i ≡ bucketOf s → j ≡ bucketOf (e - 1) → i ≡ j → Ranged t u i (i + 1) → Keeps t u × (true ≡ true → Added s e u)
+adds-one s e t u i j some few ei ej same r = adds-range s e t u i j some few ei ej (omega arith) (rw (← same) r)
+
 pub adds-bucket : (h : ℕ) (t u : List ℕ) → Ranged t u (h % 65536) (h % 65536 + 1) → Keeps t u × ((x : ℕ) → h ≡ x / 256 → bitAt (bucketOf x) u ≡ true)
 unfolding bucketOf
 adds-bucket h t u r =

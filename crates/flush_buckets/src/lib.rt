@@ -72,6 +72,10 @@ fn add_short(s: u64, e: u64, bits: &mut [u8]) -> bool
     }
     let i = bucket_of(s);
     let j = bucket_of(last);
+    if i == j {
+        flush_bits::add_one(bits, i as usize);
+        return true;
+    }
     if j < i {
         return false;
     }

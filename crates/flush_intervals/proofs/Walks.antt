@@ -16,7 +16,7 @@ use Rattle.numbers.specs.declared.Numbering.{Numbering}
 use Rattle.numbers.proofs.Truth.{and-both}
 use Rattle.flush.specs.Payload.{tlv, tlvEnd, tlvs}
 use Rattle.flush.proofs.Lists.{parts-end, parts-more}
-use Rattle.flush.proofs.Validity.{tlvs-end, tlvs-stump, tlvs-more}
+use Rattle.flush.proofs.Validity.{tlvs-end, tlvs-rest, tlvs-more}
 use Rattle.flush_sort.proofs.Laws.{either-none, either-assoc}
 use Rattle.flush_parts.specs.Parts.{spanFor, lowFor, pastFor, hitFor, partsHit}
 use Rattle.flush_parts.specs.Named.{namedIn, namedOf}
@@ -103,7 +103,7 @@ module _ (d : Naming) (l keys h₀ : List ℕ) where
       unfolding namedOf anyOf namedIn either
       walk-cut far =
           let z : length (drop at l) ≡ length l - at = length-drop at l in
-          record { long = g .long; each = λ i m. sym (g .means i m ∙ rw (tlvs-stump (drop at l) (omega arith) (omega arith)) (either-none (bitAt i h))) }
+          record { long = g .long; each = λ i m. sym (g .means i m ∙ rw (tlvs-rest (λ p. namedIn d p (getD keys i 0 / 4096)) refl (drop at l) (omega arith)) (either-none (bitAt i h))) }
 
       pub walk-next : e ≤ length l → (u : List ℕ) → Hits (namedIn d (tlv (getD l at 0) (take (e - (at + 2)) (drop (at + 2) l)))) keys h u → Walking d l keys h₀ u e
       unfolding namedOf anyOf

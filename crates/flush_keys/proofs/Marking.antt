@@ -69,9 +69,19 @@ without-none f t slots s e = joined-none (without f t) slots s (λ j. ap not (sy
 without-is : (f : Field) (t : List ℕ) (k : ℕ) (a : Bool) → a ≡ appliesTo f (drop (slotBytes * k) t) → not a ≡ without f t k
 without-is f t k a e = ap not (e ∙ sym (applies-near f (drop (slotBytes * k) t)))
 
-pub without-next : (f : Field) (t slots s : List ℕ) (i : ℕ) (u : List ℕ) → Joining (without f t) slots s i u → i < length slots
+without-next : (f : Field) (t slots s : List ℕ) (i : ℕ) (u : List ℕ) → Joining (without f t) slots s i u → i < length slots
     → (a : Bool) → a ≡ appliesTo f (drop (slotBytes * getD slots i 0) t) → (v : List ℕ) → Widened u v (getD slots i 0) (not a) → Joining (without f t) slots s (i + 1) v
 without-next f t slots s i u so-far h a e v w = joining-next (without f t) slots s i u so-far h (not a) (without-is f t (getD slots i 0) a e) v w
+
+widened-none : (u : List ℕ) (k : ℕ) → Widened u u k false
+widened-none u k = record { long = refl; each = λ j. sym (rw (both-right (eqb j k) false refl) (either-none (bitAt j u))) }
+
+module _ (f : Field) (t slots s : List ℕ) (i : ℕ) (u : List ℕ) (so-far : Joining (without f t) slots s i u) (h : i < length slots) (a : Bool) (e : a ≡ appliesTo f (drop (slotBytes * getD slots i 0) t)) where
+  pub without-passed : a ≡ true → Joining (without f t) slots s (i + 1) u
+  without-passed g = without-next f t slots s i u so-far h a e u (rw g (widened-none u (getD slots i 0)))
+
+  pub without-added : a ≡ false → (v : List ℕ) → Widened u v (getD slots i 0) true → Joining (without f t) slots s (i + 1) v
+  without-added g v w = without-next f t slots s i u so-far h a e v (rw g w)
 
 -- ---- the bits of keys
 

@@ -66,7 +66,7 @@ pub fn keys_of(table: &[u8], field: Field, slots: &[u64], named: &[u8], keys: &m
     n
 }
 
-// Marks the slots that have no such number.
+// Marks the slots that have no such number. They are few as a rule.
 pub fn keep_others(table: &[u8], field: Field, slots: &[u64], marks: &mut [u8])
     requires { ⌜ InTable (now table) (now slots) × (length (now marks) ≡ markBytes) ⌝ }
     ensures { λ _. ⌜ Joined (λ j. not (appliesTo field (slotAt j (now (table .entry))))) (now (slots .entry)) (now (marks .entry)) (now (marks .exit)) ⌝ }
@@ -77,8 +77,12 @@ pub fn keep_others(table: &[u8], field: Field, slots: &[u64], marks: &mut [u8])
     let mut i = 0;
     while i < slots.len() {
         let j = slots[i] as usize;
-        flush_marks::add_if(marks, j, !applies_at(table, SLOT_BYTES * j, field));
-        i += 1;
+        if applies_at(table, SLOT_BYTES * j, field) {
+            i += 1;
+        } else {
+            flush_marks::add_if(marks, j, true);
+            i += 1;
+        }
     }
 }
 

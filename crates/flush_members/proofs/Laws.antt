@@ -4,6 +4,7 @@ use Prim.Native.Nat.{ℕ, _+_, _-_, _*_, _/_, _%_, _<_, _≤_}
 use mathlib.Core.Bool.{Bool, true, false, _&&_}
 use mathlib.Core.List.{List, [], _∷_}
 use mathlib.Core.Path.{_≡_, refl, sym, ap, _∙_}
+use native.Mathlib.Nat.{mod-eq-of-lt}
 use native.Mathlib.Omega.{arith}
 use lib.Dec.{leb, eqb}
 use lib.ListN.{length, take, drop, getD, length-drop}
@@ -170,3 +171,9 @@ module _ (w : Numbering) (x : ℕ) (v : List ℕ) where
       pub map-tells : s ≤ x → (b : Bool) → b ≡ bitAt (x - s) (drop (w .size) v) → b ≡ inMap w x v
       unfolding inMap between both
       map-tells h b e = rw (le-leb (w .size) (length v) long, ← and-both (leb (w .low) x) (leb x (w .high)), inside, ← start, le-leb s x h) e
+
+-- ---- a number without reserved bits
+
+pub number-small : (w : Numbering) (b : List ℕ) (n : ℕ) → n ≡ num (take (w .size) b) → n < w .top → n ≡ numberOf w b
+unfolding numberOf
+number-small w b n e h = rw (← e) (sym (mod-eq-of-lt h))

@@ -51,12 +51,15 @@ fn leading(v: &[u8], at: usize, size: usize) -> u64
     numbers::be6(v, at)
 }
 
-// The number at a place.
+// The number at a place. Only where reserved bits are set there is a division.
 pub fn number_at(v: &[u8], at: usize, w: Numbering) -> u64
     requires { ⌜ Sound w × (at + w .size ≤ length (now v)) ⌝ }
     ensures { λ r. ⌜ r ≡ numberOf w (drop at (now (v .entry))) ⌝ }
 {
     let n = leading(v, at, w.size);
+    if n < w.top {
+        return n;
+    }
     n % w.top
 }
 

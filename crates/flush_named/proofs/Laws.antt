@@ -16,7 +16,7 @@ use Rattle.numbers.proofs.Truth.{and-both, both-left, both-pass}
 use Rattle.numbers.specs.declared.Numbering.{Numbering}
 use Rattle.flush.specs.Payload.{tlv, tlvEnd, tlvs}
 use Rattle.flush.proofs.Lists.{false-true, parts-end, parts-more}
-use Rattle.flush.proofs.Validity.{tlvs-end, tlvs-stump, tlvs-more}
+use Rattle.flush.proofs.Validity.{tlvs-end, tlvs-rest, tlvs-more}
 use Rattle.flush_parts.specs.Parts.{spanFor, lowFor, pastFor, hitFor, partsHit}
 use Rattle.flush_parts.specs.Named.{namedIn, namedOf}
 use Rattle.flush_parts.specs.declared.Naming.{Naming}
@@ -148,7 +148,7 @@ module _ (d : Naming) (l s b : List ℕ) (at : ℕ) (long : length s ≡ bucketB
     unfolding namedOf anyOf namedIn either
     tlvs-cut h =
         let z : length (drop at l) ≡ length l - at = length-drop at l in
-        names-bits _ s b false long (adding-done _ s _ b g (λ x. rw (tlvs-stump (drop at l) (omega arith) (omega arith))))
+        names-bits _ s b false long (adding-done _ s _ b g (λ x. rw (tlvs-rest (λ p. namedIn d p x) refl (drop at l) (omega arith))))
 
     module _ (u : List ℕ) (full : Bool) (n : Names (namedIn d (tlv (getD l at 0) (take (e - (at + 2)) (drop (at + 2) l)))) b u full) where
       pub tlvs-full : full ≡ true → HasBits (namedOf d (tlvs l)) u

@@ -6,6 +6,7 @@ use mathlib.Core.Bool.{Bool, true, false, not, _&&_, _||_}
 use mathlib.Core.List.{List, [], _∷_}
 use mathlib.Core.Path.{_≡_, refl, sym, ap, _∙_}
 use native.Mathlib.Decide.{decLt}
+use native.Mathlib.Nat.{add-zero}
 use native.Mathlib.Omega.{arith}
 use lib.Dec.{leb, eqb}
 use lib.ListN.{length, take, drop, getD, length-drop}
@@ -16,10 +17,10 @@ use Rattle.numbers.specs.Result.{Result, refused, got, check}
 use Rattle.numbers.specs.Refusals.{payload-corrupt}
 use Rattle.numbers.proofs.Truth.{and-both, or-either, pick-true, pick-false, both-right, both-true, between-in, between-below, between-above}
 use Rattle.numbers.proofs.Answers.{check-pass}
-use Rattle.flush.specs.Payload.{Types, everyType, vlanTypes, typesOf, Piece, tlv, block, stump, tlvEnd, tlvs, lengthGood, corrupt, nickBytes, blockCount, behind, blockBytes, piecesOf, Payload, made, payloadOf}
+use Rattle.flush.specs.Payload.{Types, everyType, vlanTypes, typesOf, Piece, tlv, block, stump, tlvEnd, isPadding, tlvs, lengthGood, corrupt, nickBytes, blockCount, behind, blockBytes, piecesOf, Payload, made, payloadOf}
 use Rattle.flush.specs.declared.Model.{Model}
 use Rattle.flush.specs.declared.Model.the-variants.{Full, VlanOnly}
-use Rattle.flush_tlvs.proofs.Laws.{tlvs-done, tlv-cut, tlv-here, tlv-hit, tlv-next}
+use Rattle.flush_tlvs.proofs.Laws.{tlvs-done, tlv-padding, tlv-stump, tlv-here, tlv-hit, tlv-next}
 use Rattle.flush_payload.specs.Judging.{everyKind, vlanKind, listKind, mapKind, macKind, ofKind, ruled, EmptyPassed, Noted, NotedMore, Nothing, JudgedTlvs, JudgedPayload}
 use Rattle.flush_payload.specs.declared.Kinds.{Kinds}
 use Rattle.flush_payload.specs.declared.Judged.{Judged}
@@ -69,6 +70,14 @@ module _ (k n : ℕ) where
   pub length-other : (k ≡ 1 → ⊥) → (k ≡ 2 → ⊥) → (k ≡ 3 → ⊥) → (k ≡ 4 → ⊥) → (k ≡ 5 → ⊥) → (k ≡ 6 → ⊥) → (k ≡ 7 → ⊥) → (k ≡ 8 → ⊥) → true ≡ lengthGood k n
   unfolding lengthGood both either
   length-other a b c d e f g h = rw (ne-eqb k 1 a, ne-eqb k 2 b, ne-eqb k 3 c, ne-eqb k 4 d, ne-eqb k 5 e, ne-eqb k 6 f, ne-eqb k 7 g, ne-eqb k 8 h)
+
+-- ---- padding
+
+pub padding-at : (l : List ℕ) (at : ℕ) → eqb (length l - at) 1 && eqb (getD l at 0) 0 ≡ isPadding (drop at l)
+padding-at l at =
+    let d : length (drop at l) ≡ length l - at = length-drop at l in
+    let f : getD (drop at l) 0 0 ≡ getD l at 0 = getD-drop at l 0 0 ∙ rw (add-zero at) in
+    rw (d, f) (and-both (eqb (length l - at) 1) (eqb (getD l at 0) 0))
 
 -- ---- types and kinds
 
@@ -214,9 +223,28 @@ module _ (types : Types) (l : List ℕ) where
         })
 
     module _ (more : at < length l) (e : ℕ) (end : e ≡ at + tlvEnd (drop at l)) where
-      pub walk-cut : length l < e → JudgedTlvs types (tlvs l) Corrupt
-      unfolding corrupt
-      walk-cut h = bad-is types (tlvs l) (sym (tlv-cut (corrupt types) l at _ (w .whole) more e end h true refl))
+      -- what is left is padding, or cut
+      module _ (p : Bool) (test : p ≡ isPadding (drop at l)) where
+        left-padding : (kind : ℕ → Bool) (b : Bool) → Left types l at kind b → p ≡ true → b ≡ anyOf (ofKind types kind) (tlvs l)
+        left-padding kind b s h =
+            let d : false ≡ anyOf (ofKind types kind) (tlvs (drop at l)) = tlv-padding (ofKind types kind) l at _ refl more e end p test h in
+            sym (s ∙ rw (← d) (either-none b))
+
+        pub walk-padding : p ≡ true → JudgedTlvs types (tlvs l) (Good f)
+        walk-padding h =
+            good-is types (tlvs l) f (sym (tlv-padding (corrupt types) l at _ (w .whole) more e end p test h))
+            (record {
+              blocks = w .blocks;
+              every = left-padding everyKind _ (w .every) h;
+              vlans = left-padding vlanKind _ (w .vlans) h;
+              lists = left-padding listKind _ (w .lists) h;
+              maps = left-padding mapKind _ (w .maps) h;
+              macs = left-padding macKind _ (w .macs) h;
+            })
+
+        pub walk-cut : p ≡ false → length l < e → JudgedTlvs types (tlvs l) Corrupt
+        unfolding corrupt
+        walk-cut h short = bad-is types (tlvs l) (sym (tlv-stump (corrupt types) l at _ (w .whole) more e end p test h short true refl))
 
       module _ (fits : e ≤ length l) where
         abbrev value : List ℕ

@@ -1,10 +1,10 @@
 // The payload of an Address Flush: judging it whole, and membership in the three sets that it means.
 ghost use Prim.Native.Nat.{_+_, _*_, _<_, _≤_};
 ghost use mathlib.Core.Path.{_≡_};
-ghost use lib.ListN.{length};
+ghost use lib.ListN.{length, drop};
 ghost use Rattle.numbers.specs.Tests.{anyOf};
 ghost use Rattle.table.specs.Record.{labelFrom};
-ghost use Rattle.flush.specs.Payload.{everyType, typesOf, tlvs, lengthGood, nickBytes, blockCount, blockBytes, piecesOf};
+ghost use Rattle.flush.specs.Payload.{everyType, typesOf, isPadding, tlvs, lengthGood, nickBytes, blockCount, blockBytes, piecesOf};
 ghost use Rattle.flush.specs.Meaning.{gathersMac, nicknameMeant, labelMeant, macMeant};
 ghost use Rattle.flush_payload.specs.Judging.{ruled, EmptyPassed, NotedMore, Nothing, JudgedTlvs, JudgedPayload};
 use flush::Model;
@@ -120,7 +120,16 @@ fn pass_empty(l: &[u8], from: usize) -> usize
     at
 }
 
-// Judges TLVs to their end. Bytes that make no TLV are corrupt, and so is a broken length rule of a type that is implemented.
+// Whether a lone zero is left, which is padding.
+fn is_padding(l: &[u8], at: usize) -> bool
+    requires { ⌜ at < length (now l) ⌝ }
+    ensures { λ r. ⌜ r ≡ isPadding (drop at (now (l .entry))) ⌝ }
+{
+    (l.len() - at == 1) & (l[at] == 0)
+}
+
+// Judges TLVs to their end. Bytes that make no TLV are corrupt unless they are padding, and so is a broken length rule of a type that is
+// implemented.
 fn judge_tlvs(model: Model, l: &[u8]) -> Judged
     ensures { λ r. ⌜ JudgedTlvs (typesOf model) (tlvs (now (l .entry))) r ⌝ }
 {
@@ -129,6 +138,9 @@ fn judge_tlvs(model: Model, l: &[u8]) -> Judged
     while at < l.len() {
         let e = flush_tlvs::end_of(l, at);
         if l.len() < e {
+            if is_padding(l, at) {
+                return Judged::Good(f);
+            }
             return Judged::Corrupt;
         }
         let k = l[at];

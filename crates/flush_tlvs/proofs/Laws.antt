@@ -12,8 +12,8 @@ use borrow.Author.Tests.{eq-eqb, ne-eqb}
 use Rattle.numbers.specs.Tests.{pick, either, anyOf}
 use Rattle.table.specs.Record.{labelFrom}
 use Rattle.table.specs.declared.Label.the-variants.{Vlan, Fine}
-use Rattle.flush.specs.Payload.{Piece, tlv, stump, tlvEnd, tlvs}
-use Rattle.flush.proofs.Validity.{tlvs-end, tlvs-stump, tlvs-more}
+use Rattle.flush.specs.Payload.{Piece, tlv, stump, tlvEnd, isPadding, tlvs}
+use Rattle.flush.proofs.Validity.{tlvs-end, tlvs-padded, tlvs-cut, tlvs-rest, tlvs-more}
 
 module _ (kind x : ℕ) where
   pub label-vlan : kind ≡ 0 → labelFrom kind x ≡ Vlan x
@@ -49,12 +49,23 @@ module _ (ask : Piece → Bool) (l : List ℕ) (at : ℕ) (x : Bool) (inv : x �
       sym (inv ∙ ap (anyOf ask) (tlvs-end (drop at l) (omega arith)))
 
   module _ (more : at < length l) (e : ℕ) (end : e ≡ at + tlvEnd (drop at l)) where
-    -- a TLV past the end, or a lone last byte
-    pub tlv-cut : length l < e → (h : Bool) → h ≡ ask stump → h ≡ x
-    unfolding anyOf
-    tlv-cut short h said =
+    -- a TLV past the end, or a lone last byte, padding or not: it brings nothing
+    pub tlv-cut : length l < e → false ≡ ask stump → false ≡ x
+    tlv-cut short none =
         let d : length (drop at l) ≡ length l - at = length-drop at l in
-        sym (inv ∙ ap (anyOf ask) (tlvs-stump (drop at l) (omega arith) (omega arith)) ∙ rw (← said, either-false h))
+        sym (inv ∙ tlvs-rest ask (sym none) (drop at l) (omega arith))
+
+    -- what the test for padding decides
+    module _ (p : Bool) (test : p ≡ isPadding (drop at l)) where
+      pub tlv-padding : p ≡ true → false ≡ x
+      unfolding anyOf
+      tlv-padding h = sym (inv ∙ ap (anyOf ask) (tlvs-padded (drop at l) (sym test ∙ h)))
+
+      pub tlv-stump : p ≡ false → length l < e → (h : Bool) → h ≡ ask stump → h ≡ x
+      unfolding anyOf
+      tlv-stump not short h said =
+          let d : length (drop at l) ≡ length l - at = length-drop at l in
+          sym (inv ∙ ap (anyOf ask) (tlvs-cut (drop at l) (omega arith) (sym test ∙ not) (omega arith)) ∙ rw (← said, either-false h))
 
     module _ (fits : e ≤ length l) (h : Bool) (here : h ≡ ask (tlv (getD l at 0) (take (e - (at + 2)) (drop (at + 2) l)))) where
       pub tlv-here : x ≡ either h (anyOf ask (tlvs (drop e l)))

@@ -15,7 +15,7 @@ use Rattle.numbers.specs.Numberings.{vlans, inBlocks, bitAt}
 use Rattle.table.specs.declared.Label.the-variants.{Vlan}
 use Rattle.flush.specs.Payload.{everyType, Piece, tlv, block, stump, tlvEnd, tlvsFrom, tlvs, piecesOf}
 use Rattle.flush.specs.Meaning.{vlanIn, bringsLabel, labelMeant}
-use Rattle.flush.proofs.Validity.{tlvs-end, tlvs-stump, tlvs-more}
+use Rattle.flush.proofs.Validity.{tlvs-end, tlvs-rest, tlvs-more}
 use Rattle.flush_bits.specs.Ranged.{Ranged}
 use Rattle.flush_tlvs.proofs.Laws.{label-vlan}
 use Rattle.flush_payload.specs.Judging.{everyKind, vlanKind, ofKind}
@@ -63,7 +63,7 @@ module _ (l s₀ s : List ℕ) (at : ℕ) (w : Walking l s₀ s at) where
     unfolding vlansOf anyOf vlansIn either
     walk-cut h =
         let d : length (drop at l) ≡ length l - at = length-drop at l in
-        record { long = w .long; each = λ x. sym (w .each x ∙ rw (tlvs-stump (drop at l) (omega arith) (omega arith)) (either-none (bitAt x s))) }
+        record { long = w .long; each = λ x. sym (w .each x ∙ rw (tlvs-rest (λ p. vlansIn p x) refl (drop at l) (omega arith)) (either-none (bitAt x s))) }
 
     pub walk-next : e ≤ length l → (t : List ℕ) → Gains s t (vlansIn (tlv (getD l at 0) (take (e - (at + 2)) (drop (at + 2) l)))) → Walking l s₀ t e
     unfolding vlansOf anyOf

@@ -43,6 +43,6 @@ compactOn s = eqb (s .compact) 1
 abbrev pub lifeOf : ℕ → Settings → ℕ
 lifeOf life s = pick (eqb (s .seconds) 0) life (s .seconds)
 
--- "the default 300"
+-- "Learning seconds 0 shall mean 1,200 instead of 300" (2026-10)
 abbrev pub defaultLife : ℕ
-defaultLife = 300
+defaultLife = 1200

@@ -21,7 +21,7 @@ pub const LEAST_SECONDS: u32 = 10;
 
 pub const MOST_SECONDS: u32 = 8191;
 
-pub const DEFAULT_LIFE_SECONDS: u32 = 300;
+pub const DEFAULT_LIFE_SECONDS: u32 = 1200;
 
 // 01-80-C2-00-00-40 All-RBridges, :42 All-Egress-RBridges, :4F the last address that TRILL has.
 pub const ALL_RBRIDGES: u64 = 0x0180_c200_0040;

@@ -24,9 +24,9 @@ use Rattle.convert.specs.Compaction.{compactBytes, staysGeneral, generalOnly, g
 use Rattle.convert.specs.Claims.{converted}
 use Rattle.convert.proofs.Areas.{writes}
 use Rattle.receive.specs.Deciding.{ingressAllowed, nicknamesGood, isOnward}
-use Rattle.receive.specs.Receive.{learnedEntry, delivery, acted, reading, receivedWith, received}
+use Rattle.receive.specs.Receive.{learnedEntry, delivery, acted, reading, receivedWith}
 use Rattle.promises.specs.Cases.{farPort, p10Compact}
-use Rattle.promises.specs.Interchange.{Call, read, age, lookup, spoilt, called, run, workingArea, frameOr, compactedCall, compactedWhere}
+use Rattle.promises.specs.Interchange.{Call, read, age, lookup, spoilt, calledWith, runWith, run, workingArea, frameOr, compactedCall, compactedWhere}
 use Rattle.promises.specs.Example.{p10Frame, outBefore, later, generalCalls, compactCalls, seen, InterchangeExample}
 
 area-length : length workingArea ≡ 9204
@@ -46,7 +46,7 @@ unfolding compactedWhere compactedCall pick
 replaced = ap (λ r. read (frameOr p10Frame r) outBefore ∷ later) p10-converted
 
 both-run : (run farPort freed generalCalls ≡ seen) × (run farPort freed compactCalls ≡ seen)
-unfolding pick both either anyOf between check andThen settled num bytesOf startsWith laid individual nicknameGood vlanGood labelFrom entryOf entryGood held slotOf unpacked recordNumber packed entryMatches tableGood onSlots firstSlot lowest holds placeOf nicknameAt lookedUp agedSlot aged spoiltSlot spoiltAt lowestSpoilt overMatch freeSlot intoFree learnedAt learnt addressesGood secondsGood numbersGood settingsGood trillGroup frontRefused frontOf headerLength labelLength labelRead nativeBytes outerLength generalAfter general compactAfter compact frameLengthGood byFront parsed ingressAllowed nicknamesGood isOnward learnedEntry delivery acted reading receivedWith received called run
+unfolding pick both either anyOf between check andThen settled num bytesOf startsWith laid individual nicknameGood vlanGood labelFrom entryOf entryGood held slotOf unpacked recordNumber packed entryMatches tableGood onSlots firstSlot lowest holds placeOf nicknameAt lookedUp agedSlot aged spoiltSlot spoiltAt lowestSpoilt overMatch freeSlot intoFree learnedAt learnt addressesGood secondsGood numbersGood settingsGood trillGroup frontRefused frontOf headerLength labelLength labelRead nativeBytes outerLength generalAfter general compactAfter compact frameLengthGood byFront parsed ingressAllowed nicknamesGood isOnward learnedEntry delivery acted reading receivedWith calledWith runWith run
 both-run = (refl, refl)
 
 -- the first frames have 40 and 28 bytes

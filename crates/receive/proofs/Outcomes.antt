@@ -34,7 +34,7 @@ use Rattle.flush.proofs.Stays.{clearing-leaves-alone}
 use Rattle.frame.specs.Settings.{addressesGood, secondsGood, numbersGood, settingsGood, lifeOf, defaultLife, compactOn}
 use Rattle.frame.specs.Front.{addressIn, Front, unicast, multicast, refusedFront, inner, frontOf}
 use Rattle.frame.specs.Header.{ingressOf, egressOf}
-use Rattle.frame.specs.Labels.{labelRead}
+use Rattle.frame.specs.Labels.{isChannel, labelRead}
 use Rattle.frame.specs.Fields.{Fields}
 use Rattle.frame.specs.Formats.{byFront, parsed}
 use Rattle.frame.specs.declared.Settings.{Settings}
@@ -54,20 +54,20 @@ reads-parsed s f g t o e = rw e
 -- ---- what an accepted reading left
 
 -- a property of outcomes that holds of each that is not refused
-record Holds (life : ℕ) (s : Settings) (p : Fields) (t o : List ℕ) (P : OnBoth ReadAnswer → Type 0) : Type 0 where
-  onward : P (onBoth Onward t o)
-  other : P (onBoth OtherChannel t o)
-  flushes : (c : OnTable ℕ) → clearing everyType (ingressOf (p .header)) (channelPayload (p .content)) t ≡ got c → P (flushedWith o c)
-  delivers : nicknamesGood s (p .header) ≡ true → individual (num (p .src)) ≡ true → P (deliveredWith p o (learnt (learnedEntry life s p) t))
+pub record Holds (life : ℕ) (s : Settings) (p : Fields) (t o : List ℕ) (P : OnBoth ReadAnswer → Type 0) : Type 0 where
+  pub onward : P (onBoth Onward t o)
+  pub other : P (onBoth OtherChannel t o)
+  pub flushes : isChannel (p .content) ≡ true → (c : OnTable ℕ) → clearing everyType (ingressOf (p .header)) (channelPayload (p .content)) t ≡ got c → P (flushedWith o c)
+  pub delivers : nicknamesGood s (p .header) ≡ true → individual (num (p .src)) ≡ true → P (deliveredWith p o (learnt (learnedEntry life s p) t))
 
 module _ (life : ℕ) (s : Settings) (p : Fields) (t o : List ℕ) (P : OnBoth ReadAnswer → Type 0) (h : Holds life s p t o P) where
-  channel-left : (a : OnBoth ReadAnswer) → channel s p t o ≡ got a → P a
+  channel-left : isChannel (p .content) ≡ true → (a : OnBoth ReadAnswer) → channel s p t o ≡ got a → P a
   unfolding channel
-  channel-left a q =
+  channel-left is a q =
       let c = check-got _ _ _ _ q in
       let g = check-got _ _ _ _ (c .1) in
       ⊎-elim
-      (λ v. let (x, r, e) = then-got _ _ _ (v .1) in subst P (got-got _ _ e) (h .flushes x r))
+      (λ v. let (x, r, e) = then-got _ _ _ (v .1) in subst P (got-got _ _ e) (h .flushes is x r))
       (λ v. subst P (got-got _ _ (v .1)) (h .other))
       (pick-got _ _ _ _ (g .1))
 
@@ -88,7 +88,7 @@ module _ (life : ℕ) (s : Settings) (p : Fields) (t o : List ℕ) (P : OnBoth R
       (λ v. subst P (got-got _ _ (v .1)) (h .onward))
       (λ v.
       ⊎-elim
-      (λ w. channel-left a (w .1))
+      (λ w. channel-left (w .0) a (w .1))
       (λ w. delivery-left (n .0) (i .0) a (w .1))
       (pick-got _ _ _ _ (v .1)))
       (pick-got _ _ _ _ (i .1))
@@ -96,7 +96,7 @@ module _ (life : ℕ) (s : Settings) (p : Fields) (t o : List ℕ) (P : OnBoth R
 -- the outcome of the call: refused, or one of those
 module _ (life : ℕ) (s : Settings) (fields : Result Fields) (t o : List ℕ) (P : OnBoth ReadAnswer → Type 0)
     (h : (p : Fields) → settingsGood s ≡ true → tableGood t ≡ true → fields ≡ got p → Holds life s p t o P) where
-  reading-left : (a : OnBoth ReadAnswer) → reading life s fields t o ≡ got a → P a
+  pub reading-left : (a : OnBoth ReadAnswer) → reading life s fields t o ≡ got a → P a
   unfolding reading
   reading-left a q =
       let c = check-got _ _ _ _ q in
@@ -104,13 +104,13 @@ module _ (life : ℕ) (s : Settings) (fields : Result Fields) (t o : List ℕ) (
       let (p, r, k) = then-got _ _ _ (d .1) in
       acted-left life s p t o P (h p (c .0) (d .0) r) a k
 
-settled-left : {A : Type 0} (P : A → Type 0) (leave : ℕ → A) (r : Result A) → ((n : ℕ) → P (leave n)) → ((a : A) → r ≡ got a → P a) → P (settled leave r)
+pub settled-left : {A : Type 0} (P : A → Type 0) (leave : ℕ → A) (r : Result A) → ((n : ℕ) → P (leave n)) → ((a : A) → r ≡ got a → P a) → P (settled leave r)
 unfolding settled
 settled-left P leave (refused n) f g = f n
 settled-left P leave (got a) f g = g a refl
 
 -- two answers that differ make any two numbers equal
-apart : {C : Type 0} → _≡_ {A = ℕ} 0 1 → C
+pub apart : {C : Type 0} → _≡_ {A = ℕ} 0 1 → C
 apart e = absurd (omega arith)
 
 count-same : (a b : ℕ) → Flushed a ≡ Flushed b → a ≡ b
@@ -125,7 +125,7 @@ not-refused : (life : ℕ) (s : Settings) (p : Fields) (t o : List ℕ) (n : ℕ
 not-refused life s p t o n = record {
   onward = λ e. (refl, refl);
   other = λ e. (refl, refl);
-  flushes = λ c q e. let z : _≡_ {A = ℕ} 0 1 = cc in absurd (omega arith);
+  flushes = λ is c q e. let z : _≡_ {A = ℕ} 0 1 = cc in absurd (omega arith);
   delivers = λ a b e. let z : _≡_ {A = ℕ} 0 1 = cc in absurd (omega arith);
 }
 
@@ -195,7 +195,7 @@ keeps-unique : (life : ℕ) (s : Settings) (p : Fields) (t o : List ℕ) → lif
 keeps-unique life s p t o small set g u = record {
   onward = u;
   other = u;
-  flushes = λ c q. clearing-unique (ingressOf (p .header)) (channelPayload (p .content)) t c q u;
+  flushes = λ is c q. clearing-unique (ingressOf (p .header)) (channelPayload (p .content)) t c q u;
   delivers = λ n i. learning-unique (learnedEntry life s p) (learned-sound life s p small set g n i) t u;
 }
 
@@ -217,7 +217,7 @@ reading-leaves-alone s f t o =
     record {
       onward = same;
       other = same;
-      flushes = λ c r. clearing-leaves-alone (ingressOf (p .header)) (channelPayload (p .content)) t c r;
+      flushes = λ is c r. clearing-leaves-alone (ingressOf (p .header)) (channelPayload (p .content)) t c r;
       delivers = λ n i. learning-leaves-alone (learnedEntry defaultLife s p) t;
     }))
   where
@@ -258,7 +258,7 @@ read-flush-exact s f t o n =
     record {
       onward = λ e. apart cc;
       other = λ e. apart cc;
-      flushes = λ c r e. (subst (FlushRead s f t (c .table)) (count-same _ _ e) (flush-read s f t p c q d r), refl);
+      flushes = λ is c r e. (subst (FlushRead s f t (c .table)) (count-same _ _ e) (flush-read s f t p c q d r), refl);
       delivers = λ a b e. apart cc;
     }))
 
@@ -273,6 +273,6 @@ read-fits s f t o =
     record {
       onward = tt;
       other = tt;
-      flushes = λ c r. tt;
+      flushes = λ is c r. tt;
       delivers = λ n i. label-fits (labelRead (p .label)) (parts-label p (parsed-good s f p q));
     }))

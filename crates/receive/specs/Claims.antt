@@ -1,6 +1,6 @@
 -- What holds of reading.
 -- Assumes nothing.
-use Prim.Native.Nat.{ℕ, _<_}
+use Prim.Native.Nat.{ℕ, _+_, _<_, _≤_}
 use mathlib.Core.List.{List}
 use mathlib.Core.Path.{_≡_}
 use lib.ListN.{length}
@@ -10,11 +10,12 @@ use Rattle.table.specs.Slots.{slotsOf}
 use Rattle.table.specs.Claims.{Unique, LeavesAlone}
 use Rattle.flush.specs.Payload.{everyType, Payload, payloadOf}
 use Rattle.flush.specs.Flush.{flushed}
+use Rattle.flush.specs.Padding.{padded}
 use Rattle.flush.specs.Claims.{learnedThenFree, SlotFacts}
 use Rattle.flush.specs.declared.FlushAnswer.the-variants as flush
 use Rattle.frame.specs.Header.{ingressOf}
 use Rattle.frame.specs.Fields.{Fields}
-use Rattle.frame.specs.Formats.{parsed}
+use Rattle.frame.specs.Formats.{longestFrame, parsed}
 use Rattle.frame.specs.declared.Settings.{Settings}
 use Rattle.receive.specs.Deciding.{channelPayload}
 use Rattle.receive.specs.Receive.{received}
@@ -53,3 +54,9 @@ pub record FlushRead (s : Settings) (f t u : List ℕ) (n : ℕ) : Type 0 where
 abbrev pub ReadFlushExact : Type 0
 ReadFlushExact =
     (s : Settings) (f t o : List ℕ) (n : ℕ) → received s f t o .answer ≡ Flushed n → FlushRead s f t (received s f t o .table) n × (received s f t o .out ≡ o)
+
+-- 2026-02: a frame that carries out a flush, padded by n zero bytes to a length that a frame may have, answers and leaves what the frame
+-- without padding does, in either format
+abbrev pub PaddedRead : Type 0
+PaddedRead =
+    (s : Settings) (f t o : List ℕ) (k n : ℕ) → received s f t o .answer ≡ Flushed k → length f + n ≤ longestFrame → received s (padded n f) t o ≡ received s f t o

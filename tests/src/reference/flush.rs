@@ -85,8 +85,9 @@ fn read_payload(ingress: u32, payload: &[u8]) -> Result<Meant, Refusal> {
         // meant."
         vlan_blocks(&mut meant, take(&mut rest, 4 * blocks)?);
     } else {
-        // "K-VLBs 0: TLVs to the end, type 1 byte, length 1 byte."
-        while !rest.is_empty() {
+        // "K-VLBs 0: TLVs to the end, type 1 byte, length 1 byte." Document 02, 2026-02: "a lone
+        // last byte of zero is padding; any other stays 15".
+        while !rest.is_empty() && rest != [0] {
             let kind = take_byte(&mut rest)?;
             let length = usize::from(take_byte(&mut rest)?);
             let value = take(&mut rest, length)?;

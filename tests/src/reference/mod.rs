@@ -17,10 +17,10 @@ mod table;
 pub use convert::{compact, expand, send};
 pub use flush::flush;
 pub use frame::{front, read_general, Fields, Front};
-pub use receive::receive;
+pub use receive::{receive, receive_with};
 pub use record::{read, write, Entry, Label, Record, RECORD};
 pub use refusal::Refusal;
-pub use settings::Settings;
+pub use settings::{Settings, DEFAULT_LIFE, OLD_LIFE};
 pub use table::{age, lookup, spoilt};
 
 /// "Numbers are most significant byte first."

@@ -8,7 +8,7 @@ use super::frame::{
 };
 use super::record::Entry;
 use super::refusal::Refusal;
-use super::settings::{Port, Settings};
+use super::settings::{Port, Settings, DEFAULT_LIFE};
 use super::table::{check_length as check_table_length, learn};
 use super::{is_group, is_nickname, number};
 
@@ -19,7 +19,22 @@ const ALL_EGRESS_RBRIDGES: u64 = 0x0180_C200_0042;
 const ADDRESS_FLUSH: u64 = 0x009;
 
 pub fn receive(settings: &Settings, frame: &[u8], table: &mut [u8], out: &mut [u8]) -> u64 {
-    word(received(settings, frame, table, out))
+    receive_with(DEFAULT_LIFE, settings, frame, table, out)
+}
+
+/// Reading with another default of the learning seconds.
+pub fn receive_with(
+    life: u16,
+    settings: &Settings,
+    frame: &[u8],
+    table: &mut [u8],
+    out: &mut [u8],
+) -> u64 {
+    word(
+        settings
+            .check_with(life)
+            .and_then(|port| received(&port, frame, table, out)),
+    )
 }
 
 /// "Order: 1, 2, 3, 5; then the fields from left to right, with 6, 4, 7, 12, 10 at the field where
@@ -27,12 +42,11 @@ pub fn receive(settings: &Settings, frame: &[u8], table: &mut [u8], out: &mut [u
 /// where the four bytes after 8946 are cut; 14, 15, 16." "A refusal returns the number only and
 /// changes nothing."
 fn received(
-    settings: &Settings,
+    port: &Port,
     frame: &[u8],
     table: &mut [u8],
     out: &mut [u8],
 ) -> Result<Received, Refusal> {
-    let port = settings.check()?;
     check_table_length(table)?;
     check_frame_length(frame.len())?;
     // "Anything else is Compact if the port has it on, else refusal 5."
@@ -62,9 +76,9 @@ fn received(
     }
     let (ethertype, rest) = fields.content.split_at(fields.content.len().min(2));
     if number(ethertype) == CHANNEL {
-        channel(&port, &fields, rest, table)
+        channel(port, &fields, rest, table)
     } else {
-        deliver(&port, &fields, table, out)
+        deliver(port, &fields, table, out)
     }
 }
 

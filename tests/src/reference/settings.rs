@@ -3,6 +3,12 @@
 use super::refusal::Refusal;
 use super::{is_group, is_nickname};
 
+/// Document 02, 2026-10: "Learning seconds 0 shall mean 1,200 instead of 300."
+pub const DEFAULT_LIFE: u16 = 1200;
+
+/// What 0 meant before, for "a port passing 300 behaves after the change as one passing 0 did before".
+pub const OLD_LIFE: u16 = 300;
+
 /// The settings as the C boundary passes them: any numbers.
 #[derive(Clone, Copy, Debug, PartialEq, Eq)]
 pub struct Settings {
@@ -40,6 +46,11 @@ pub fn check_outer_source(address: u64) -> Result<u64, Refusal> {
 
 impl Settings {
     pub fn check(&self) -> Result<Port, Refusal> {
+        self.check_with(DEFAULT_LIFE)
+    }
+
+    /// The same with another default of the learning seconds.
+    pub fn check_with(&self, life: u16) -> Result<Port, Refusal> {
         // "Port address and own inner address (individual addresses, different)"
         let addresses =
             is_individual(self.port) && is_individual(self.inner) && self.port != self.inner;
@@ -49,9 +60,9 @@ impl Settings {
         let compact = self.compact <= 1;
         // "learning confidence 0 to 255"
         let confidence = self.confidence <= 255;
-        // "learning seconds 10 to 8191, or 0 for the default 300"
+        // "learning seconds 10 to 8191, or 0 for the default"
         let seconds = match self.seconds {
-            0 => Some(300),
+            0 => Some(life),
             10..=8191 => Some(self.seconds as u16),
             _ => None,
         };

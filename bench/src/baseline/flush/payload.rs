@@ -94,7 +94,8 @@ fn types(mut tlvs: &[u8]) -> Option<u16> {
         }
         types |= 1_u16.checked_shl(u32::from(*kind)).unwrap_or(0) & NAMING;
     }
-    (tlvs.is_empty() && types & CORRUPT == 0).then_some(types)
+    // A lone last zero is padding.
+    (matches!(tlvs, [] | [0]) && types & CORRUPT == 0).then_some(types)
 }
 
 /// The types that name something, a bit each.

@@ -5,7 +5,7 @@ use native.Mathlib.Omega.{arith}
 use lib.ListN.{length, getD}
 use Rattle.table.specs.Slots.{mostSlots}
 use Rattle.flush_keys.proofs.Fields.{slot-room, slot-few}
-use Rattle.flush_keys.proofs.Marking.{Joining, without, joining-start, without-none, without-next, joining-done}
+use Rattle.flush_keys.proofs.Marking.{Joining, without, joining-start, without-none, without-passed, without-added, joining-done}
 use borrow.Author.Needs.{needs}
 use Rattle.flush_keys.proofs.keep_others.Statement.{statement}
 use Rattle.flush_keys.proofs.keep_others.Tie as tie
@@ -27,16 +27,19 @@ loop-holds : tie.Need-loop-holds Inv-loop μ-loop
 loop-holds c = search joining-start
 
 mul-applies-at : tie.Need-mul-applies-at Inv-loop μ-loop
-mul-applies-at c = let l = slot (c .before) in omega arith
+mul-applies-at c = let l = slot c in omega arith
 
 applies-at-requires : tie.Need-applies-at-requires Inv-loop μ-loop
 applies-at-requires c κs = search slot-room
 
-add-if-requires : tie.Need-add-if-requires Inv-loop μ-loop
-add-if-requires c κs = let l = slot (c .before .before) in (search needs, omega arith)
-
 loop-again : tie.Need-loop-again Inv-loop μ-loop
-loop-again c = search without-next
+loop-again c = search without-passed
+
+add-if-requires : tie.Need-add-if-requires Inv-loop μ-loop
+add-if-requires c κs = let l = slot (c .before .before .before) in (search needs, omega arith)
+
+loop-again-2 : tie.Need-loop-again-2 Inv-loop μ-loop
+loop-again-2 c = search without-added
 
 returns-2 : tie.Need-returns-2 Inv-loop μ-loop
 returns-2 c = search joining-done
@@ -55,9 +58,12 @@ keep-others-spec =
     (λ c. search needs)
     mul-applies-at
     applies-at-requires
-    add-if-requires
     (λ c. search needs)
     (λ c. search needs)
     loop-again
+    add-if-requires
+    (λ c. search needs)
+    (λ c. search needs)
+    loop-again-2
     (λ c. search needs)
     returns-2)

@@ -5,7 +5,7 @@ use Prim.Native.Nat.{_-_}
 use lib.ListN.{length}
 use borrow.Author.Tests.{not-true, not-false}
 use Rattle.flush.specs.Payload.{typesOf}
-use Rattle.flush_payload.proofs.Judging.{Walked, walk-start, walk-done, walk-cut, walk-skip, walk-bad, walk-next, walk-passed}
+use Rattle.flush_payload.proofs.Judging.{Walked, walk-start, walk-done, walk-padding, walk-cut, walk-skip, walk-bad, walk-next, walk-passed}
 use borrow.Author.Needs.{needs}
 use Rattle.flush_payload.proofs.judge_tlvs.Statement.{statement}
 use Rattle.flush_payload.proofs.judge_tlvs.Tie as tie
@@ -20,10 +20,13 @@ loop-holds : tie.Need-loop-holds Inv-loop μ-loop
 loop-holds c = search walk-start
 
 returns : tie.Need-returns Inv-loop μ-loop
-returns c = search walk-cut
+returns c = search walk-padding
 
 returns-2 : tie.Need-returns-2 Inv-loop μ-loop
-returns-2 c = search (walk-bad, not-true)
+returns-2 c = search walk-cut
+
+returns-3 : tie.Need-returns-3 Inv-loop μ-loop
+returns-3 c = search (walk-bad, not-true)
 
 loop-again : tie.Need-loop-again Inv-loop μ-loop
 loop-again c = search (walk-next, not-false)
@@ -31,8 +34,8 @@ loop-again c = search (walk-next, not-false)
 loop-again-2 : tie.Need-loop-again-2 Inv-loop μ-loop
 loop-again-2 c = search (walk-passed, walk-skip)
 
-returns-3 : tie.Need-returns-3 Inv-loop μ-loop
-returns-3 c = search walk-done
+returns-4 : tie.Need-returns-4 Inv-loop μ-loop
+returns-4 c = search walk-done
 
 pub judge-tlvs-spec : {M : Type 1} → statement M
 judge-tlvs-spec =
@@ -43,17 +46,19 @@ judge-tlvs-spec =
     (λ c κs. search needs)
     loop-holds
     (λ c κs. search needs)
+    (λ c κs. search needs)
     returns
-    (λ c. search needs)
-    (λ c κs. search needs)
-    (λ c. search needs)
-    (λ c. search needs)
-    (λ c κs. search needs)
     returns-2
+    (λ c. search needs)
+    (λ c κs. search needs)
+    (λ c. search needs)
+    (λ c. search needs)
+    (λ c κs. search needs)
+    returns-3
     (λ c κs. search needs)
     (λ c. search needs)
     loop-again
     (λ c κs. search needs)
     (λ c. search needs)
     loop-again-2
-    returns-3)
+    returns-4)
