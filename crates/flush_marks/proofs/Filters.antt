@@ -7,14 +7,13 @@ use mathlib.Core.Path.{_≡_, refl, sym, ap, _∙_}
 use native.Mathlib.Decide.{ℕ-discrete}
 use native.Mathlib.Omega.{arith}
 use lib.ListN.{length, drop}
-use borrow.Author.Tests.{eq-eqb, ne-eqb}
-use Rattle.numbers.specs.Tests.{both, either}
+use Rattle.numbers.specs.Tests.{both}
 use Rattle.numbers.specs.Numberings.{bitAt}
 use Rattle.numbers.proofs.Truth.{both-left, both-right}
 use Rattle.table.specs.Slots.{slotBytes, slotsOf, slotAt}
 use Rattle.table.proofs.Slots.{Local}
-use Rattle.flush_sort.proofs.Laws.{either-none}
-use Rattle.flush_marks.specs.Marks.{markBytes, Unmarked, Widened, NoMarks, MarkedTo, Filtered, Chosen}
+use Rattle.flush_bits.specs.Ranged.{Ranged}
+use Rattle.flush_marks.specs.Marks.{markBytes, Unmarked, NoMarks, MarkedTo, Filtered, Chosen}
 
 both-all : (a b : Bool) → b ≡ true → both a b ≡ a
 unfolding both
@@ -44,20 +43,6 @@ module _ (test : List ℕ → Bool) (near : Local test) (from : ℕ) (t : List �
       tells : test (slotAt i t) ≡ b
       tells = near (drop (slotBytes * i) t) ∙ sym here
 
-      -- one slot more
-      pub mark-next : (more : List ℕ) → Widened m more i b → MarkedTo test from t (i + 1) more
-      unfolding either both
-      mark-next more w = record {
-        long = w .long ∙ so-far .long;
-        inside = λ k a c. go k a c (ℕ-discrete k i);
-        below = λ k a. w .each k ∙ rw (ne-eqb k i (λ q. omega arith), so-far .below k a);
-        above = λ k a. w .each k ∙ rw (ne-eqb k i (λ q. omega arith), so-far .above k (omega arith));
-      }
-        where
-          go : (k : ℕ) → from ≤ k → k < i + 1 → Dec (k ≡ i) → bitAt k more ≡ test (slotAt k t)
-          go k a c (yes q) = rw q (w .each i ∙ rw (eq-eqb i i refl, so-far .above i (omega arith)) (sym tells))
-          go k a c (no d) = w .each k ∙ rw (ne-eqb k i d, so-far .inside k a (omega arith)) (either-none (test (slotAt k t)))
-
       pub mark-miss : b ≡ false → MarkedTo test from t (i + 1) m
       mark-miss miss = record {
         long = so-far .long;
@@ -69,6 +54,18 @@ module _ (test : List ℕ → Bool) (near : Local test) (from : ℕ) (t : List �
           go : (k : ℕ) → from ≤ k → k < i + 1 → Dec (k ≡ i) → bitAt k m ≡ test (slotAt k t)
           go k a c (yes q) = rw q (so-far .above i (omega arith) ∙ sym (tells ∙ miss))
           go k a c (no d) = so-far .inside k a (omega arith)
+
+      pub mark-hit : b ≡ true → (more : List ℕ) → Ranged m more i (i + 1) → MarkedTo test from t (i + 1) more
+      mark-hit hit more r = record {
+        long = r .long ∙ so-far .long;
+        inside = λ k a c. go k a c (ℕ-discrete k i);
+        below = λ k a. r .below k (omega arith) ∙ so-far .below k a;
+        above = λ k a. r .above k a ∙ so-far .above k (omega arith);
+      }
+        where
+          go : (k : ℕ) → from ≤ k → k < i + 1 → Dec (k ≡ i) → bitAt k more ≡ test (slotAt k t)
+          go k a c (yes q) = rw q (r .inside i (omega arith) (omega arith) ∙ sym (tells ∙ hit))
+          go k a c (no d) = r .below k (omega arith) ∙ so-far .inside k a (omega arith)
 
 -- ---- filters in a row
 

@@ -27,12 +27,12 @@ use Rattle.flush.specs.Meaning.{nicknameMeant, labelMeant}
 use Rattle.flush_sets.specs.Gains.{Gains, None, inNicknames}
 use Rattle.flush_sets.proofs.Adding.{single-listed}
 use Rattle.flush_payload.specs.declared.Kinds.{Kinds}
-use Rattle.flush_vlans.specs.Vlans.{VlansTold}
+use Rattle.flush_vlans.specs.Vlans.{VlansMeant}
 use Rattle.flush_bits.specs.Ranged.{maskOf, Ranged}
 use Rattle.flush_bits.proofs.Laws.{every, every-at, part-added}
 use Rattle.flush_marks.specs.Marks.{markBytes, NoMarks, Chosen}
-use Rattle.flush.proofs.Lists.{false-true}
 use Rattle.flush_marks.specs.Filters.{slotNamed}
+use Rattle.flush_marks.proofs.Bits.{both-all}
 use Rattle.flush_marks.proofs.Filters.{chosen-same}
 use Rattle.flush_nicknames.specs.First.{NicknamesAre, kindMeant, slotFirst, labelPart, slotMarked, slotNames, fineNoted, FirstNamed}
 use Rattle.flush_nicknames.specs.declared.Nicknames.{Nicknames}
@@ -60,26 +60,44 @@ module _ (vlans : List ℕ) (fine : Bool) (r : List ℕ) where
   pub part-told : (k : ℕ) → k ≡ kindOf (recordOf r) → (x : ℕ) → x ≡ labelOf (recordOf r) → (h : Bool) → h ≡ bitAt (x % 4096) vlans → (eqb k 0 && h) || (not (eqb k 0) && fine) ≡ labelPart vlans fine r
   part-told k e x f h g = part-case (eqb k 0) (rw e) h (g ∙ rw f)
 
-  -- the three tests at once
-  pub by-tests : (p : ℕ → Bool) (c : Bool) → c ≡ p (nicknameOf (recordOf r)) → (a : Bool) → a ≡ labelPart vlans fine r → (b : Bool) → b ≡ isLearned (unpacked r) → b && (c && a) ≡ slotMarked p vlans fine r
-  unfolding slotMarked slotNamed both
-  by-tests p c told a part b learned = rw (← told, ← part, ← learned) (three b c a)
-    where
-      three : (b c a : Bool) → b && (c && a) ≡ both (both b c) a
-      three true true a = refl
-      three true false a = refl
-      three false c a = refl
+  module _ (p : ℕ → Bool) where
+    pub other-nickname : p (nicknameOf (recordOf r)) ≡ false → false ≡ slotMarked p vlans fine r
+    unfolding slotMarked slotNamed
+    other-nickname h = sym (both-left _ _ (both-right (isLearned (unpacked r)) _ h))
 
-  pub by-single : (one x : ℕ) → x ≡ nicknameOf (recordOf r) → (a : Bool) → a ≡ labelPart vlans fine r → (b : Bool) → b ≡ isLearned (unpacked r) → b && (eqb x one && a) ≡ slotMarked (λ x. eqb x one) vlans fine r
-  by-single one x field a part b learned = by-tests (λ x. eqb x one) (eqb x one) (rw field) a part b learned
+    pub other-label : (a : Bool) → a ≡ labelPart vlans fine r → a ≡ false → false ≡ slotMarked p vlans fine r
+    unfolding slotMarked
+    other-label a e h = sym (both-right (slotNamed p r) _ (sym e ∙ h))
 
-  pub by-list : (names : List ℕ) (x : ℕ) → x ≡ nicknameOf (recordOf r) → (c : Bool) → c ≡ bitAt x names → (a : Bool) → a ≡ labelPart vlans fine r → (b : Bool) → b ≡ isLearned (unpacked r) → b && (c && a) ≡ slotMarked (λ x. bitAt x names) vlans fine r
-  by-list names x field c told a part b learned = by-tests (λ x. bitAt x names) c (told ∙ rw field) a part b learned
+    that-nickname : p (nicknameOf (recordOf r)) ≡ true → (a : Bool) → a ≡ labelPart vlans fine r → a ≡ true → (b : Bool) → b ≡ isLearned (unpacked r) → b ≡ slotMarked p vlans fine r
+    unfolding slotMarked slotNamed
+    that-nickname h a e t b f = f ∙ rw (h, ← e, t) (sym (both-all (both (isLearned (unpacked r)) true) ∙ both-all (isLearned (unpacked r))))
 
-  -- another nickname
-  pub other-named : (p : ℕ → Bool) → slotNames p r ≡ false → false ≡ slotMarked p vlans fine r
-  unfolding slotMarked slotNamed slotNames
-  other-named p h = sym (both-left _ _ (both-right (isLearned (unpacked r)) _ h))
+  -- one nickname: another byte, another nickname, or this one
+  module _ (one : ℕ) where
+    pub not-middle : (m : ℕ) → m ≡ nicknameOf (recordOf r) / 2 ^ 3 % 2 ^ 8 → (m ≡ one / 8 % 256 → ⊥) → false ≡ slotMarked (λ x. eqb x one) vlans fine r
+    not-middle m field h = other-nickname (λ x. eqb x one) (ne-eqb (nicknameOf (recordOf r)) one (λ e. h (field ∙ ap (λ (x : ℕ). x / 8 % 256) e)))
+
+    pub not-single : (x : ℕ) → x ≡ nicknameOf (recordOf r) → (x ≡ one → ⊥) → false ≡ slotMarked (λ x. eqb x one) vlans fine r
+    not-single x field h = other-nickname (λ x. eqb x one) (ne-eqb (nicknameOf (recordOf r)) one (λ e. h (field ∙ e)))
+
+    pub by-single : (x : ℕ) → x ≡ nicknameOf (recordOf r) → x ≡ one → (a : Bool) → a ≡ labelPart vlans fine r → a ≡ true → (b : Bool) → b ≡ isLearned (unpacked r) → b ≡ slotMarked (λ x. eqb x one) vlans fine r
+    by-single x field same a e t b f = that-nickname (λ x. eqb x one) (eq-eqb (nicknameOf (recordOf r)) one (sym field ∙ same)) a e t b f
+
+  -- a set of them: no nickname of the byte, another nickname, or one of the set
+  module _ (names : List ℕ) where
+    pub not-byte : (h : ℕ) → h ≡ nicknameOf (recordOf r) / 2 ^ 3 → (b : Bool) → (b ≡ true → (x : ℕ) → h ≡ x / 8 → bitAt x names ≡ false) → b ≡ true → false ≡ slotMarked (λ x. bitAt x names) vlans fine r
+    not-byte h field b none e = other-nickname (λ x. bitAt x names) (none e (nicknameOf (recordOf r)) field)
+
+    module _ (x : ℕ) (field : x ≡ nicknameOf (recordOf r)) (c : Bool) (told : c ≡ bitAt x names) where
+      here : bitAt (nicknameOf (recordOf r)) names ≡ c
+      here = sym (told ∙ ap (λ (n : ℕ). bitAt n names) field)
+
+      pub not-listed : c ≡ false → false ≡ slotMarked (λ x. bitAt x names) vlans fine r
+      not-listed h = other-nickname (λ x. bitAt x names) (here ∙ h)
+
+      pub by-list : c ≡ true → (a : Bool) → a ≡ labelPart vlans fine r → a ≡ true → (b : Bool) → b ≡ isLearned (unpacked r) → b ≡ slotMarked (λ x. bitAt x names) vlans fine r
+      by-list h a e t b f = that-nickname (λ x. bitAt x names) (here ∙ h) a e t b f
 
 -- ---- the search for the first nickname
 
@@ -87,9 +105,6 @@ module _ (r : List ℕ) where
   pub names-middle : (one m : ℕ) → m ≡ nicknameOf (recordOf r) / 2 ^ 3 % 2 ^ 8 → (m ≡ one / 8 % 256 → ⊥) → false ≡ slotNames (λ x. eqb x one) r
   unfolding slotNames
   names-middle one m field h = sym (ne-eqb (nicknameOf (recordOf r)) one (λ e. h (field ∙ ap (λ (x : ℕ). x / 8 % 256) e)))
-
-  pub near-middle : (one m : ℕ) → m ≡ nicknameOf (recordOf r) / 2 ^ 3 % 2 ^ 8 → eqb m (one / 8 % 256) ≡ false → slotNames (λ x. eqb x one) r ≡ false
-  near-middle one m field h = sym (names-middle one m field (λ e. false-true (sym h ∙ eq-eqb m (one / 8 % 256) e)))
 
   pub names-single : (one x : ℕ) → x ≡ nicknameOf (recordOf r) → eqb x one ≡ slotNames (λ x. eqb x one) r
   unfolding slotNames
@@ -142,7 +157,7 @@ learned-vlan n e h =
     let b = between-is _ _ (labelOf n) vlan in
     omega arith
 
-module _ (ps : List Piece) (vlans : List ℕ) (told : VlansTold ps vlans) (fine : Bool) (r : List ℕ) where
+module _ (ps : List Piece) (vlans : List ℕ) (told : VlansMeant ps vlans) (fine : Bool) (r : List ℕ) where
   same-label : isLearned (unpacked r) ≡ true → (b : Bool) → eqb (kindOf (recordOf r)) 0 ≡ b → labelPart vlans fine r ≡ kindMeant ps fine r
   unfolding labelPart kindMeant pick unpacked
   same-label l true e =
@@ -173,7 +188,7 @@ module _ (p q : ℕ → Bool) (same : (x : ℕ) → x < 2 ^ 16 → p x ≡ q x) 
   }
 
   -- else those from the first on are marked
-  pub marked-first : (vlans : List ℕ) → VlansTold ps vlans → (m : List ℕ) → Chosen (slotMarked p vlans (f .every || (f .lists || f .maps))) k (from + count - k) t m → Chosen (slotFirst q ps (fineNoted f)) from count t m
+  pub marked-first : (vlans : List ℕ) → VlansMeant ps vlans → (m : List ℕ) → Chosen (slotMarked p vlans (f .every || (f .lists || f .maps))) k (from + count - k) t m → Chosen (slotFirst q ps (fineNoted f)) from count t m
   marked-first vlans told m c =
       let a = first .behind in
       let b = first .within in

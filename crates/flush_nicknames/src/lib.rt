@@ -1,7 +1,6 @@
 // The first pass of a flush over the slots of a range: those are marked that are learned, whose nickname is meant, and whose label is a
 // VLAN that is meant, or a fine-grained label where the message has some.
 ghost use Prim.Native.Nat.{ℕ, _+_, _-_, _*_, _/_, _^_, _<_, _≤_};
-ghost use mathlib.Core.Bool.{false};
 ghost use mathlib.Core.Path.{_≡_};
 ghost use lib.Dec.{eqb};
 ghost use lib.ListN.{length, drop};
@@ -118,40 +117,54 @@ fn label_passes(t: &[u8], at: usize, vlans: &[u8], fine: bool) -> bool
     (vlan & meant) | (!vlan & fine)
 }
 
-// Whether the byte of a nickname that decides most slots is that of the slot at an offset.
-fn near_single(t: &[u8], at: usize, one: u64) -> bool
-    requires { ⌜ at + recordBytes ≤ length (now t) ⌝ }
-    ensures { λ b. ⌜ (b ≡ false → slotNames (λ x. eqb x one) (drop at (now (t .entry))) ≡ false) ⌝ }
-{
-    table_fields::nickname_middle_at(t, at) == one / 8 % 0x100
-}
-
-// Whether the slot at an offset is to be marked, by one nickname. There is no branch on the label: its kind cannot be foreseen.
+// Whether the slot at an offset is to be marked, by one nickname. One byte of it decides most slots, and then the label.
 fn single_at(t: &[u8], at: usize, one: u64, vlans: &[u8], fine: bool) -> bool
     requires { ⌜ (at + recordBytes ≤ length (now t)) × (length (now vlans) ≡ vlanBytes) ⌝ }
     ensures { λ b. ⌜ b ≡ slotMarked (λ x. eqb x one) (now (vlans .entry)) fine (drop at (now (t .entry))) ⌝ }
 {
-    let named = table_fields::nickname_at(t, at) == one;
-    let passes = label_passes(t, at, vlans, fine);
-    table_states::learned_at(t, at) & (named & passes)
+    if table_fields::nickname_middle_at(t, at) != one / 8 % 0x100 {
+        return false;
+    }
+    if !label_passes(t, at, vlans, fine) {
+        return false;
+    }
+    if table_fields::nickname_at(t, at) != one {
+        return false;
+    }
+    table_states::learned_at(t, at)
 }
 
-// Whether the set has a nickname in the byte that decides most slots.
-fn near_listed(t: &[u8], at: usize, names: &[u8]) -> bool
-    requires { ⌜ (at + recordBytes ≤ length (now t)) × (length (now names) ≡ nameBytes) ⌝ }
-    ensures { λ b. ⌜ (b ≡ false → slotNames (λ x. bitAt x (now (names .entry))) (drop at (now (t .entry))) ≡ false) ⌝ }
-{
-    !flush_bits::none_at(names, table_fields::nickname_high_at(t, at))
-}
-
-// The same, by a set of nicknames.
+// The same, by a set of nicknames. One byte of the set decides most slots.
 fn listed_at(t: &[u8], at: usize, names: &[u8], vlans: &[u8], fine: bool) -> bool
     requires { ⌜ (at + recordBytes ≤ length (now t)) × ((length (now names) ≡ nameBytes) × (length (now vlans) ≡ vlanBytes)) ⌝ }
     ensures { λ b. ⌜ b ≡ slotMarked (λ x. bitAt x (now (names .entry))) (now (vlans .entry)) fine (drop at (now (t .entry))) ⌝ }
 {
-    let named = flush_bits::has(names, table_fields::nickname_at(t, at));
-    let passes = label_passes(t, at, vlans, fine);
-    table_states::learned_at(t, at) & (named & passes)
+    if flush_bits::none_at(names, table_fields::nickname_high_at(t, at)) {
+        return false;
+    }
+    if !label_passes(t, at, vlans, fine) {
+        return false;
+    }
+    if !flush_bits::has(names, table_fields::nickname_at(t, at)) {
+        return false;
+    }
+    table_states::learned_at(t, at)
+}
+
+// A byte with bit i alone.
+fn one_bit(i: usize) -> u8
+    requires { ⌜ i < 8 ⌝ }
+    ensures { λ r. ⌜ r ≡ 128 / 2 ^ i ⌝ }
+{
+    (128u64 >> i) as u8
+}
+
+// Marks a slot.
+fn add_mark(marks: &mut [u8], k: usize)
+    requires { ⌜ (length (now marks) ≡ markBytes) × (k < mostSlots) ⌝ }
+    ensures { λ _. ⌜ Ranged (now (marks .entry)) (now (marks .exit)) k (k + 1) ⌝ }
+{
+    flush_bits::add_byte(marks, k / 8, one_bit(k % 8));
 }
 
 // Marks the slots from slot `from` on, and before slot e, by one nickname.
@@ -169,8 +182,8 @@ fn mark_single(
 {
     let mut k = from;
     while k < e {
-        if near_single(table, SLOT_BYTES * k, one) {
-            flush_marks::add_if(marks, k, single_at(table, SLOT_BYTES * k, one, vlans, fine));
+        if single_at(table, SLOT_BYTES * k, one, vlans, fine) {
+            add_mark(marks, k);
             k += 1;
         } else {
             k += 1;
@@ -193,8 +206,8 @@ fn mark_listed(
 {
     let mut k = from;
     while k < e {
-        if near_listed(table, SLOT_BYTES * k, names) {
-            flush_marks::add_if(marks, k, listed_at(table, SLOT_BYTES * k, names, vlans, fine));
+        if listed_at(table, SLOT_BYTES * k, names, vlans, fine) {
+            add_mark(marks, k);
             k += 1;
         } else {
             k += 1;

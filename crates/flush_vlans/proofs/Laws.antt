@@ -23,7 +23,7 @@ use Rattle.flush_payload.specs.declared.Kinds.{Kinds}
 use Rattle.flush_payload.proofs.Laws.{of-tlvs, none-brought, blocks-vlan}
 use Rattle.flush_sets.specs.Gains.{Gains, None, inVlanBlock, inVlanBlocks, inVlanMap}
 use Rattle.flush_sets.proofs.Adding.{either-none, either-assoc, gains-none, gains-same}
-use Rattle.flush_vlans.specs.Vlans.{vlanBytes, vlansIn, vlansOf, VlansNoted, VlansTold}
+use Rattle.flush_vlans.specs.Vlans.{vlanBytes, vlansIn, vlansOf, VlansNoted, VlansMeant}
 
 -- ---- a TLV
 
@@ -153,14 +153,14 @@ module _ (n : ℕ) (r : List ℕ) (f : Kinds) (noted : VlansNoted (piecesOf n r)
       ∙ rw (← none-brought (ofKind everyType everyKind) n r some (λ b. refl))) g
 
   module _ (long : length s ≡ vlanBytes) (none : None s) where
-    pub set-every : f .every ≡ true → (t : List ℕ) → Ranged s t (8 * 0) (8 * 512) → VlansTold (piecesOf n r) t
+    pub set-every : f .every ≡ true → (t : List ℕ) → Ranged s t (8 * 0) (8 * 512) → VlansMeant (piecesOf n r) t
     unfolding either
     set-every e t g = record {
       long = g .long ∙ long;
       each = λ x few. g .inside x (omega arith) (omega arith) ∙ sym (sym (meant-is x (piecesOf n r)) ∙ rw (← noted .every, e));
     }
 
-    pub set-named : f .every ≡ false → (t : List ℕ) → Gains s t (vlansOf (piecesOf n r)) → VlansTold (piecesOf n r) t
+    pub set-named : f .every ≡ false → (t : List ℕ) → Gains s t (vlansOf (piecesOf n r)) → VlansMeant (piecesOf n r) t
     unfolding either
     set-named e t g = record {
       long = g .long ∙ long;

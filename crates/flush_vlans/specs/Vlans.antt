@@ -35,6 +35,6 @@ pub record VlansNoted (ps : List Piece) (f : Kinds) : Type 0 where
   pub vlans : f .vlans ≡ anyOf (ofKind everyType vlanKind) ps
 
 -- a VLAN is meant exactly if the set has it
-pub record VlansTold (ps : List Piece) (s : List ℕ) : Type 0 where
+pub record VlansMeant (ps : List Piece) (s : List ℕ) : Type 0 where
   pub long : length s ≡ vlanBytes
   pub each : (x : ℕ) → x < 4096 → bitAt x s ≡ labelMeant everyType ps (Vlan x)

@@ -4,7 +4,7 @@ ghost use mathlib.Core.Path.{_≡_};
 ghost use lib.ListN.{length};
 ghost use Rattle.flush.specs.Payload.{tlv, tlvs, blockBytes, piecesOf};
 ghost use Rattle.flush_sets.specs.Gains.{Gains, None};
-ghost use Rattle.flush_vlans.specs.Vlans.{vlanBytes, vlansIn, vlansOf, VlansNoted, VlansTold};
+ghost use Rattle.flush_vlans.specs.Vlans.{vlanBytes, vlansIn, vlansOf, VlansNoted, VlansMeant};
 use flush_payload::Kinds;
 
 // A bit for each VLAN.
@@ -59,7 +59,7 @@ fn add_named(rest: &[u8], f: Kinds, s: &mut [u8])
 // The VLANs meant: all of them, or those that the message names.
 pub fn vlan_set(rest: &[u8], f: Kinds, s: &mut [u8])
     requires { ⌜ ((blockBytes * f .blocks ≤ length (now rest)) × VlansNoted (piecesOf (f .blocks) (now rest)) f) × ((length (now s) ≡ vlanBytes) × None (now s)) ⌝ }
-    ensures { λ _. ⌜ VlansTold (piecesOf (f .blocks) (now (rest .entry))) (now (s .exit)) ⌝ }
+    ensures { λ _. ⌜ VlansMeant (piecesOf (f .blocks) (now (rest .entry))) (now (s .exit)) ⌝ }
 {
     if f.every {
         flush_bits::fill(s, 0, VLAN_BYTES);
