@@ -52,7 +52,7 @@
  * Measured on x86-64: tests/c/stack.c paints the stack of a thread, makes the calls that take most, and
  * fails where one takes more. What the dynamic loader takes when it binds memmove and memset, about
  * 3,000 bytes, is counted. */
-#define SHINGLEBAR_STACK_MAX 88064
+#define SHINGLEBAR_STACK_MAX 98304
 #define SHINGLEBAR_STACK_MAX_WITHOUT_FLUSH 4096
 
 /* The refusal numbers. shinglebar_refusal_string has the words. */

@@ -28,8 +28,6 @@ const FEW: usize = 64;
 
 const SOME: usize = 512;
 
-const MORE: usize = 1280;
-
 // How a message names the numbers of a field.
 fn naming_of(field: Field) -> Naming
     ensures { λ r. ⌜ (r ≡ namingOf field) × Narrow (r .numbering) ⌝ }
@@ -166,19 +164,6 @@ fn keep_some(table: &[u8], rest: &[u8], field: Field, marks: &mut [u8])
     keep_many(table, rest, field, marks);
 }
 
-// In areas for more.
-fn keep_more(table: &[u8], rest: &[u8], field: Field, marks: &mut [u8])
-    requires { ⌜ Filtering (now table) (now marks) ⌝ }
-    ensures { λ _. ⌜ Filtered (slotPasses field (tlvs (now (rest .entry)))) (now (table .entry)) (now (marks .entry)) (now (marks .exit)) ⌝ }
-{
-    let mut slots = [0u64; MORE];
-    let mut keys = [0u64; MORE];
-    if keep_in(table, rest, field, &mut slots, &mut keys, marks) {
-        return;
-    }
-    keep_many(table, rest, field, marks);
-}
-
 // Of the marked slots those stay marked that pass.
 fn keep(table: &[u8], rest: &[u8], field: Field, marks: &mut [u8])
     requires { ⌜ Filtering (now table) (now marks) ⌝ }
@@ -191,10 +176,6 @@ fn keep(table: &[u8], rest: &[u8], field: Field, marks: &mut [u8])
     }
     if n <= SOME {
         keep_some(table, rest, field, marks);
-        return;
-    }
-    if n <= MORE {
-        keep_more(table, rest, field, marks);
         return;
     }
     keep_many(table, rest, field, marks);
