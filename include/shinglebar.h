@@ -27,6 +27,10 @@
  *   theirs: shared for lookup and spoilt, exclusive for receive, flush and age.
  * - A thread needs SHINGLEBAR_STACK_MAX bytes of stack for a call, beside its own. There is no heap.
  *
+ * Bridge messages. A frame with 01-80-C2-00-00-00 to 0F or 21 in front answers 5 in receive, with Compact
+ * on too, and in compact, send and expand. A driver whose port watches for a shared link may report such a
+ * frame to the watch. To these inner destinations send answers the received frame itself.
+ *
  * docs/FORMATS.md has the layouts of records, frames and flush payloads, and the order of refusals.
  * SHINGLEBAR_VERSION is the one version of archive, header, driver, pkg-config file and Rust package.
  *

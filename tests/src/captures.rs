@@ -420,6 +420,24 @@ pub fn padded() -> Vec<Vec<u8>> {
     ]
 }
 
+/// P10 with addresses in and beside the set of 2026-09: as inner destinations of a General frame, and in front of a Compact one.
+pub fn control() -> Vec<(Vec<u8>, Vec<u8>)> {
+    [0x00, 0x0F, 0x10, 0x20, 0x21, 0x22]
+        .into_iter()
+        .map(|last| {
+            let inside = Frame {
+                inner_destination: 0x0180_C200_0000 + last,
+                ..general(&PORT, 0x1234, station(1))
+            };
+            let front = Frame {
+                compact: true,
+                ..inside.clone()
+            };
+            (inside.bytes(), front.bytes())
+        })
+        .collect()
+}
+
 /// The frames of each capture, by the capture's name.
 pub fn all() -> Vec<(&'static str, Vec<Vec<u8>>)> {
     vec![

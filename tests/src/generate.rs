@@ -9,6 +9,8 @@ use crate::reference::{Settings, RECORD};
 const MASK_48: u64 = (1 << 48) - 1;
 const GROUP: u64 = 1 << 40;
 const RESERVED: u64 = 0x0180_C200_0040;
+/// The first of the addresses that 2026-09 keeps out of compaction; the others end with 01 to 0F and with 21.
+const CONTROL: u64 = 0x0180_C200_0000;
 
 /// The values that tables, payloads, frames and lookups of one case share.
 pub struct Pool {
@@ -996,7 +998,7 @@ pub fn good_frame(random: &mut Random, pool: &Pool, settings: &Settings) -> Fram
         }
         _ => (data_content(random), false),
     };
-    let inner_destination = match random.below(10) {
+    let inner_destination = match random.below(12) {
         _ if channel && !random.one_in(20) => {
             if compact || random.one_in(2) {
                 inner
@@ -1005,14 +1007,11 @@ pub fn good_frame(random: &mut Random, pool: &Pool, settings: &Settings) -> Fram
             }
         }
         0 => inner,
-        1 => random.pick(&[
-            MASK_48,
-            0x0180_C200_003F,
-            0x0180_C200_0050,
-            0x0180_C200_0000,
-        ]),
+        1 => random.pick(&[MASK_48, 0x0180_C200_003F, 0x0180_C200_0050]),
         2 => random.number() & MASK_48,
         3 if !compact => port,
+        4 if !compact => control(random),
+        5 => beside_control(random),
         _ => pool.mac(random),
     };
     let label = if random.one_in(2) {
@@ -1057,6 +1056,27 @@ pub fn good_frame(random: &mut Random, pool: &Pool, settings: &Settings) -> Fram
     frame
 }
 
+/// A control address: 01-80-C2-00-00-00 to 0F, or 21.
+fn control(random: &mut Random) -> u64 {
+    let ends = [0x00, 0x01, 0x0E, 0x0F, 0x21, 0x21];
+    CONTROL
+        + if random.one_in(3) {
+            random.below(16)
+        } else {
+            random.pick(&ends)
+        }
+}
+
+/// An address close to a control address, or one that differs from it in one byte or bit, and is none.
+fn beside_control(random: &mut Random) -> u64 {
+    match random.below(4) {
+        0 => random.pick(&[0x10, 0x11, 0x1F, 0x20, 0x22, 0x23, 0x2F, 0x3F]) + CONTROL,
+        1 => CONTROL - random.between(1, 2),
+        2 => CONTROL + random.between(0x10, 0x20),
+        _ => control(random) ^ (1 << random.between(8, 47)),
+    }
+}
+
 /// A flush frame that a port with Compact on carries out if its payload is good, in the format said.
 pub fn flush_frame(random: &mut Random, pool: &Pool, settings: &Settings, compact: bool) -> Frame {
     let payload = payload(random, pool);
@@ -1076,7 +1096,7 @@ pub fn flush_frame(random: &mut Random, pool: &Pool, settings: &Settings, compac
 }
 
 /// The faults that `add_fault` knows.
-const FAULTS: u64 = 23;
+const FAULTS: u64 = 25;
 
 /// Gives a frame one fault.
 fn add_fault(random: &mut Random, pool: &Pool, settings: &Settings, frame: &mut Frame) {
@@ -1164,6 +1184,20 @@ fn add_fault(random: &mut Random, pool: &Pool, settings: &Settings, frame: &mut 
                 frame.content.truncate(random.length(2, 6));
             }
         }
+        // A control address in front, or one beside them; one inside.
+        22 => {
+            let destination = if random.one_in(3) {
+                beside_control(random)
+            } else {
+                control(random)
+            };
+            if frame.compact {
+                frame.inner_destination = destination;
+            } else {
+                frame.outer_destination = destination;
+            }
+        }
+        23 => frame.inner_destination = control(random),
         _ => {
             let bytes = random_bytes_up_to(random, 8);
             frame.content = [&[0x89, 0x46], bytes.as_slice()].concat();

@@ -328,6 +328,49 @@ fn small_table(random: &mut Random, pool: &Pool) -> Vec<u8> {
     table
 }
 
+/// Each address inside through compaction, sending and reading, and in front through reading with Compact on and off, compaction and
+/// expansion.
+fn control_calls(room: usize) -> Vec<Call> {
+    let settings = captures::PORT;
+    let off = Settings {
+        compact: 0,
+        ..settings
+    };
+    let receive = |settings, frame| Call::Receive {
+        settings,
+        room,
+        frame,
+    };
+    let compact = |frame| Call::Compact {
+        settings,
+        room,
+        frame,
+    };
+    let calls = |(inside, front): (Vec<u8>, Vec<u8>)| {
+        [
+            compact(inside.clone()),
+            Call::Send {
+                settings,
+                room,
+                frame: inside.clone(),
+            },
+            receive(settings, inside),
+            receive(settings, front.clone()),
+            receive(off, front.clone()),
+            compact(front.clone()),
+            Call::Expand {
+                settings,
+                source: 0x0200_0000_00B2,
+                tagged: 0,
+                tag: 0,
+                room,
+                frame: front,
+            },
+        ]
+    };
+    captures::control().into_iter().flat_map(calls).collect()
+}
+
 /// The input and the output of the program; always the same ones.
 pub fn files() -> (String, String) {
     let mut replay = Replay {
@@ -353,6 +396,10 @@ pub fn files() -> (String, String) {
                 frame,
             },
         );
+    }
+    // Control addresses and those beside them (2026-09), on the table that is there.
+    for call in control_calls(128) {
+        replay.offer(replay.table.clone(), &call);
     }
     let mut case = 0;
     while !replay.is_whole() {

@@ -37,6 +37,26 @@ fn variants(random: &mut Random, bytes: &[u8]) -> Vec<Vec<u8>> {
     variants
 }
 
+/// Whether the inner destination of a General frame is a control address.
+fn control_inside(frame: &[u8]) -> bool {
+    reference::read_general(frame)
+        .is_ok_and(|fields| reference::is_control(fields.inner_destination))
+}
+
+/// 5 with a control address in front, and what is written with one beside them there.
+fn count_control(tally: &mut Tally, compact: &[u8], frame: &[u8], word: u64) {
+    if word == 5 && reference::is_control(reference::destination(frame)) {
+        tally.situation("5 for a control address in front");
+    }
+    if word & 0xFF == 64 {
+        let front = reference::destination(compact);
+        assert!(!reference::is_control(front));
+        if front & !0x3F == 0x0180_C200_0000 {
+            tally.situation("written, an address beside the control addresses");
+        }
+    }
+}
+
 fn count_written(tally: &mut Tally, frame: &[u8], word: u64) {
     let written = (word >> 8) as usize;
     match frame.len().abs_diff(written) {
@@ -62,6 +82,9 @@ fn compact_answers_and_writes_as_the_paper_says() {
             "written with Compact off",
             "17 for a Compact frame in front",
             "17 for the inner destination",
+            "17 for a control address inside",
+            "5 for a control address in front",
+            "written, an address beside the control addresses",
         ],
         |random, tally| {
             let pool = Pool::new(random);
@@ -76,7 +99,13 @@ fn compact_answers_and_writes_as_the_paper_says() {
                 let mut written = out.clone();
                 let word = compare::compact(random, &settings, &bytes, &mut written);
                 tally.word(word);
+                count_control(tally, &written, &bytes, word);
                 match word & 0xFF {
+                    17 if reference::front(settings.port, &bytes) == Front::General
+                        && control_inside(&bytes) =>
+                    {
+                        tally.situation("17 for a control address inside")
+                    }
                     17 => tally.situation(match reference::front(settings.port, &bytes) {
                         Front::Compact => "17 for a Compact frame in front",
                         _ => "17 for the inner destination",
@@ -109,6 +138,8 @@ fn expand_answers_and_writes_as_the_paper_says() {
             "written with M 1",
             "3 for the frame",
             "3 for the result",
+            "5 for a control address in front",
+            "written, an address beside the control addresses",
         ],
         |random, tally| {
             let pool = Pool::new(random);
@@ -131,6 +162,7 @@ fn expand_answers_and_writes_as_the_paper_says() {
                     &mut written,
                 );
                 tally.word(word);
+                count_control(tally, &bytes, &bytes, word);
                 match word & 0xFF {
                     3 if (14..=9216).contains(&bytes.len()) => tally.situation("3 for the result"),
                     3 => tally.situation("3 for the frame"),
@@ -165,6 +197,9 @@ fn send_answers_and_writes_as_the_paper_says() {
             "the frame itself, Compact off, short working area",
             "the frame itself for the inner destination",
             "the frame itself for the inner destination, short working area",
+            "the frame itself for a control address inside",
+            "5 for a control address in front",
+            "written, an address beside the control addresses",
         ],
         |random, tally| {
             let pool = Pool::new(random);
@@ -179,11 +214,15 @@ fn send_answers_and_writes_as_the_paper_says() {
                 let mut written = work.clone();
                 let word = compare::send(random, &settings, &bytes, &mut written);
                 tally.word(word);
+                count_control(tally, &written, &bytes, word);
                 if word & 0xFF == 64 {
                     count_written(tally, &bytes, word);
                 }
                 if word == 65 {
                     assert_eq!(written, work);
+                    if settings.compact == 1 && control_inside(&bytes) {
+                        tally.situation("the frame itself for a control address inside");
+                    }
                     let short = work.len() < bytes.len() - 16;
                     tally.situation(match (settings.compact, short) {
                         (0, false) => "the frame itself, Compact off",

@@ -89,6 +89,18 @@ fn make_by_paper(
     }
 }
 
+/// Frames with a control address, which compaction leaves as they are.
+fn count_control(tally: &mut Tally, frame: &[u8], word: u64) {
+    if word == 5 && reference::is_control(reference::destination(frame)) {
+        tally.situation("a control address in front, 5 in both runs");
+    }
+    let inside = reference::read_general(frame)
+        .is_ok_and(|fields| reference::is_control(fields.inner_destination));
+    if word & 0xFF == 65 && inside {
+        tally.situation("a control address inside, delivered in both runs");
+    }
+}
+
 fn count_replaced(tally: &mut Tally, word: u64) {
     tally.situation(match word & 0xFF {
         2 => "compacted: refusal 2",
@@ -138,6 +150,8 @@ fn call_lists_give_the_same_with_frames_compacted() {
             "compacted: flushed some",
             "accepted but left as it is",
             "refused by compaction",
+            "a control address inside, delivered in both runs",
+            "a control address in front, 5 in both runs",
             "receive",
             "age",
             "lookup",
@@ -199,6 +213,7 @@ fn call_lists_give_the_same_with_frames_compacted() {
                     third.0,
                     context()
                 );
+                count_control(tally, given, first.0);
                 if compacted.is_some() {
                     count_replaced(tally, first.0);
                 }

@@ -453,6 +453,40 @@ fn reading_12_group_addresses_in_front_are_compact() {
     );
 }
 
+/// "Inner destinations 01-80-C2-00-00-00 to 0F, and 21, now give 17 [..] In front of a received frame these addresses give 5, even with
+/// Compact on, and compaction and expansion give 5 as well" (document 02, 2026-09).
+#[test]
+fn control_addresses_are_not_compacted_and_are_5_in_front() {
+    let written = |word: u64| word & 0xFF == 64;
+    for last in 0..=0xFFu64 {
+        let control = last <= 0x0F || last == 0x21;
+        let group = (0x40..=0x4F).contains(&last);
+        let address = format!("0180C20000{last:02X}");
+        let inside = GENERAL.replace("02000000000D", &address);
+        let stays = control || group;
+        assert_eq!(compacted(&SETTINGS, &inside) == 17, stays, "{address}");
+        assert_eq!(written(compacted(&SETTINGS, &inside)), !stays, "{address}");
+        let mut work = [0; 64];
+        let word = send(&SETTINGS, &bytes(&inside), &mut work);
+        assert_eq!(word == 65, stays, "{address}");
+        // Read from a General frame it is delivered, :40 to :4F being 13.
+        assert_eq!(received(&SETTINGS, &inside) & 0xFF == 65, !group);
+        // In front of a Compact frame.
+        let front = COMPACT.replace("02000000000D", &address);
+        if control {
+            assert_eq!(received(&SETTINGS, &front), 5, "{address}");
+            assert_eq!(received(&OFF, &front), 5, "{address}");
+            assert_eq!(compacted(&SETTINGS, &front), 5, "{address}");
+            assert_eq!(expanded(&SETTINGS, &front), 5, "{address}");
+            assert_eq!(expanded(&OFF, &front), 5, "{address}");
+        } else if !group {
+            assert_eq!(received(&SETTINGS, &front) & 0xFF, 65, "{address}");
+            assert_eq!(compacted(&SETTINGS, &front), 17, "{address}");
+            assert!(written(expanded(&SETTINGS, &front)), "{address}");
+        }
+    }
+}
+
 #[test]
 fn reading_14_only_a_strictly_higher_confidence_is_kept() {
     for (confidence, learning) in [(19, 1), (20, 1), (21, 2)] {

@@ -6,9 +6,32 @@ use shinglebar_tests::generate::{self, Pool};
 use shinglebar_tests::reference::{self, Front, Record, Settings, RECORD};
 use shinglebar_tests::run::{self, Tally};
 
+/// Control addresses, in front and inside, and those beside them.
+fn count_control(tally: &mut Tally, settings: &Settings, frame: &[u8], word: u64) {
+    let front = reference::destination(frame);
+    if reference::is_control(front) && word == 5 {
+        tally.situation(match settings.compact {
+            0 => "5, a control address in front, Compact off",
+            _ => "5, a control address in front, Compact on",
+        });
+    }
+    if word & 0xFF != 65 {
+        return;
+    }
+    if front & !0x3F == 0x0180_C200_0000 {
+        tally.situation("delivered, an address beside the control addresses in front");
+    }
+    if let Ok(fields) = reference::read_general(frame) {
+        if reference::is_control(fields.inner_destination) {
+            tally.situation("delivered, a control address inside");
+        }
+    }
+}
+
 fn count_answer(tally: &mut Tally, settings: &Settings, frame: &[u8], word: u64) {
     tally.word(word);
     let compact = reference::front(settings.port, frame) == Front::Compact;
+    count_control(tally, settings, frame, word);
     match word & 0xFF {
         64 if compact => tally.situation("onward, Compact"),
         64 => tally.situation("onward, General"),
@@ -44,6 +67,10 @@ fn count_answer(tally: &mut Tally, settings: &Settings, frame: &[u8], word: u64)
 }
 
 const SITUATIONS: &[&str] = &[
+    "5, a control address in front, Compact off",
+    "5, a control address in front, Compact on",
+    "delivered, an address beside the control addresses in front",
+    "delivered, a control address inside",
     "onward, General",
     "onward, Compact",
     "delivered, General, VLAN",

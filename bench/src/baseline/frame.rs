@@ -11,8 +11,14 @@ const FINE_TAG: u16 = 0x893B;
 pub const ALL_RBRIDGES: u64 = 0x0180_C200_0040;
 
 /// 01-80-C2-00-00-40 to 4F
-pub fn is_reserved(address: u64) -> bool {
+pub fn is_trill_group(address: u64) -> bool {
     address & !0xF == ALL_RBRIDGES
+}
+
+/// 01-80-C2-00-00-00 to 0F, 21, and 40 to 4F: they stand in front of no Compact frame. One test where the upper bytes differ.
+#[inline(always)]
+pub fn is_reserved(address: u64) -> bool {
+    address >> 8 == ALL_RBRIDGES >> 8 && matches!(address as u8, 0x00..=0x0F | 0x21 | 0x40..=0x4F)
 }
 
 pub fn length_good(length: usize) -> bool {
@@ -45,7 +51,7 @@ pub fn six(frame: &[u8], at: usize) -> Result<u64, u64> {
 pub enum Front {
     General,
     Compact,
-    /// 01-80-C2-00-00-41 to 4F
+    /// 01-80-C2-00-00-00 to 0F, 21, and 41 to 4F
     Reserved,
 }
 

@@ -3,7 +3,7 @@
 use std::slice;
 
 use super::flush::clear;
-use super::frame::{is_reserved, length_good, six, two, Fields, Front};
+use super::frame::{is_trill_group, length_good, six, two, Fields, Front};
 use super::record::{nickname_good, slots_mut, Slot, FINE, GROUP};
 use super::refusal;
 use super::settings::Port;
@@ -87,7 +87,7 @@ fn deliver(
     slots: &mut [Slot],
     out: &mut [u8],
 ) -> Result<u64, u64> {
-    if is_reserved(fields.inner_destination) {
+    if is_trill_group(fields.inner_destination) {
         return Err(refusal::RESERVED_DESTINATION);
     }
     let content = &frame[fields.content_at..];

@@ -60,11 +60,11 @@ pub fn general_fields(port: u64, f: &[u8]) -> Parsed
     }
 }
 
-// Whether an inner destination would not mean Compact in front: :40 to :4F, or the far port's address.
+// Whether an inner destination would not mean Compact in front: a reserved group, or the far port's address.
 pub fn stays_general(s: Settings, a: u64) -> bool
     ensures { λ r. ⌜ r ≡ staysGeneral s a ⌝ }
 {
-    frame_fields::is_trill_group(a) | (a == s.port)
+    frame_fields::is_reserved(a) | (a == s.port)
 }
 
 // Writes the Compact frame: inner addresses and label, 22F3, header, content.

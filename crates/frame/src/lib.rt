@@ -30,6 +30,13 @@ pub const ALL_EGRESS_RBRIDGES: u64 = 0x0180_c200_0042;
 
 pub const LAST_TRILL_GROUP: u64 = 0x0180_c200_004f;
 
+// Control addresses: 01-80-C2-00-00-00 to 0F, which bridges keep for themselves, and :21, that of VLAN registration.
+pub const FIRST_CONTROL: u64 = 0x0180_c200_0000;
+
+pub const LAST_CONTROL: u64 = 0x0180_c200_000f;
+
+pub const VLAN_REGISTRATION: u64 = 0x0180_c200_0021;
+
 // Ethertypes: TRILL, C-VLAN tag, fine-grained label, RBridge Channel.
 pub const TRILL_ETHERTYPE: u64 = 0x22f3;
 

@@ -6,7 +6,7 @@ ghost use lib.ListN.{length, drop};
 ghost use Rattle.numbers.specs.Bytes.{startsWith};
 ghost use Rattle.numbers.specs.Ranges.{vlanGood};
 ghost use Rattle.frame.specs.Formats.{outerLength};
-ghost use Rattle.frame.specs.Front.{trillGroup};
+ghost use Rattle.frame.specs.Front.{trillGroup, controlAddress, reservedGroup};
 ghost use Rattle.frame.specs.Header.{versionOf, multicastOf, optionLength, hopCount, egressOf, ingressOf, fixedBytes, headerBytes, agrees, headerLength};
 ghost use Rattle.frame.specs.Labels.{tagBytes, low12, labelLength};
 ghost use Rattle.frame.specs.Settings.{addressesGood, secondsGood, numbersGood, settingsGood};
@@ -18,10 +18,12 @@ use frame::EGRESS_OFFSET;
 use frame::ETHERTYPE_BYTES;
 use frame::FINE_BYTES;
 use frame::FINE_ETHERTYPE;
+use frame::FIRST_CONTROL;
 use frame::FIXED_HEADER_BYTES;
 use frame::HOP_COUNT_VALUES;
 use frame::INGRESS_OFFSET;
 use frame::LABEL_PART;
+use frame::LAST_CONTROL;
 use frame::LAST_TRILL_GROUP;
 use frame::LEAST_SECONDS;
 use frame::MOST_CONFIDENCE;
@@ -40,6 +42,7 @@ use frame::TRILL_ETHERTYPE;
 use frame::UNTAGGED_OUTER_BYTES;
 use frame::VERSION_BIT;
 use frame::VERSION_VALUES;
+use frame::VLAN_REGISTRATION;
 use numbers::refusals::CUT_SHORT;
 use numbers::refusals::LABEL_BAD;
 use numbers::refusals::MULTICAST_DISAGREES;
@@ -95,6 +98,20 @@ pub fn is_trill_group(a: u64) -> bool
     (ALL_RBRIDGES <= a) & (a <= LAST_TRILL_GROUP)
 }
 
+// 01-80-C2-00-00-00 to 0F, and 21.
+fn is_control(a: u64) -> bool
+    ensures { λ r. ⌜ r ≡ controlAddress a ⌝ }
+{
+    ((FIRST_CONTROL <= a) & (a <= LAST_CONTROL)) | (a == VLAN_REGISTRATION)
+}
+
+// A group that stands in front of no Compact frame: one of TRILL's or a control address.
+pub fn is_reserved(a: u64) -> bool
+    ensures { λ r. ⌜ r ≡ reservedGroup a ⌝ }
+{
+    is_trill_group(a) | is_control(a)
+}
+
 // What the destination in front means for a port.
 pub fn front_of(port: u64, a: u64) -> Front
     ensures { λ r. ⌜ frontAs r ≡ frontAt port a ⌝ }
@@ -105,7 +122,7 @@ pub fn front_of(port: u64, a: u64) -> Front
     if a == ALL_RBRIDGES {
         return Front::Multicast;
     }
-    if is_trill_group(a) {
+    if is_reserved(a) {
         return Front::Refused;
     }
     Front::Inner

@@ -21,12 +21,12 @@ use Rattle.flush.specs.Payload.{everyType, tlv, block, tlvsFrom, tlvs, lengthGo
 use Rattle.flush.specs.Meaning.{nicknameMeant, vlanIn, fineIn, macIn, someMacIn, bringsLabel, bringsMac, gathersMac, labelMeant, macMeant, entryMeant}
 use Rattle.flush.specs.Flush.{slotMeant, clearedSlot, clearedBy, clearing, flushed}
 use Rattle.frame.specs.Settings.{addressesGood, secondsGood, numbersGood, settingsGood}
-use Rattle.frame.specs.Front.{trillGroup, frontRefused, frontOf}
+use Rattle.frame.specs.Front.{trillGroup, controlAddress, reservedGroup, frontRefused, frontOf}
 use Rattle.frame.specs.Header.{headerLength}
 use Rattle.frame.specs.Labels.{labelLength}
 use Rattle.frame.specs.Formats.{outerLength, generalAfter, general, frameLengthGood}
 use Rattle.convert.specs.Compaction.{compactBytes, staysGeneral, generalOnly, generalFields, compacting, written, compacted}
-use Rattle.promises.specs.Cases.{Case, Holds, AllHold, records, p1, p1Entry, flushCases, meaningCases, compactionCases, vlansFrom, finesFrom, noLabel, Cases}
+use Rattle.promises.specs.Cases.{Case, Holds, AllHold, records, p1, p1Entry, flushCases, meaningCases, compactionCases, vlansFrom, finesFrom, noLabel, Cases, ControlCases}
 
 p1-holds : Holds (records p1 p1Entry)
 unfolding pick both between num bytesOf individual nicknameGood vlanGood labelFrom entryOf entryGood held slotOf unpacked recordNumber packed
@@ -88,8 +88,12 @@ meanings-hold = (
 )
 
 compactions-hold : AllHold compactionCases
-unfolding pick both either between check andThen settled num bytesOf startsWith laid individual nicknameGood vlanGood addressesGood secondsGood numbersGood settingsGood trillGroup frontRefused frontOf headerLength labelLength outerLength generalAfter general frameLengthGood compactBytes staysGeneral generalOnly generalFields compacting written compacted
+unfolding pick both either between check andThen settled num bytesOf startsWith laid individual nicknameGood vlanGood addressesGood secondsGood numbersGood settingsGood trillGroup controlAddress reservedGroup frontRefused frontOf headerLength labelLength outerLength generalAfter general frameLengthGood compactBytes staysGeneral generalOnly generalFields compacting written compacted
 compactions-hold = (refl, (refl, tt))
+
+pub control-cases : ControlCases
+unfolding pick both either between check andThen settled num bytesOf startsWith laid individual nicknameGood vlanGood addressesGood secondsGood numbersGood settingsGood trillGroup controlAddress reservedGroup frontRefused frontOf headerLength labelLength outerLength generalAfter general frameLengthGood compactBytes staysGeneral generalOnly generalFields compacting written compacted
+control-cases = (refl, (refl, (refl, (refl, (refl, (refl, tt))))))
 
 all-append : (xs ys : List Case) → AllHold xs → AllHold ys → AllHold (xs ++ ys)
 all-append [] ys h k = k

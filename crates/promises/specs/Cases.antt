@@ -132,3 +132,25 @@ compactionCases =
 -- the single statement
 abbrev pub Cases : Type 0
 Cases = AllHold (records p1 p1Entry ∷ (flushCases ++ (meaningCases ++ compactionCases)))
+
+-- ---- control addresses (2026-09)
+
+-- P10's frame with the inner destination 01-80-C2-00-00-xx: it is 17, or compacted
+abbrev pub group : ℕ → List ℕ
+group last = 0x01 ∷ 0x80 ∷ 0xC2 ∷ 0x00 ∷ 0x00 ∷ last ∷ []
+
+abbrev pub stays : ℕ → Case
+stays last = compacts (p10 (group last)) (area blank) (onArea (convert.Refused not-compactable) (area blank))
+
+abbrev pub goes : ℕ → Case
+goes last =
+    compacts (p10 (group last)) (area blank)
+    (onArea (convert.Written 28)
+    (area
+    (group last
+    ++ (0x02 ∷ 0x00 ∷ 0x00 ∷ 0x00 ∷ 0x00 ∷ 0x01 ∷ 0x81 ∷ 0x00 ∷ 0x00 ∷ 0x0A ∷ 0x22 ∷ 0xF3
+    ∷ 0x00 ∷ 0x05 ∷ 0x01 ∷ 0x02 ∷ 0x12 ∷ 0x34 ∷ 0x08 ∷ 0x00 ∷ 0x45 ∷ 0x00 ∷ []))))
+
+-- "01-80-C2-00-00-00 to 0F, and 21": the ends, and the addresses beside them
+abbrev pub ControlCases : Type 0
+ControlCases = AllHold (stays 0x00 ∷ stays 0x0F ∷ goes 0x10 ∷ goes 0x20 ∷ stays 0x21 ∷ goes 0x22 ∷ [])

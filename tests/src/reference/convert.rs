@@ -3,8 +3,8 @@
 use super::address_bytes;
 use super::answer::{word, Sent, Written};
 use super::frame::{
-    check_length, front, is_reserved, read_compact, read_general, Fields, Front, ALL_RBRIDGES,
-    C_TAG, TRILL,
+    check_length, front, is_control, is_reserved, read_compact, read_general, Fields, Front,
+    ALL_RBRIDGES, C_TAG, TRILL,
 };
 use super::refusal::Refusal;
 use super::settings::{check_outer_source, Port, Settings};
@@ -21,9 +21,11 @@ fn read_for_compaction<'a>(port: &Port, frame: &'a [u8]) -> Result<Fields<'a>, R
     }
 }
 
-/// "Then 17 if the inner destination is :40 to :4F or the far port's address"
+/// "Then 17 if the inner destination is :40 to :4F or the far port's address"; "Inner destinations
+/// 01-80-C2-00-00-00 to 0F, and 21, now give 17" (document 02, 2026-09)
 fn may_be_compacted(port: &Port, fields: &Fields) -> bool {
-    !is_reserved(fields.inner_destination) && fields.inner_destination != port.port
+    let destination = fields.inner_destination;
+    !is_reserved(destination) && !is_control(destination) && destination != port.port
 }
 
 /// "Compact: inner destination, inner source, label, 22F3, header, content."

@@ -17,6 +17,31 @@ pub fn is_reserved(address: u64) -> bool {
     (0x0180_C200_0040..=0x0180_C200_004F).contains(&address)
 }
 
+/// "01-80-C2-00-00-00 to 0F, and 21" (document 02, 2026-09), one by one.
+const CONTROL: [u64; 17] = [
+    0x0180_C200_0000,
+    0x0180_C200_0001,
+    0x0180_C200_0002,
+    0x0180_C200_0003,
+    0x0180_C200_0004,
+    0x0180_C200_0005,
+    0x0180_C200_0006,
+    0x0180_C200_0007,
+    0x0180_C200_0008,
+    0x0180_C200_0009,
+    0x0180_C200_000A,
+    0x0180_C200_000B,
+    0x0180_C200_000C,
+    0x0180_C200_000D,
+    0x0180_C200_000E,
+    0x0180_C200_000F,
+    0x0180_C200_0021,
+];
+
+pub fn is_control(address: u64) -> bool {
+    CONTROL.contains(&address)
+}
+
 /// 3: "frame (or expanded result) outside 14 to 9,216 bytes"
 pub fn check_length(length: usize) -> Result<(), Refusal> {
     if (14..=9216).contains(&length) {
@@ -31,22 +56,28 @@ pub fn check_length(length: usize) -> Result<(), Refusal> {
 pub enum Front {
     General,
     Compact,
-    /// 01-80-C2-00-00-41 to 4F
+    /// 01-80-C2-00-00-41 to 4F, and control addresses
     Reserved,
 }
 
 /// "The destination in front decides: this port's address or 01-80-C2-00-00-40 means General. Other
 /// addresses 01-80-C2-00-00-41 to 4F are refusal 5. Anything else is Compact if the port has it on,
-/// else refusal 5."
+/// else refusal 5." "In front of a received frame these addresses give 5, even with Compact on, and
+/// compaction and expansion give 5 as well" (document 02, 2026-09).
 pub fn front(port: u64, frame: &[u8]) -> Front {
-    let destination = number(frame.get(..6).unwrap_or_default());
+    let destination = destination(frame);
     if destination == port || destination == ALL_RBRIDGES {
         Front::General
-    } else if is_reserved(destination) {
+    } else if is_reserved(destination) || is_control(destination) {
         Front::Reserved
     } else {
         Front::Compact
     }
+}
+
+/// The destination in front.
+pub fn destination(frame: &[u8]) -> u64 {
+    number(frame.get(..6).unwrap_or_default())
 }
 
 /// The fields read from a frame, alike for both formats.

@@ -16,7 +16,7 @@ mod table;
 
 pub use convert::{compact, expand, send};
 pub use flush::flush;
-pub use frame::{front, read_general, Fields, Front};
+pub use frame::{destination, front, is_control, read_general, Fields, Front};
 pub use receive::{receive, receive_with};
 pub use record::{read, write, Entry, Label, Record, RECORD};
 pub use refusal::Refusal;
