@@ -433,6 +433,12 @@ int LLVMFuzzerTestOneInput(const uint8_t *bytes, size_t length)
     case SPOILT:
         check(kept(&table, 0), call, word, "the table is changed");
         break;
+    case SEND:
+        if (word != SHINGLEBAR_REFUSAL_SETTINGS)
+            check((word == SHINGLEBAR_REFUSAL_OUTPUT_LENGTH) == (out.length < SHINGLEBAR_COMPACT_LENGTH_MAX), call, word,
+                  "16 does not tell whether the working area is short");
+        check_conversion(call, word, &out);
+        break;
     default:
         check_conversion(call, word, &out);
     }

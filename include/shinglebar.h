@@ -47,7 +47,8 @@
 #define SHINGLEBAR_RECORD_LENGTH 14
 #define SHINGLEBAR_TABLE_LENGTH_MAX 57344
 
-/* The bytes of the longest frame, and of a working area in which every compaction has room. */
+/* The bytes of the longest frame, and of a working area in which every compaction has room: send wants
+ * so many. */
 #define SHINGLEBAR_FRAME_LENGTH_MAX 9216
 #define SHINGLEBAR_COMPACT_LENGTH_MAX 9204
 
@@ -247,7 +248,9 @@ uint64_t shinglebar_expand(uint64_t port, uint64_t inner, uint32_t nickname, uin
                            uint32_t tagged, uint32_t tag, const uint8_t *frame, size_t frame_len,
                            uint8_t *out, size_t out_len);
 
-/* Chooses what to send to a far port with these settings: the compacted frame, or the frame itself. */
+/* Chooses what to send to a far port with these settings: the compacted frame, or the frame itself. The
+ * working area has SHINGLEBAR_COMPACT_LENGTH_MAX bytes or more, with Compact off too: a shorter one
+ * answers 16 (after 1, before the frame is read), a longer one never does. */
 uint64_t shinglebar_send(uint64_t port, uint64_t inner, uint32_t nickname, uint32_t compact,
                          uint32_t confidence, uint32_t seconds, const uint8_t *frame,
                          size_t frame_len, uint8_t *work, size_t work_len);

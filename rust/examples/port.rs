@@ -115,7 +115,7 @@ fn main() {
     assert_eq!(aged, Ok(Aged));
     port.show("1,200 seconds pass", "done");
 
-    let mut work = [0; 64];
+    let mut work = [0; shinglebar::COMPACT_LENGTH_MAX];
     for (far, name) in [(true, "on"), (false, "off")] {
         let far = Settings {
             compact: far,

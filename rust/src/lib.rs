@@ -186,9 +186,14 @@ pub fn expand(
 }
 
 /// Chooses what to send to a far port with these settings: the compacted frame, or the frame itself.
-/// [`Sent::bytes`] gives its bytes.
+/// [`Sent::bytes`] gives its bytes. In the working area every compacted frame has room, so that
+/// [`Refusal::OutputLength`] is not answered.
 #[inline]
-pub fn send(far: &Settings, frame: &[u8], work: &mut [u8]) -> Result<Sent, Refusal> {
+pub fn send(
+    far: &Settings,
+    frame: &[u8],
+    work: &mut [u8; COMPACT_LENGTH_MAX],
+) -> Result<Sent, Refusal> {
     answered(raw::send(&far.into(), frame, work))
 }
 

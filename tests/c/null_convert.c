@@ -15,6 +15,7 @@ int main(void)
                                  0x02, 0x00, 0x00, 0x00, 0x00, 0x0D, 0x02, 0x00, 0x00, 0x00,
                                  0x00, 0x01, 0x81, 0x00, 0x00, 0x0A, 0x08, 0x00, 0x45, 0x00};
     uint8_t compact[28] = {0};
+    uint8_t work[SHINGLEBAR_COMPACT_LENGTH_MAX] = {0};
     uint8_t expanded[40] = {0};
     uint64_t result;
     size_t at;
@@ -23,10 +24,11 @@ int main(void)
     expect("compact into NULL", shinglebar_compact_any(SETTINGS, general, sizeof general, NULL, 0),
            16);
     expect("expand NULL", shinglebar_expand_any(SETTINGS, SOURCE, 0, 0, NULL, 0, NULL, 0), 3);
-    expect("send NULL", shinglebar_send_any(SETTINGS, NULL, 0, NULL, 0), 3);
+    expect("send NULL", shinglebar_send_any(SETTINGS, NULL, 0, NULL, 0), 16);
+    expect("send NULL with room", shinglebar_send_any(SETTINGS, NULL, 0, work, sizeof work), 3);
     expect("send with NULL", shinglebar_send_any(SETTINGS, general, sizeof general, NULL, 0), 16);
 
-    result = shinglebar_send_any(SETTINGS, general, sizeof general, compact, sizeof compact);
+    result = shinglebar_send_any(SETTINGS, general, sizeof general, work, sizeof work);
     expect("sent", shinglebar_kind(result), SHINGLEBAR_SEND_COMPACTED);
     expect("sent length", shinglebar_written_length(result), 28);
     result = shinglebar_compact_any(SETTINGS, general, sizeof general, compact, sizeof compact);

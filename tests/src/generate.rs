@@ -1274,6 +1274,18 @@ pub fn area_length(random: &mut Random, result: usize) -> usize {
     }
 }
 
+/// The length of a working area for sending: mostly just enough, near the limit, or one for a result of some length.
+pub fn working_length(random: &mut Random, result: usize) -> usize {
+    match random.below(16) {
+        0..=8 => 9204,
+        9 => 9203,
+        10 => 9205,
+        11 => 9216,
+        12 => 0,
+        _ => result,
+    }
+}
+
 /// Outer source, `tagged` and `tag` of an expansion.
 pub fn outer(random: &mut Random, pool: &Pool) -> (u64, u32, u32) {
     let source = if random.one_in(16) {

@@ -9,10 +9,12 @@ use crate::random::Random;
 use crate::reference::{self, Settings, RECORD};
 use crate::run::{self, Answers};
 
-/// What each of the program's areas holds at most.
+/// What the program's input and table hold at most, and its output or working area.
 const ROOM: usize = 1024;
-/// How many vectors of one answer are kept, and of how many vectors there are at least.
+const AREA: usize = 9216;
+/// How many vectors of one answer are kept, of those with an area over 1,024 bytes, and how many vectors there are at least.
 const OF_EACH: usize = 16;
+const LONG_OF_EACH: usize = 3;
 const AT_LEAST: usize = 300;
 
 /// The number of the line that makes the table.
@@ -130,6 +132,7 @@ impl Call {
             }
             9..=10 => {
                 let (settings, frame, room) = conversion(random, pool);
+                let room = generate::working_length(random, room);
                 Call::Send {
                     settings,
                     room,
@@ -285,13 +288,18 @@ impl Replay {
     /// Makes a call on a table, and keeps it unless its answer was kept often enough.
     fn offer(&mut self, table: Vec<u8>, call: &Call) {
         let body = call.body();
-        if body.len() > ROOM || call.room() > ROOM {
+        if body.len() > ROOM || call.room() > AREA {
             return;
         }
         let (mut after, mut area) = (table.clone(), self.area.clone());
         let word = call.make(&mut after, &mut area);
         let kept = self.answers.entry((call.number(), word as u8)).or_default();
-        if *kept == OF_EACH {
+        let most = if call.room() > ROOM {
+            LONG_OF_EACH
+        } else {
+            OF_EACH
+        };
+        if *kept >= most {
             return;
         }
         *kept += 1;
@@ -351,7 +359,7 @@ fn control_calls(room: usize) -> Vec<Call> {
             compact(inside.clone()),
             Call::Send {
                 settings,
-                room,
+                room: reference::WORKING_AREA,
                 frame: inside.clone(),
             },
             receive(settings, inside),
@@ -375,7 +383,7 @@ fn control_calls(room: usize) -> Vec<Call> {
 pub fn files() -> (String, String) {
     let mut replay = Replay {
         table: Vec::new(),
-        area: vec![0; ROOM],
+        area: vec![0; AREA],
         input: String::new(),
         output: String::new(),
         vectors: 0,

@@ -183,6 +183,81 @@ fn expand_answers_and_writes_as_the_paper_says() {
     );
 }
 
+/// What sending would have given with a working area that is long enough, and whether the result would have had room in the one it had.
+fn short_area(settings: &Settings, frame: &[u8], work: usize) -> &'static str {
+    let mut long = vec![0; reference::WORKING_AREA];
+    let word = reference::send(settings, frame, &mut long);
+    match word & 0xFF {
+        64 if (word >> 8) as usize <= work => "16, though the result has room",
+        64 => "16, and the result has none",
+        65 if settings.compact == 0 => "16, Compact off",
+        65 => "16 for an inner destination that is not compacted",
+        _ => "16 before a refusal of the frame",
+    }
+}
+
+/// Areas of 0, 9,203, 9,204 and 9,216 bytes with good and bad settings and frames, Compact on and off, and inner destinations that may
+/// and may not be compacted, each with each: the word, and the whole working area.
+#[test]
+fn send_gives_1_then_16_then_what_the_frame_gives() {
+    run::cases(
+        "send_gives_1_then_16_then_what_the_frame_gives",
+        40,
+        run::SEND,
+        &["1", "16", "the frame is looked at"],
+        |random, tally| {
+            let pool = Pool::new(random);
+            let good = generate::good_settings(random, &pool);
+            let mut frame = generate::good_frame(random, &pool, &good);
+            frame.compact = false;
+            let mut stays = frame.clone();
+            stays.inner_destination = random.pick(&[good.port, 0x0180_C200_0042, 0x0180_C200_0000]);
+            let (frame, stays) = (frame.bytes(), stays.bytes());
+            let damaged = generate::damage(random, frame.clone());
+            let short = frame[..random.length(0, 13)].to_vec();
+            let mut changed = frame.clone();
+            generate::change_one_byte(random, &mut changed);
+            let cut = frame[..random.length(14, frame.len())].to_vec();
+            let mut compact = frame.clone();
+            compact[5] ^= 0x80;
+            let mut reserved = frame.clone();
+            reserved[..6].copy_from_slice(&[0x01, 0x80, 0xC2, 0, 0, 0x41]);
+            for compact_on in [0, 1] {
+                let good = Settings {
+                    compact: compact_on,
+                    ..good
+                };
+                let bad = Settings { seconds: 9, ..good };
+                for settings in [good, bad] {
+                    for bytes in [
+                        &frame, &stays, &damaged, &short, &changed, &cut, &compact, &reserved,
+                    ] {
+                        for length in [0, 9203, 9204, 9216] {
+                            let mut work = random.bytes(length);
+                            let word = compare::send(random, &settings, bytes, &mut work);
+                            tally.word(word);
+                            let expected = if settings.seconds == 9 {
+                                Some(1)
+                            } else {
+                                (length < 9204).then_some(16)
+                            };
+                            match expected {
+                                Some(refusal) => assert_eq!(word, refusal),
+                                None => assert!(word != 1 && word != 16, "{word}"),
+                            }
+                            tally.situation(match expected {
+                                Some(1) => "1",
+                                Some(_) => "16",
+                                None => "the frame is looked at",
+                            });
+                        }
+                    }
+                }
+            }
+        },
+    );
+}
+
 #[test]
 fn send_answers_and_writes_as_the_paper_says() {
     run::cases(
@@ -194,10 +269,13 @@ fn send_answers_and_writes_as_the_paper_says() {
             "written, 16 bytes of difference",
             "written, at the limit of 9,216 bytes",
             "the frame itself, Compact off",
-            "the frame itself, Compact off, short working area",
             "the frame itself for the inner destination",
-            "the frame itself for the inner destination, short working area",
             "the frame itself for a control address inside",
+            "written, a working area of 9,204 bytes",
+            "16 before a refusal of the frame",
+            "16, Compact off",
+            "16 for an inner destination that is not compacted",
+            "16, though the result has room",
             "5 for a control address in front",
             "written, an address beside the control addresses",
         ],
@@ -208,29 +286,35 @@ fn send_answers_and_writes_as_the_paper_says() {
             let bytes = generate::damage(random, frame.bytes());
             let shorter = if frame.outer_tag.is_some() { 16 } else { 12 };
             let result = frame.bytes().len().saturating_sub(shorter);
-            let work_length = generate::area_length(random, result);
+            let result = generate::area_length(random, result);
+            let work_length = generate::working_length(random, result);
             let work = random.bytes(work_length);
             for bytes in variants(random, &bytes) {
                 let mut written = work.clone();
                 let word = compare::send(random, &settings, &bytes, &mut written);
                 tally.word(word);
                 count_control(tally, &written, &bytes, word);
+                if word != 1 {
+                    assert_eq!(word == 16, work.len() < reference::WORKING_AREA);
+                }
                 if word & 0xFF == 64 {
                     count_written(tally, &bytes, word);
+                    if work.len() == reference::WORKING_AREA {
+                        tally.situation("written, a working area of 9,204 bytes");
+                    }
+                }
+                if word == 16 {
+                    assert_eq!(written, work);
+                    tally.situation(short_area(&settings, &bytes, work.len()));
                 }
                 if word == 65 {
                     assert_eq!(written, work);
                     if settings.compact == 1 && control_inside(&bytes) {
                         tally.situation("the frame itself for a control address inside");
                     }
-                    let short = work.len() < bytes.len() - 16;
-                    tally.situation(match (settings.compact, short) {
-                        (0, false) => "the frame itself, Compact off",
-                        (0, true) => "the frame itself, Compact off, short working area",
-                        (_, false) => "the frame itself for the inner destination",
-                        (_, true) => {
-                            "the frame itself for the inner destination, short working area"
-                        }
+                    tally.situation(match settings.compact {
+                        0 => "the frame itself, Compact off",
+                        _ => "the frame itself for the inner destination",
                     });
                 }
             }

@@ -166,6 +166,8 @@ fn send_touches_only_what_it_is_lent() {
         |random, tally| {
             let pool = Pool::new(random);
             let (settings, frames, work) = conversion(random, &pool, false, -12);
+            let length = generate::working_length(random, work.len());
+            let work = random.bytes(length);
             for frame in frames {
                 for pages in &mut both {
                     let word = compare::send(pages, &settings, &frame, &mut work.clone());

@@ -175,7 +175,7 @@ fn p10_a_general_frame_compacts() {
 fn p11_a_reserved_inner_destination_is_not_compacted() {
     let frame = GENERAL.replace("02000000000D", "0180C2000042");
     assert_eq!(compacted(&SETTINGS, &frame), 17);
-    assert_eq!(send(&SETTINGS, &bytes(&frame), &mut []), 65);
+    assert_eq!(send(&SETTINGS, &bytes(&frame), &mut [0; 9204]), 65);
 }
 
 #[test]
@@ -421,14 +421,16 @@ fn reading_10_compaction_does_not_judge_hop_count_nicknames_and_source() {
 }
 
 #[test]
-fn reading_11_sending_gives_the_frame_itself_without_a_look_at_the_working_area() {
+fn reading_11_sending_gives_the_frame_itself_and_leaves_the_working_area() {
     let sent = |settings, frame: &str| {
-        let mut work = [0xAA; 4];
+        let mut work = [0xAA; 9204];
         let word = send(settings, &bytes(frame), &mut work);
-        assert_eq!(work, [0xAA; 4]);
+        if word & 0xFF != 64 {
+            assert_eq!(work, [0xAA; 9204]);
+        }
         word
     };
-    assert_eq!(sent(&SETTINGS, GENERAL), 16);
+    assert_eq!(sent(&SETTINGS, GENERAL), 64 | 28 << 8);
     assert_eq!(sent(&OFF, GENERAL), 65);
     assert_eq!(
         sent(&SETTINGS, &GENERAL.replace("02000000000D", "0200000000A1")),
@@ -438,6 +440,37 @@ fn reading_11_sending_gives_the_frame_itself_without_a_look_at_the_working_area(
     assert_eq!(sent(&OFF, COMPACT), 17);
     assert_eq!(sent(&OFF, &GENERAL.replace("8100000A", "81000000")), 10);
     assert_eq!(sent(&SETTINGS, &GENERAL.replace(" 08004500", " 08")), 6);
+}
+
+/// "Sending now gives 16 exactly if the area is shorter, after 1 and before reading the frame [..] Compaction called by itself keeps its
+/// own 16" (document 02, 2026-11).
+#[test]
+fn sending_gives_16_after_1_and_before_reading_the_frame() {
+    let stays = GENERAL.replace("02000000000D", "0200000000A1");
+    let bad = Settings {
+        seconds: 9,
+        ..SETTINGS
+    };
+    for length in [0, 28, 9203] {
+        for frame in [GENERAL, &stays, COMPACT, "", "02"] {
+            let mut work = vec![0xAA; length];
+            assert_eq!(send(&bad, &bytes(frame), &mut work), 1);
+            assert_eq!(send(&SETTINGS, &bytes(frame), &mut work), 16);
+            assert_eq!(send(&OFF, &bytes(frame), &mut work), 16);
+            assert!(work.iter().all(|byte| *byte == 0xAA));
+        }
+    }
+    let mut work = [0; 9204];
+    assert_eq!(send(&bad, &bytes(GENERAL), &mut work), 1);
+    assert_eq!(send(&SETTINGS, &[], &mut work), 3);
+    assert_eq!(send(&SETTINGS, &bytes(GENERAL), &mut work), 64 | 28 << 8);
+    assert_eq!(compact(&SETTINGS, &bytes(GENERAL), &mut [0; 27]), 16);
+    assert_eq!(
+        compact(&SETTINGS, &bytes(GENERAL), &mut [0; 28]),
+        64 | 28 << 8
+    );
+    assert_eq!(compact(&SETTINGS, &[], &mut []), 3);
+    assert_eq!(compact(&SETTINGS, &bytes(&stays), &mut []), 17);
 }
 
 #[test]
@@ -466,7 +499,7 @@ fn control_addresses_are_not_compacted_and_are_5_in_front() {
         let stays = control || group;
         assert_eq!(compacted(&SETTINGS, &inside) == 17, stays, "{address}");
         assert_eq!(written(compacted(&SETTINGS, &inside)), !stays, "{address}");
-        let mut work = [0; 64];
+        let mut work = [0; 9204];
         let word = send(&SETTINGS, &bytes(&inside), &mut work);
         assert_eq!(word == 65, stays, "{address}");
         // Read from a General frame it is delivered, :40 to :4F being 13.
@@ -707,6 +740,7 @@ fn every_input_gets_an_answer() {
             &[64],
         );
         good(send(&settings, &frame, &mut out), 17, &[64, 65]);
+        good(send(&settings, &frame, &mut [0; 9204]), 17, &[64, 65]);
         good(lookup(a, b, numbers[2], &table), 2, &[64, 65]);
         good(age(a as u16, &mut table), 2, &[64]);
         good(spoilt(&table), 2, &[64, 65]);

@@ -178,12 +178,15 @@ impl Case {
         if self.call == 'R' {
             faults.push(fault(4, |t| t.table = 13));
         }
+        if self.call == 'S' {
+            faults.push(fault(5, |t| t.out = 9203));
+        }
         faults.push(Fault {
             cuts: true,
-            ..fault(5, |t| t.too_short = true)
+            ..fault(6, |t| t.too_short = true)
         });
         if self.call == 'E' {
-            faults.push(fault(6, |t| {
+            faults.push(fault(7, |t| {
                 let rest = t.frame().len() - t.part(Content).len();
                 t.part(Content).resize(9201 - rest, 0);
             }));
@@ -192,76 +195,77 @@ impl Case {
             true => Destination,
             false => OuterDestination,
         };
-        faults.push(fault(7, move |t| *t.part(front) = group(0x41)));
+        faults.push(fault(8, move |t| *t.part(front) = group(0x41)));
         match self.call {
-            'R' if self.compact => faults.push(fault(8, |t| t.settings.compact = 0)),
-            'C' | 'S' => faults.push(fault(9, |t| t.part(OuterDestination)[5] = 0x0F)),
-            'E' => faults.push(fault(10, |t| *t.part(Destination) = PORT.to_vec())),
+            'R' if self.compact => faults.push(fault(9, |t| t.settings.compact = 0)),
+            'C' | 'S' => faults.push(fault(10, |t| t.part(OuterDestination)[5] = 0x0F)),
+            'E' => faults.push(fault(11, |t| *t.part(Destination) = PORT.to_vec())),
             _ => {}
         }
         if self.compact {
             faults.extend(
                 self.label_faults()
                     .into_iter()
-                    .map(|f| Fault { step: 13, ..f }),
+                    .map(|f| Fault { step: 14, ..f }),
             );
-            faults.push(cut(14, Trill, 1));
-            faults.push(fault(15, |t| t.part(Trill)[1] = 0xF4));
+            faults.push(cut(15, Trill, 1));
+            faults.push(fault(16, |t| t.part(Trill)[1] = 0xF4));
         } else {
-            faults.extend([cut(11, Tag, 3), cut(11, Trill, 1)]);
-            faults.push(fault(12, |t| t.part(Trill)[0] = 0x23));
+            faults.extend([cut(12, Tag, 3), cut(12, Trill, 1)]);
+            faults.push(fault(13, |t| t.part(Trill)[0] = 0x23));
         }
-        faults.push(cut(16, Header, 5));
-        faults.push(fault(17, |t| t.part(Header)[0] |= 0x40));
+        faults.push(cut(17, Header, 5));
+        faults.push(fault(18, |t| t.part(Header)[0] |= 0x40));
         if !self.compact {
-            faults.push(fault(18, |t| t.part(Header)[0] |= 0x08));
+            faults.push(fault(19, |t| t.part(Header)[0] |= 0x08));
         }
-        faults.push(cut(19, Options, 3));
+        faults.push(cut(20, Options, 3));
         if !self.compact {
-            faults.extend([cut(20, Destination, 5), cut(20, Source, 5)]);
+            faults.extend([cut(21, Destination, 5), cut(21, Source, 5)]);
             faults.extend(self.label_faults());
         }
-        faults.push(cut(27, Content, 1));
+        faults.push(cut(28, Content, 1));
         if self.call == 'C' {
-            faults.push(fault(28, |t| *t.part(Destination) = group(0x42)));
-            faults.push(fault(28, |t| *t.part(Destination) = PORT.to_vec()));
+            faults.push(fault(29, |t| *t.part(Destination) = group(0x42)));
+            faults.push(fault(29, |t| *t.part(Destination) = PORT.to_vec()));
         }
         if self.call == 'R' {
-            faults.push(fault(29, |t| t.part(Header)[1] &= 0xC0));
-            faults.push(fault(30, |t| {
+            faults.push(fault(30, |t| t.part(Header)[1] &= 0xC0));
+            faults.push(fault(31, |t| {
                 t.part(Header)[4..].copy_from_slice(&[0x01, 0x02])
             }));
-            faults.push(fault(31, |t| t.part(Source)[0] |= 1));
+            faults.push(fault(32, |t| t.part(Source)[0] |= 1));
         }
         match (self.call, self.channel) {
             ('R', true) => {
-                faults.push(cut(33, Content, 5));
-                faults.push(fault(34, |t| t.part(Content)[2] |= 0x10));
-                faults.push(fault(35, |t| t.part(Content)[6] = 1));
+                faults.push(cut(34, Content, 5));
+                faults.push(fault(35, |t| t.part(Content)[2] |= 0x10));
+                faults.push(fault(36, |t| t.part(Content)[6] = 1));
             }
             // in front of a Compact frame it is another address
             ('R', false) if !self.compact => {
-                faults.push(fault(32, |t| *t.part(Destination) = group(0x43)));
-                faults.push(fault(36, |t| t.out = 15));
+                faults.push(fault(33, |t| *t.part(Destination) = group(0x43)));
+                faults.push(fault(37, |t| t.out = 15));
             }
-            _ => faults.push(fault(36, |t| t.out = 15)),
+            ('S', _) => {}
+            _ => faults.push(fault(37, |t| t.out = 15)),
         }
         faults
     }
 
     fn label_faults(self) -> Vec<Fault> {
-        let ethertype = fault(22, |t| t.part(Label)[..2].copy_from_slice(&[0x88, 0xA8]));
-        let mut faults = vec![ethertype, cut(23, Label, 3)];
+        let ethertype = fault(23, |t| t.part(Label)[..2].copy_from_slice(&[0x88, 0xA8]));
+        let mut faults = vec![ethertype, cut(24, Label, 3)];
         // the shortest Compact frame has an Ethertype there
         if !self.compact {
-            faults.insert(0, cut(21, Label, 1));
+            faults.insert(0, cut(22, Label, 1));
         }
         if self.fine {
-            faults.push(cut(23, Label, 5));
-            faults.push(fault(25, |t| t.part(Label)[4] = 0x81));
-            faults.push(cut(26, Label, 7));
+            faults.push(cut(24, Label, 5));
+            faults.push(fault(26, |t| t.part(Label)[4] = 0x81));
+            faults.push(cut(27, Label, 7));
         } else {
-            faults.push(fault(24, |t| t.part(Label)[3] = 0));
+            faults.push(fault(25, |t| t.part(Label)[3] = 0));
         }
         faults
     }
@@ -313,7 +317,7 @@ fn of_two_tests_that_fail_the_one_in_the_higher_row_gives_the_number() {
                 tried.insert((first.step, call));
                 for other in &faults[at..] {
                     // a frame that is cut is not too long
-                    if first.step == 6 && other.cuts {
+                    if first.step == 7 && other.cuts {
                         continue;
                     }
                     // Both may write the same bytes: the first fault stands.
@@ -335,11 +339,11 @@ fn of_two_tests_that_fail_the_one_in_the_higher_row_gives_the_number() {
     // the calls without a frame
     assert_eq!(raw::flush(0x1234, &[0, 0], &mut [0; 14]), 67);
     assert_eq!(raw::flush(0x1234, &[], &mut [0; 13]), number(4));
-    assert_eq!(raw::flush(0x1234, &[], &mut [0; 14]), number(35));
+    assert_eq!(raw::flush(0x1234, &[], &mut [0; 14]), number(36));
     assert_eq!(raw::lookup(0, 10, 1, &[0; 13]), number(4));
     assert_eq!(raw::age(1, &mut [0; 13]), number(4));
     assert_eq!(raw::spoilt(&[0; 13]), number(4));
-    tried.extend([(4, 'F'), (35, 'F'), (4, 'T')]);
+    tried.extend([(4, 'F'), (36, 'F'), (4, 'T')]);
 
     // every step was tried at every call that it names, and at no other
     let named = rows.iter().enumerate().flat_map(|(at, cells)| {

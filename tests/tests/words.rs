@@ -215,6 +215,8 @@ fn typed_conversions_give_what_the_paper_says() {
                 tally.situation("expanded");
             }
 
+            let mut out = [0xAA; shinglebar::COMPACT_LENGTH_MAX];
+            let mut paper_out = out;
             let outcome = shinglebar::send(&far, &frame, &mut out);
             let paper = reference::send(&numbers, &frame, &mut paper_out);
             assert_eq!(packed(outcome), paper, "{outcome:?}");
@@ -427,7 +429,7 @@ fn empty_slices_are_areas_too() {
     };
     assert_eq!(raw::receive(&settings, &[], &mut [], &mut []), 2);
     assert_eq!(raw::compact(&settings, &[], &mut []), 3);
-    assert_eq!(raw::send(&settings, &[], &mut []), 3);
+    assert_eq!(raw::send(&settings, &[], &mut []), 16);
     assert_eq!(raw::flush(1, &[], &mut []), 2);
     assert_eq!(raw::flush(1, &[], &mut [0; 14]), 15);
     assert_eq!(raw::lookup(0, 1, 0, &[]), 2);

@@ -11,6 +11,8 @@ use super::settings::{is_individual, Port};
 const WRITTEN: u64 = 64;
 const COMPACTED: u64 = 64;
 const ITSELF: u64 = 65;
+/// The bytes of a working area in which every compacted frame has room.
+const WORKING_AREA: usize = 9204;
 
 /// The fields of a frame that compaction reads: a General frame of good length.
 #[inline(always)]
@@ -102,6 +104,9 @@ fn compacted(port: &Port, frame: &[u8], out: &mut [u8]) -> Result<u64, u64> {
 
 #[inline(always)]
 fn sent(port: &Port, frame: &[u8], work: &mut [u8]) -> Result<u64, u64> {
+    if work.len() < WORKING_AREA {
+        return Err(refusal::OUTPUT_LENGTH);
+    }
     let fields = general(port, frame)?;
     if !port.compact || !may_be_compacted(port, &fields) {
         return Ok(ITSELF);

@@ -13,15 +13,16 @@ use Rattle.numbers.specs.Tests.{pick, both}
 use Rattle.numbers.specs.Result.{Result, refused, got, check, andThen, settled}
 use Rattle.numbers.specs.After.{OnArea, onArea}
 use Rattle.numbers.specs.Bytes.{num, laid}
-use Rattle.frame.specs.Settings.{compactOn}
+use Rattle.frame.specs.Settings.{settingsGood, compactOn}
 use Rattle.frame.specs.Fields.{Fields}
 use Rattle.frame.specs.declared.Settings.{Settings}
-use Rattle.convert.specs.Compaction.{compactBytes, staysGeneral, generalFields, compacting, written, compacted}
-use Rattle.convert.specs.Sending.{sending, sent, chosen}
+use Rattle.convert.specs.Compaction.{compactBytes, staysGeneral, generalFrame, generalFields, compacting, compacted}
+use Rattle.convert.specs.Sending.{roomGood, sentFields, sending, sent, chosen}
 use Rattle.convert.specs.declared.SendAnswer.{SendAnswer}
 use Rattle.convert.specs.declared.SendAnswer.the-variants.{Refused, Compacted, Itself}
 use Rattle.convert.specs.Claims.{converted}
 use Rattle.convert.proofs.Areas.{writes}
+use Rattle.convert.proofs.Room.{room-fits}
 use Rattle.convert.specs.Chosen.{ChosenSent}
 
 -- an outcome of sending, `bytes` being the compacted frame or its refusal
@@ -31,31 +32,32 @@ data Outcome (bytes : Result (List ℕ)) (work : List ℕ) : OnArea SendAnswer �
   short : (b : List ℕ) → bytes ≡ got b → length b ≤ length work → Outcome bytes work (onArea (Compacted (length b)) (laid b work))
 
 module _ (work : List ℕ) where
-  area-cases : (bytes : Result (List ℕ)) (b : List ℕ) (n : ℕ) (z : Bool) → bytes ≡ got b → leb (length b) (length work) ≡ z
-      → Outcome bytes work (settled (λ k. onArea (Refused k) work) (check z n (got (onArea (Compacted (length b)) (laid b work)))))
-  unfolding settled check
-  area-cases bytes b n true e h = short b e (leb-true (length b) (length work) h)
-  area-cases bytes b n false e h = left n
-
   -- the compacted frame, where it may be compacted
   abbrev compactedOf : (Fields → Bool) → Result Fields → Result (List ℕ)
   compactedOf stays x = andThen x λ p. check (not (stays p)) 17 (got (compactBytes p))
 
-  may-cases : (on t : Bool) (p : Fields) → Outcome (check (not t) 17 (got (compactBytes p))) work (settled (λ k. onArea (Refused k) work) (pick (both on (not t)) (written Compacted (compactBytes p) work) (got (onArea Itself work))))
-  unfolding pick both written settled check
-  may-cases true true p = same
-  may-cases true false p = area-cases (got (compactBytes p)) (compactBytes p) _ (leb (length (compactBytes p)) (length work)) refl refl
-  may-cases false t p = same
+  may-cases : (on t : Bool) (p : Fields) → length (compactBytes p) ≤ length work
+      → Outcome (check (not t) 17 (got (compactBytes p))) work (pick (both on (not t)) (onArea (Compacted (length (compactBytes p))) (laid (compactBytes p) work)) (onArea Itself work))
+  unfolding pick both check
+  may-cases true true p fits = same
+  may-cases true false p fits = short (compactBytes p) refl fits
+  may-cases false t p fits = same
 
-  field-cases : (on : Bool) (stays : Fields → Bool) (x : Result Fields)
-      → Outcome (compactedOf stays x) work (settled (λ k. onArea (Refused k) work) (andThen x λ p. pick (both on (not (stays p))) (written Compacted (compactBytes p) work) (got (onArea Itself work))))
-  unfolding andThen settled
-  field-cases on stays (refused n) = left n
-  field-cases on stays (got p) = may-cases on (stays p) p
+  field-cases : (on : Bool) (stays : Fields → Bool) (good room : Bool) (x : Result Fields)
+      → (room ≡ true → (p : Fields) → x ≡ got p → length (compactBytes p) ≤ length work)
+      → Outcome (compactedOf stays (check good 1 x)) work
+      (settled (λ k. onArea (Refused k) work) (check good 1 (check room 16 (andThen x λ p. got (pick (both on (not (stays p))) (onArea (Compacted (length (compactBytes p))) (laid (compactBytes p) work)) (onArea Itself work))))))
+  unfolding andThen settled check
+  field-cases on stays false room x fits = left 1
+  field-cases on stays true false x fits = left 16
+  field-cases on stays true true (refused n) fits = left n
+  field-cases on stays true true (got p) fits = may-cases on (stays p) p (fits refl p refl)
 
 sent-outcome : (s : Settings) (f work : List ℕ) → Outcome (compacting s f) work (sent s f work)
-unfolding sent sending compacting
-sent-outcome s f work = field-cases work (compactOn s) (λ p. staysGeneral s (num (p .dst))) (generalFields s f)
+unfolding sent sending sentFields compacting generalFields
+sent-outcome s f work =
+    field-cases work (compactOn s) (λ p. staysGeneral s (num (p .dst))) (settingsGood s) (roomGood work) (generalFrame s f)
+    (λ h p e. leb-true (length (compactBytes p)) (length work) (room-fits s f work h p e))
 
 module _ (s : Settings) (f work : List ℕ) where
   short-shown : (r : OnArea SendAnswer) → Outcome (compacting s f) work r → (n : ℕ) → r .answer ≡ Compacted n

@@ -10,7 +10,7 @@ use Rattle.numbers.specs.After.{onArea}
 use Rattle.numbers.specs.Bytes.{laid}
 use Rattle.convert.specs.Compaction.{written}
 use Rattle.convert.specs.declared.ConvertAnswer.the-variants.{Refused, Written}
-use Rattle.convert_compact.specs.Meaning.{putOn}
+use Rattle.convert_compact.specs.Meaning.{putOn, filled}
 
 module _ (b area : List ℕ) (n : ℕ) (long : length b ≡ n) where
   pub put-short : length area < n → onArea (Refused 16) area ≡ putOn b area
@@ -20,3 +20,6 @@ module _ (b area : List ℕ) (n : ℕ) (long : length b ≡ n) where
   pub put-written : n ≤ length area → (o : List ℕ) → o ≡ laid b area → onArea (Written n) o ≡ putOn b area
   unfolding putOn written check settled
   put-written h o e = rw (long, le-leb n (length area) h, e)
+
+  pub fill-written : (o : List ℕ) → o ≡ laid b area → onArea n o ≡ filled b area
+  fill-written o e = rw (long, e)

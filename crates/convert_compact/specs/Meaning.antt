@@ -6,6 +6,7 @@ use lib.ListN.{length}
 use Rattle.numbers.specs.Result.{Result, check, settled}
 use Rattle.numbers.specs.Refusals.{frame-length-bad}
 use Rattle.numbers.specs.After.{OnArea, onArea}
+use Rattle.numbers.specs.Bytes.{laid}
 use Rattle.frame.specs.Front.{addressIn}
 use Rattle.frame.specs.Formats.{untaggedOuter, frameLengthGood}
 use Rattle.frame.specs.Fields.{Fields}
@@ -26,3 +27,7 @@ compactLength n p = untaggedOuter + p .«label_length» + p .«header_length» +
 -- an area with a frame written at its start, or 16
 unfoldable pub putOn : List ℕ → List ℕ → OnArea ConvertAnswer
 putOn b area = settled (λ n. onArea (Refused n) area) (written Written b area)
+
+-- an area with a frame written at its start, and the frame's length
+abbrev pub filled : List ℕ → List ℕ → OnArea ℕ
+filled b area = onArea (length b) (laid b area)

@@ -7,8 +7,8 @@ ghost use Rattle.numbers.specs.Bytes.{laid};
 ghost use Rattle.frame.specs.Formats.{longestFrame, general};
 ghost use Rattle.frame_fields.specs.Meaning.{frontAs};
 ghost use Rattle.frame_parse.specs.Meaning.{fieldsIn, PartsOf, Reads};
-ghost use Rattle.convert.specs.Compaction.{compactBytes, staysGeneral, compacted};
-ghost use Rattle.convert_compact.specs.Meaning.{fieldsAt, compactLength, putOn};
+ghost use Rattle.convert.specs.Compaction.{compactBytes, staysGeneral, compactRoom, compacted};
+ghost use Rattle.convert_compact.specs.Meaning.{fieldsAt, compactLength, putOn, filled};
 use convert::ConvertAnswer;
 use frame::ADDRESSES_BYTES;
 use frame::ETHERTYPE_BYTES;
@@ -102,6 +102,16 @@ pub fn put_compact(f: &[u8], p: Parts, out: &mut [u8]) -> ConvertAnswer
     }
     write_compact(f, p, out);
     ConvertAnswer::Written(n as u16)
+}
+
+// Writes the Compact frame of a General one to an area with room for every such frame, and gives its length.
+pub fn fill_compact(f: &[u8], p: Parts, out: &mut [u8]) -> u16
+    requires { ⌜ PartsOf (now f) p × (compactLength (length (now f)) p ≤ compactRoom) × (compactRoom ≤ length (now out)) ⌝ }
+    ensures { λ r. ⌜ onArea r (now (out .exit)) ≡ filled (compactBytes (fieldsIn (now (f .entry)) p)) (now (out .entry)) ⌝ }
+{
+    let n = UNTAGGED_OUTER_BYTES + p.label_length + p.header_length + (f.len() - p.content_offset);
+    write_compact(f, p, out);
+    n as u16
 }
 
 // The compaction call, with the far port's settings.

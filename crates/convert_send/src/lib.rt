@@ -6,12 +6,13 @@ ghost use Rattle.numbers.specs.Tests.{both};
 ghost use Rattle.numbers.specs.After.{onArea};
 ghost use Rattle.convert.specs.Compaction.{staysGeneral};
 ghost use Rattle.convert.specs.Sending.{sent, chosen};
-ghost use Rattle.convert_send.specs.Meaning.{sendOf, sentWhere};
-use convert::ConvertAnswer;
+ghost use Rattle.convert_send.specs.Meaning.{sentWhere};
+use convert::COMPACT_ROOM;
 use convert::SendAnswer;
 use frame::COMPACT_ON;
 use frame::Settings;
 use frame_parse::Parsed;
+use numbers::refusals::AREA_SHORT;
 use numbers::refusals::SETTINGS_BAD;
 
 // Whether a frame with this inner destination is compacted, `on` being whether the far port has Compact on.
@@ -21,16 +22,6 @@ fn may_compact(on: bool, s: Settings, a: u64) -> bool
     on & !convert_compact::stays_general(s, a)
 }
 
-// The answer of sending where a Compact frame was put into the working area.
-fn send_of(a: ConvertAnswer) -> SendAnswer
-    ensures { λ r. ⌜ r ≡ sendOf a ⌝ }
-{
-    match a {
-        ConvertAnswer::Refused(n) => SendAnswer::Refused(n),
-        ConvertAnswer::Written(n) => SendAnswer::Compacted(n),
-    }
-}
-
 // Sends, `on` being whether the far port has Compact on.
 pub fn send_where(on: bool, s: Settings, frame: &[u8], work: &mut [u8]) -> SendAnswer
     ensures { λ r. ⌜ onArea r (now (work .exit)) ≡ sentWhere on s (now (frame .entry)) (now (work .entry)) ⌝ }
@@ -38,13 +29,16 @@ pub fn send_where(on: bool, s: Settings, frame: &[u8], work: &mut [u8]) -> SendA
     if !frame_fields::settings_good(s) {
         return SendAnswer::Refused(SETTINGS_BAD);
     }
+    if work.len() < COMPACT_ROOM {
+        return SendAnswer::Refused(AREA_SHORT);
+    }
     match convert_compact::general_fields(s.port, frame) {
         Parsed::Refused(n) => SendAnswer::Refused(n),
         Parsed::Fields(p) => {
             if !may_compact(on, s, numbers::be6(frame, p.dst_offset)) {
                 return SendAnswer::Itself;
             }
-            send_of(convert_compact::put_compact(frame, p, work))
+            SendAnswer::Compacted(convert_compact::fill_compact(frame, p, work))
         }
     }
 }

@@ -12,7 +12,7 @@ use Rattle.frame.specs.Formats.{parsed}
 use Rattle.frame.specs.declared.Settings.{Settings}
 use Rattle.convert.specs.Compaction.{staysGeneral, generalFields, compacting, compacted}
 use Rattle.convert.specs.Expansion.{Outer, outerDestination, generalBytes, expanding, expanded}
-use Rattle.convert.specs.Sending.{sending, sent}
+use Rattle.convert.specs.Sending.{sentFields, sending, sent}
 use Rattle.receive.specs.Deciding.{ingressAllowed, nicknamesGood, isOnward, channelGood}
 use Rattle.receive.specs.Receive.{learnedEntry, delivery, channel, acted, reading, receivedWith, received}
 use Rattle.promises.specs.Interchange.{Call, read, age, lookup, spoilt, Seen, seenReading, calledWith, runWith, run}
@@ -46,7 +46,7 @@ module _ (s : Settings) where
   expansion-as-before u f area = refl
 
   sending-as-before : (f work : List ℕ) → sent (passing 300 s) f work ≡ sent (passing 0 s) f work
-  unfolding sent sending generalFields staysGeneral frontOf settingsGood addressesGood numbersGood secondsGood both either between
+  unfolding sent sending sentFields staysGeneral frontOf settingsGood addressesGood numbersGood secondsGood both either between
   sending-as-before f work = refl
 
 pub life-as-before : LifeAsBefore

@@ -360,6 +360,6 @@ fn replay(body: &mut [u8], table: &mut [u8], area: &mut [u8]) {
 fn main() {
     let mut body = [0u8; 1024];
     let mut table = [0u8; 1024];
-    let mut area = [0u8; 1024];
+    let mut area = [0u8; 9216];
     replay(&mut body, &mut table, &mut area);
 }

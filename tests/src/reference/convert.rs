@@ -9,6 +9,9 @@ use super::frame::{
 use super::refusal::Refusal;
 use super::settings::{check_outer_source, Port, Settings};
 
+/// "when the working area has 9,204 bytes or more" (document 02, 2026-11)
+pub const WORKING_AREA: usize = 9204;
+
 /// "Compaction takes a General frame and the far port's settings and refuses as reading does up to
 /// the content's 6."
 fn read_for_compaction<'a>(port: &Port, frame: &'a [u8]) -> Result<Fields<'a>, Refusal> {
@@ -136,16 +139,22 @@ fn expanded(
 /// "Sending compacts where it may: the answer shows either a part of the working area or the
 /// received frame itself, the latter, with the working area unchanged, exactly where compaction
 /// gives 17 for the inner destination, or where the frame passes every check before that one and the
-/// far port has Compact off. Other refusals stand."
+/// far port has Compact off. Other refusals stand." "Sending now gives 16 exactly if the area is
+/// shorter, after 1 and before reading the frame" (document 02, 2026-11).
 pub fn send(settings: &Settings, frame: &[u8], work: &mut [u8]) -> u64 {
     word(sent(settings, frame, work))
 }
 
 fn sent(settings: &Settings, frame: &[u8], work: &mut [u8]) -> Result<Sent, Refusal> {
     let port = settings.check()?;
+    if work.len() < WORKING_AREA {
+        return Err(Refusal::OutputLength);
+    }
     let fields = read_for_compaction(&port, frame)?;
     if !may_be_compacted(&port, &fields) || !port.compact {
         return Ok(Sent::Itself);
     }
-    write_result(&compact_frame(&fields), work).map(Sent::Compacted)
+    let result = compact_frame(&fields);
+    work[..result.len()].copy_from_slice(&result);
+    Ok(Sent::Compacted(result.len()))
 }

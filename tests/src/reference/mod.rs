@@ -14,7 +14,7 @@ mod refusal;
 mod settings;
 mod table;
 
-pub use convert::{compact, expand, send};
+pub use convert::{compact, expand, send, WORKING_AREA};
 pub use flush::flush;
 pub use frame::{destination, front, is_control, read_general, Fields, Front};
 pub use receive::{receive, receive_with};
