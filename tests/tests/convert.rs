@@ -202,7 +202,7 @@ fn short_area(settings: &Settings, frame: &[u8], work: usize) -> &'static str {
 fn send_gives_1_then_16_then_what_the_frame_gives() {
     run::cases(
         "send_gives_1_then_16_then_what_the_frame_gives",
-        40,
+        4,
         run::SEND,
         &["1", "16", "the frame is looked at"],
         |random, tally| {
