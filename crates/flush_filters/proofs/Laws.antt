@@ -1,21 +1,21 @@
 -- Laws of a filter by a number: keys that were sorted mark the same slots, and the slots marked anew are those that pass.
 -- Assumes nothing.
-use Prim.Native.Nat.{ℕ, _/_, _≤_, _<_}
+use Prim.Native.Nat.{ℕ, _≤_, _<_}
 use mathlib.Core.Bool.{Bool, true, false, not}
 use mathlib.Core.List.{List}
 use mathlib.Core.Path.{_≡_, refl, sym, ap, _∙_}
 use native.Mathlib.Omega.{arith}
 use lib.Dec.{eqb}
-use lib.ListN.{length, take, getD, replicate}
+use lib.ListN.{length, take, replicate}
 use lib.Seq.{length-take-le}
 use Rattle.numbers.specs.Tests.{both, either, anyOf}
 use Rattle.numbers.specs.Numberings.{fines, macs, bitAt}
-use Rattle.table.specs.Slots.{mostSlots, slotsOf, slotAt}
+use Rattle.table.specs.Slots.{slotsOf, slotAt}
 use Rattle.flush.specs.Payload.{Piece}
 use Rattle.flush.proofs.Lists.{false-true}
-use Rattle.flush_sort.specs.Sorting.{Sorted, SortOf}
+use Rattle.flush_sort.specs.Sorting.{SortOf}
 use Rattle.flush_parts.specs.Named.{namedOf}
-use Rattle.flush_buckets.specs.Buckets.{Nears, HasBits}
+use Rattle.flush_buckets.specs.Buckets.{HasBits}
 use Rattle.flush_parts.specs.Parts.{Narrow}
 use Rattle.flush_parts.specs.declared.Naming.{Naming}
 use Rattle.flush_marks.specs.Marks.{NoMarks, Filtered, Listed, Listing}
@@ -26,13 +26,10 @@ use Rattle.flush_marks.specs.Filters.{Filtering}
 use Rattle.flush_keys.specs.Keys.{numberIn, appliesTo, keyed, InTable, Hit, Marked, Joined, KeysOf}
 use Rattle.flush_keys.specs.declared.Field.{Field}
 use Rattle.flush_keys.specs.declared.Field.the-variants.{Fine, Mac}
-use Rattle.flush_intervals.specs.Hits.{hitBytes, Searched, Hits}
+use Rattle.flush_intervals.specs.Hits.{Hits}
 use Rattle.flush_filters.specs.Numbers.{namingOf, slotPasses, Keyed, Kept}
 
 -- ---- keys
-
-pub searched : (near keys hits : List ℕ) → Sorted keys → length keys ≤ 4096 → Nears keys near → length hits ≡ hitBytes → Searched near keys hits
-searched near keys hits sorted few nears room = record { sorted = sorted; few = few; nears = nears; room = room }
 
 pub named-hits : (f : Field) (d : Naming) → d ≡ namingOf f → (ps : List Piece) (keys h u : List ℕ) → Hits (namedOf d ps) keys h u → Hits (namedOf (namingOf f) ps) keys h u
 named-hits f d e ps keys h u g = rw (← e) g
@@ -123,9 +120,6 @@ room-for-all false test t a b kept n full few = let z = full refl in absurd (ome
 
 -- what did nothing leaves all to the next
 module _ (r : Bool) (test : List ℕ → Bool) (t a b : List ℕ) (kept : Kept r test t a b) where
-  pub kept-done : r ≡ true → Filtered test t a b
-  kept-done h = kept .done h
-
   pub full-filtering : r ≡ false → Filtering t a → Filtering t b
   full-filtering full f = rw (kept .same full) f
 
