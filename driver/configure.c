@@ -21,7 +21,7 @@ static int make_record(const struct options *options, uint8_t *bytes)
     return bad_usage("no good record: a VLAN is 1 to 4094, --mac an individual address, --nickname 0001 to FFBF");
 }
 
-/* The slot for a record: that of its pair, else the lowest free one; -1 if there is none. */
+/* The slot for a record: the configured one of its pair, else the pair's lowest, else the lowest free one; -1 if there is none. */
 static int find_slot(const struct table *table, const struct options *options)
 {
     int slot = table_find(table, options->kind, options->label, options->audience.mac);
@@ -31,12 +31,29 @@ static int find_slot(const struct table *table, const struct options *options)
     return slot;
 }
 
-/* Puts bytes into a slot, prints what changed, and replaces the table file. */
-static int change(struct store *store, unsigned slot, const uint8_t *bytes)
+/* Puts bytes into a slot, and prints what changed. */
+static void change(struct store *store, unsigned slot, const uint8_t *bytes)
 {
     struct change changed = change_make(&store->table, slot, bytes);
     change_put(&line, &changed);
     line_out(&line);
+}
+
+/* A configured record is its pair's only one: the homes that were learned become free. */
+static void free_homes(struct store *store, const struct options *options)
+{
+    const uint8_t nothing[SHINGLEBAR_RECORD_LENGTH] = {0};
+    for (unsigned slot = 0; slot < table_slots(&store->table); slot++) {
+        struct shinglebar_record record = table_record(&store->table, slot);
+        if (record.state == SHINGLEBAR_RECORD_LEARNED
+            && record_holds(&record, options->kind, options->label, options->audience.mac))
+            change(store, slot, nothing);
+    }
+}
+
+/* Replaces the table file. */
+static int save(struct store *store)
+{
     if (output_ready() == 0 && store_save(store) == 0)
         return 0;
     return bad_data("%s stays as it was", store->name);
@@ -51,7 +68,11 @@ static int set(struct store *store, const struct options *options)
     if (store_open(store, options->table, options->slots) != 0)
         return 1;
     int slot = find_slot(&store->table, options);
-    return slot < 0 ? bad_data("%s is full", options->table) : change(store, (unsigned)slot, bytes);
+    if (slot < 0)
+        return bad_data("%s is full", options->table);
+    change(store, (unsigned)slot, bytes);
+    free_homes(store, options);
+    return save(store);
 }
 
 static int unset(struct store *store, const struct options *options)
@@ -64,7 +85,8 @@ static int unset(struct store *store, const struct options *options)
         return bad_data("%s has no record of that label and address", options->table);
     if (table_record(&store->table, (unsigned)slot).state != SHINGLEBAR_RECORD_CONFIGURED)
         return bad_data("%s: slot %d is learned, not configured", options->table, slot);
-    return change(store, (unsigned)slot, nothing);
+    change(store, (unsigned)slot, nothing);
+    return save(store);
 }
 
 static int run(const struct options *options, int (*command)(struct store *, const struct options *))

@@ -121,6 +121,11 @@ unsigned frame_ingress(const struct frame *frame)
     return (unsigned)(frame->header & 0xFFFF);
 }
 
+int frame_is_marked(const struct frame *frame, uint32_t multihomed)
+{
+    return (multihomed == 1 && frame->header >> 45 & 1) || (multihomed == 2 && frame->header >> 44 & 1);
+}
+
 static unsigned egress(const struct frame *frame)
 {
     return (unsigned)(frame->header >> 16 & 0xFFFF);

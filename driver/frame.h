@@ -25,6 +25,9 @@ struct frame frame_read(const uint8_t *bytes, size_t length, uint64_t port);
 
 unsigned frame_ingress(const struct frame *frame);
 
+/* Whether a frame is marked as that of a station on two switches, at a port with this setting: 0 none, 1 the first R bit, 2 the second. */
+int frame_is_marked(const struct frame *frame, uint32_t multihomed);
+
 /* Begins a line: the frame's number and time, format, label, inner addresses, nicknames and content as far as it has them. */
 void frame_put(struct text *to, unsigned long number, const struct captured *captured, const struct frame *frame);
 

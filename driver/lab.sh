@@ -203,7 +203,7 @@ fresh
 listen left asked --save 1000
 kill -USR1 "$started"
 await "$made/asked.log" "table saved"
-expect "SIGUSR1 writes a table in which nothing is learned yet" "112" "$(wc -c <"$made/left")"
+expect "SIGUSR1 writes a table in which nothing is learned yet" "120" "$(wc -c <"$made/left")"
 transmit left lab_to_left off --quiet
 await "$made/asked.log" "^frame 4:"
 expect "before it is asked again nothing is written" "" "$(records left)"

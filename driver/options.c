@@ -10,7 +10,7 @@
 
 #define WITH_SETTINGS (RECEIVE | COMPACT | EXPAND | LIVE | SEND)
 #define WITH_CAPTURE (RECEIVE | COMPACT | EXPAND | SEND)
-#define WITH_TABLE (RECEIVE | LOOKUP | AGE | CHECK | LIVE | SET | UNSET)
+#define WITH_TABLE (RECEIVE | LOOKUP | AGE | CHECK | LIVE | SET | UNSET | WIDEN)
 #define WITH_PAIR (LOOKUP | SET | UNSET)
 #define WITH_ANY (WITH_SETTINGS | WITH_TABLE)
 #define RFC6325_CONFIDENCE 32
@@ -36,8 +36,10 @@ struct option {
 #define AT(member) offsetof(struct options, member)
 
 static const struct option OPTIONS[] = {
-    {"--table", "FILE", "the address table, records of 14 bytes; replaced whole or not at all", TEXT, WITH_TABLE,
-     WITH_TABLE, AT(table), 0, 0},
+    {"--table", "FILE", "the address table, records of 15 bytes; replaced whole or not at all", TEXT, WITH_TABLE & ~WIDEN,
+     WITH_TABLE & ~WIDEN, AT(table), 0, 0},
+    {"--table", "FILE", "the address table, records of 14 bytes; replaced whole or not at all", TEXT, WIDEN, WIDEN, AT(table), 0,
+     0},
     {"--slots", "N", "makes the table with N free slots if its file is missing, 1 to 4096", NUMBER, RECEIVE | LIVE | SET, 0,
      AT(slots), 1, TABLE_SLOTS_MAX},
     {"--out", "FILE", "the capture to write; replaced whole or not at all; - is standard output", TEXT, RECEIVE | COMPACT | EXPAND | LIVE,
@@ -70,7 +72,7 @@ static const struct option OPTIONS[] = {
     {"--by", "SECONDS", "the seconds that have passed, 0 to 65535", NUMBER, AGE, AGE, AT(by), 0, 65535},
     {"--no-ageing", NULL, "no time passes for the table", FLAG, RECEIVE, 0, AT(no_ageing), 0, 0},
     {"--dry-run", NULL, "the table file is read and not written", FLAG,
-     RECEIVE | AGE | LIVE | SET | UNSET, 0, AT(dry_run), 0, 0},
+     RECEIVE | AGE | LIVE | SET | UNSET | WIDEN, 0, AT(dry_run), 0, 0},
     {"--json", NULL, "a JSON object for each line, with the same facts", FLAG, WITH_ANY, 0, AT(json), 0, 0},
     {"--quiet", NULL, "no line for each frame", FLAG, WITH_CAPTURE | LIVE, 0, AT(quiet), 0, 0},
 };
@@ -99,8 +101,9 @@ static const struct {
     {AGE, "age", "lets seconds pass for the learned records of a table", ""},
     {CHECK, "check", "tells the lowest spoilt slot, and lists the records", "Exit status 1 if a slot is spoilt.\n"},
     {SET, "set", "makes a configured record in a table",
-     "One of --vlan and --fgl is needed. The record takes the lowest slot with that label and address, whatever it holds,\n"
-     "else the lowest free one. Exit status 1 if there is none, 2 if the library would call the record spoilt.\n"},
+     "One of --vlan and --fgl is needed. The record takes the configured slot with that label and address, else the lowest\n"
+     "with them, else the lowest free one; other learned records of label and address become free. Exit status 1 if there\n"
+     "is no slot, 2 if the library would call the record spoilt.\n"},
     {UNSET, "unset", "removes a configured record from a table",
      "One of --vlan and --fgl is needed. Exit status 1 if there is no such record, or a learned one.\n"},
     {LIVE, "live", "passes the frames of a Linux interface to the receiver",
@@ -108,6 +111,10 @@ static const struct {
      "the table and --out. The table is also written while it runs: every --save seconds, on SIGUSR1, and where the\n"
      "interface or standard output fails. It ages as time passes, first by the time since it was last aged. An interface\n"
      "that goes down is waited for. Output as for `receive`. Exit status 3 if frames were lost.\n"},
+    {WIDEN, "widen", "makes a table of records of 14 bytes one of 15",
+     "For the tables of versions before 2026-12: each record gets a zero byte, and the second that the table was aged to\n"
+     "stays. A file says its width by its length. Where both widths have that length (multiples of 210 bytes), a table of\n"
+     "15 bytes has the line `shinglebar table 15` in front of its records; without it only `widen` takes the file.\n"},
     {SEND, "send", "sends the General frames of a capture out of a Linux interface",
      "Needs CAP_NET_RAW. The settings are the far port's: a frame is compacted where it may be, if --compact is on.\n"},
 };

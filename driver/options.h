@@ -17,7 +17,8 @@ enum command {
     LIVE = 64,
     SEND = 128,
     SET = 256,
-    UNSET = 512
+    UNSET = 512,
+    WIDEN = 1024
 };
 
 /* An option that was not given is NULL or 0, but for Compact off, confidence 32, seconds 0, saving every

@@ -29,25 +29,26 @@ static void count(struct receiver *receiver, uint64_t answer)
     }
 }
 
-/* What an answer changed in the table. Returns the slot that a delivered frame's source is in, or -1. Answers other than these two change
- * nothing, by the library's contract, and are not searched for. */
-static int find_changes(struct receiver *receiver, uint64_t answer, uint64_t source, struct changes *changes)
+/* What an answer changed in the table. Returns the slot that a delivered frame was judged against where it changed nothing, or -1. Answers
+ * other than these change nothing, by the library's contract, and are not searched for. */
+static int find_changes(struct receiver *receiver, uint64_t answer, uint64_t source, const struct frame *frame,
+                        struct changes *changes)
 {
     const struct table *now = &receiver->store.table;
     const struct audience *audience = &receiver->options->audience;
     struct shadow *shadow = &receiver->shadow;
-    int slot = -1;
-    if (shinglebar_kind(answer) == SHINGLEBAR_RECEIVE_FLUSHED && shinglebar_count(answer) > 0)
+    unsigned kind = shinglebar_kind(answer), learning = shinglebar_learning(answer);
+    int learned = kind == SHINGLEBAR_RECEIVE_DELIVERED && learning <= SHINGLEBAR_LEARNING_REFRESHED;
+    if (learned || (kind == SHINGLEBAR_RECEIVE_FLUSHED && shinglebar_count(answer) > 0))
         shadow_all(shadow, now, audience, changes);
-    if (shinglebar_kind(answer) != SHINGLEBAR_RECEIVE_DELIVERED || shinglebar_learning(answer) == SHINGLEBAR_LEARNING_FULL)
+    if (kind != SHINGLEBAR_RECEIVE_DELIVERED || learning == SHINGLEBAR_LEARNING_FULL || changes->count > 0)
         return -1;
-    if (shinglebar_learning(answer) == SHINGLEBAR_LEARNING_LEARNED)
-        slot = shadow_learned(shadow, now);
-    else
-        slot = shadow_find(shadow, now, shinglebar_label_kind(answer), shinglebar_label(answer), source);
-    if (slot >= 0)
-        shadow_slot(shadow, now, (unsigned)slot, audience, changes);
-    return slot;
+    const struct home home = {.kind = shinglebar_label_kind(answer),
+                              .label = shinglebar_label(answer),
+                              .mac = source,
+                              .nickname = frame_ingress(frame),
+                              .marked = frame_is_marked(frame, receiver->options->settings.multihomed)};
+    return shadow_judged(shadow, now, &home, learning == SHINGLEBAR_LEARNING_REFRESHED);
 }
 
 /* Where learning wrote or kept the same bytes, the slot is shown all the same. */
@@ -76,7 +77,7 @@ static void line_print(struct receiver *receiver, const struct captured *capture
     struct changes changes;
     struct frame frame = frame_read(captured->bytes, captured->length, receiver->options->settings.port);
     changes.count = changes.concerning = 0;
-    int slot = find_changes(receiver, answer, source, &changes);
+    int slot = find_changes(receiver, answer, source, &frame, &changes);
     int named = frame.has_addresses && (frame.source == audience->mac || frame.destination == audience->mac);
     if (audience->is_one && !named && changes.concerning == 0)
         return;

@@ -27,6 +27,7 @@ static void json_put(struct text *to, const uint8_t *slot)
         json_hex(to, "nickname", record.nickname, 4);
         json_number(to, "confidence", record.confidence);
         json_number(to, "seconds", record.seconds);
+        json_truth(to, "multihomed", record.multihomed != 0);
     }
 }
 
@@ -60,7 +61,7 @@ void record_put(struct text *to, const uint8_t *slot)
         text_number(to, record.confidence);
         text_put(to, ", ");
         text_number(to, record.seconds);
-        text_put(to, " s");
+        text_put(to, record.multihomed ? " s, multihomed" : " s");
     }
 }
 
@@ -92,6 +93,10 @@ static void entry_change_put(struct text *to, const struct shinglebar_record *be
         text_number(to, after->seconds);
         text_put(to, " s");
     }
+    if (before->multihomed != after->multihomed)
+        text_put(to, after->multihomed ? ", now multihomed" : ", no longer multihomed");
+    else if (after->multihomed)
+        text_put(to, ", multihomed");
 }
 
 void record_change_put(struct text *to, const uint8_t *before, const uint8_t *after)

@@ -1,4 +1,4 @@
-/* The settings of a port, as the library takes them: six parameters. */
+/* The settings of a port, as the library takes them: six parameters, and for reading the R bit that marks stations on two switches. */
 #ifndef SETTINGS_H
 #define SETTINGS_H
 
@@ -11,6 +11,8 @@ struct settings {
     uint32_t compact;
     uint32_t confidence;
     uint32_t seconds;
+    /* 0 none, 1 the first R bit, 2 the second */
+    uint32_t multihomed;
 };
 
 /* The six arguments of a call. */

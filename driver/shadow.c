@@ -22,33 +22,17 @@ static uint16_t *guess_of(struct shadow *shadow, unsigned kind, uint32_t label, 
     return &shadow->guess[mixed >> 32 & (SHADOW_GUESSES - 1)];
 }
 
-int shadow_learned(struct shadow *shadow, const struct table *now)
+/* A learned record that has the frame's nickname and mark is what refreshing it left. */
+int shadow_judged(struct shadow *shadow, const struct table *now, const struct home *home, int refreshed)
 {
-    unsigned slots = table_slots(now);
-    for (unsigned block = 0; block < slots; block += BLOCK_SLOTS) {
-        unsigned end = slots - block < BLOCK_SLOTS ? slots : block + BLOCK_SLOTS;
-        if (!differs(shadow, now, block, end - block))
-            continue;
-        unsigned slot = block;
-        while (!differs(shadow, now, slot, 1))
-            slot++;
-        struct shinglebar_record record = table_record(now, slot);
-        *guess_of(shadow, record.label_kind, record.label, record.mac) = (uint16_t)slot;
-        return (int)slot;
-    }
-    return -1;
-}
-
-/* A guess that holds the pair is the lowest slot that does: learning gives a pair no second slot, so no lower one can have come. */
-int shadow_find(struct shadow *shadow, const struct table *now, unsigned kind, uint32_t label, uint64_t mac)
-{
-    uint16_t *guess = guess_of(shadow, kind, label, mac);
-    if (*guess < table_slots(now)) {
+    uint16_t *guess = guess_of(shadow, home->kind, home->label, home->mac);
+    if (refreshed && *guess < table_slots(now)) {
         struct shinglebar_record record = table_record(now, *guess);
-        if (record_holds(&record, kind, label, mac))
+        if (record.state == SHINGLEBAR_RECORD_LEARNED && record_holds(&record, home->kind, home->label, home->mac)
+            && record.nickname == home->nickname && (record.multihomed != 0) == (home->marked != 0))
             return *guess;
     }
-    int slot = table_find(now, kind, label, mac);
+    int slot = table_judged(now, home);
     if (slot >= 0)
         *guess = (uint16_t)slot;
     return slot;
@@ -63,13 +47,15 @@ struct change change_make(struct table *table, unsigned slot, const uint8_t *byt
     return change;
 }
 
-void shadow_slot(struct shadow *shadow, const struct table *now, unsigned slot, const struct audience *audience,
-                 struct changes *changes)
+static void add_slot(struct shadow *shadow, const struct table *now, unsigned slot, const struct audience *audience,
+                     struct changes *changes)
 {
     if (!differs(shadow, now, slot, 1))
         return;
     struct shinglebar_record was = table_record(&shadow->table, slot), is = table_record(now, slot);
     struct change change = change_make(&shadow->table, slot, table_slot(now, slot));
+    if (record_is_entry(&is))
+        *guess_of(shadow, is.label_kind, is.label, is.mac) = (uint16_t)slot;
     changes->count++;
     if (!concerns(audience, &was) && !concerns(audience, &is))
         return;
@@ -80,8 +66,14 @@ void shadow_slot(struct shadow *shadow, const struct table *now, unsigned slot, 
 
 void shadow_all(struct shadow *shadow, const struct table *now, const struct audience *audience, struct changes *changes)
 {
-    for (unsigned slot = 0; slot < table_slots(now); slot++)
-        shadow_slot(shadow, now, slot, audience, changes);
+    unsigned slots = table_slots(now);
+    for (unsigned block = 0; block < slots; block += BLOCK_SLOTS) {
+        unsigned end = slots - block < BLOCK_SLOTS ? slots : block + BLOCK_SLOTS;
+        if (!differs(shadow, now, block, end - block))
+            continue;
+        for (unsigned slot = block; slot < end; slot++)
+            add_slot(shadow, now, slot, audience, changes);
+    }
 }
 
 void shadow_freed(struct shadow *shadow, const struct table *now, const struct audience *audience,
@@ -89,7 +81,7 @@ void shadow_freed(struct shadow *shadow, const struct table *now, const struct a
 {
     for (unsigned slot = 0; slot < table_slots(now); slot++)
         if (table_slot(&shadow->table, slot)[0] != 0 && table_slot(now, slot)[0] == 0)
-            shadow_slot(shadow, now, slot, audience, changes);
+            add_slot(shadow, now, slot, audience, changes);
     shadow_copy(shadow, now);
 }
 

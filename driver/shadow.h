@@ -32,14 +32,11 @@ struct change change_make(struct table *table, unsigned slot, const uint8_t *byt
 /* Makes the copy anew. */
 void shadow_copy(struct shadow *shadow, const struct table *now);
 
-/* The slot that learning took, by the bytes that changed; and the lowest slot with a pair, by a guess that the bytes confirm. -1 if
+/* The slot that a frame was judged against where learning changed nothing: where it was refreshed by a guess that the bytes confirm. -1 if
  * there is none. */
-int shadow_learned(struct shadow *shadow, const struct table *now);
-int shadow_find(struct shadow *shadow, const struct table *now, unsigned kind, uint32_t label, uint64_t mac);
+int shadow_judged(struct shadow *shadow, const struct table *now, const struct home *home, int refreshed);
 
-/* Adds what changed, in one slot or in all of them, or the slots that became free; the copy follows. */
-void shadow_slot(struct shadow *shadow, const struct table *now, unsigned slot, const struct audience *audience,
-                 struct changes *changes);
+/* Adds what changed, or the slots that became free; the copy follows. */
 void shadow_all(struct shadow *shadow, const struct table *now, const struct audience *audience,
                 struct changes *changes);
 void shadow_freed(struct shadow *shadow, const struct table *now, const struct audience *audience,

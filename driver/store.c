@@ -53,21 +53,42 @@ static int name_files(struct store *store)
     return bad_data("%s cannot be opened: %s", store->name, strerror(errno));
 }
 
-int store_open(struct store *store, const char *name, unsigned long slots)
+static int begin(struct store *store, const char *name)
 {
     store->name = name;
     store->lock_file = -1;
     if (name_files(store) != 0)
         return 1;
-    if (!store->dry_run
-        && (hold(store) != 0 || try_file(name, name) != 0 || try_file(store->aged_name, name) != 0))
-        return 1;
-    if (table_read(&store->table, name, slots) != 0)
-        return 1;
-    store->aged.sum = aged_sum(&store->table);
+    return !store->dry_run
+           && (hold(store) != 0 || try_file(name, name) != 0 || try_file(store->aged_name, name) != 0);
+}
+
+/* The second to which the table in the file was aged. */
+static int find_aged(struct store *store, const struct table *in_file)
+{
+    store->aged.sum = aged_sum(in_file);
     if (aged_read(&store->aged, store->aged_name) != 0)
         return 1;
     store->saved = store->aged;
+    return 0;
+}
+
+int store_open(struct store *store, const char *name, unsigned long slots)
+{
+    return begin(store, name) != 0 || table_read(&store->table, name, slots) != 0
+           || find_aged(store, &store->table) != 0;
+}
+
+int store_open_old(struct store *store, const char *name)
+{
+    static struct table old;
+    struct table *table = &store->table;
+    if (begin(store, name) != 0 || table_read_old(&old, name) != 0 || find_aged(store, &old) != 0)
+        return 1;
+    uint64_t answer = shinglebar_widen(old.bytes, old.length, table->bytes, sizeof table->bytes);
+    if (shinglebar_is_refusal(answer))
+        return bad_data("%s is not widened: refused %u", name, shinglebar_refusal(answer));
+    table->length = shinglebar_written_length(answer);
     return 0;
 }
 
@@ -76,7 +97,8 @@ int store_ready(struct store *store)
     store->aged.sum = aged_sum(&store->table);
     if (store->dry_run)
         return 0;
-    return whole_begin(&store->file, store->name) != 0
+    const char *line = table_line(&store->table);
+    return whole_begin(&store->file, store->name) != 0 || whole_write(&store->file, line, strlen(line)) != 0
            || whole_write(&store->file, store->table.bytes, store->table.length) != 0 || whole_ready(&store->file) != 0
            || (store->aged.known
                && aged_write(&store->aged_file, store->aged_name, store->name, &store->saved, &store->aged) != 0);

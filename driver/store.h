@@ -29,6 +29,9 @@ int store_open(struct store *store, const char *name, unsigned long slots);
 int store_ready(struct store *store);
 int store_replace(struct store *store);
 
+/* The same of a file with records of 14 bytes: the table is the widened one. */
+int store_open_old(struct store *store, const char *name);
+
 /* Both steps. */
 int store_save(struct store *store);
 

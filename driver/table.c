@@ -7,8 +7,69 @@
 #include "message.h"
 #include "process.h"
 
+#define LINE_LENGTH (sizeof TABLE_LINE - 1)
+
+/* Whether records of 14 bytes can have this length. */
+static int fits_old(size_t length)
+{
+    return length > 0 && length % SHINGLEBAR_OLD_RECORD_LENGTH == 0 && length <= SHINGLEBAR_OLD_TABLE_LENGTH_MAX;
+}
+
+static int fits(size_t length)
+{
+    return length > 0 && length % SHINGLEBAR_RECORD_LENGTH == 0 && length <= SHINGLEBAR_TABLE_LENGTH_MAX;
+}
+
+const char *table_line(const struct table *table)
+{
+    return fits_old(table->length) ? TABLE_LINE : "";
+}
+
+/* The records of a file, and whether the line is in front of them. */
+static int records_read(FILE *file, const char *name, struct table *table, int *has_line)
+{
+    table->length = fread(table->bytes, 1, LINE_LENGTH, file);
+    *has_line = table->length == LINE_LENGTH && memcmp(table->bytes, TABLE_LINE, LINE_LENGTH) == 0;
+    if (*has_line)
+        table->length = 0;
+    table->length += fread(table->bytes + table->length, 1, sizeof table->bytes - table->length, file);
+    int bad = ferror(file) ? bad_data("%s cannot be read: %s", name, strerror(errno)) : 0;
+    fclose(file);
+    return bad;
+}
+
+int table_read_old(struct table *old, const char *name)
+{
+    int has_line = 0;
+    FILE *file = fopen(name, "rb");
+    if (file == NULL)
+        return bad_data("%s cannot be opened: %s", name, strerror(errno));
+    if (records_read(file, name, old, &has_line) != 0)
+        return 1;
+    if (has_line || (fits(old->length) && !fits_old(old->length)))
+        return bad_data("%s has records of %d bytes already", name, SHINGLEBAR_RECORD_LENGTH);
+    if (!fits_old(old->length))
+        return bad_data("%s is no table of records of %d bytes: it has %zu%s bytes", name, SHINGLEBAR_OLD_RECORD_LENGTH,
+                        old->length, old->length == sizeof old->bytes ? " or more" : "");
+    return 0;
+}
+
+/* A file without the line whose length fits records of 14 bytes is never taken for one of 15. */
+static int refuse_old(const char *name, size_t length)
+{
+    if (!fits(length))
+        return bad_data("%s has records of %d bytes; `widen` makes them %d", name, SHINGLEBAR_OLD_RECORD_LENGTH,
+                        SHINGLEBAR_RECORD_LENGTH);
+    return bad_data("%s has %zu bytes and does not say of which width: %zu records of %d bytes, which `widen` makes %d, or %zu of "
+                    "%d, which a first line `%.*s` says",
+                    name, length, length / SHINGLEBAR_OLD_RECORD_LENGTH, SHINGLEBAR_OLD_RECORD_LENGTH,
+                    SHINGLEBAR_RECORD_LENGTH, length / SHINGLEBAR_RECORD_LENGTH, SHINGLEBAR_RECORD_LENGTH,
+                    (int)LINE_LENGTH - 1, TABLE_LINE);
+}
+
 int table_read(struct table *table, const char *name, unsigned long slots)
 {
+    int has_line = 0;
     FILE *file = fopen(name, "rb");
     if (file == NULL && errno == ENOENT && slots != 0) {
         table->length = slots * SHINGLEBAR_RECORD_LENGTH;
@@ -19,11 +80,10 @@ int table_read(struct table *table, const char *name, unsigned long slots)
         return bad_data("%s is not there; `receive`, `live` and `set` make it if --slots N is given", name);
     if (file == NULL)
         return bad_data("%s cannot be opened: %s", name, strerror(errno));
-    table->length = fread(table->bytes, 1, sizeof table->bytes, file);
-    int bad = ferror(file) ? bad_data("%s cannot be read: %s", name, strerror(errno)) : 0;
-    fclose(file);
-    if (bad)
-        return bad;
+    if (records_read(file, name, table, &has_line) != 0)
+        return 1;
+    if (!has_line && fits_old(table->length))
+        return refuse_old(name, table->length);
     uint64_t answer = shinglebar_spoilt(table->bytes, table->length);
     if (shinglebar_is_refusal(answer))
         return bad_data("%s is no address table: it has %zu%s bytes; refused %u: %s", name, table->length,
@@ -49,23 +109,54 @@ struct shinglebar_record table_record(const struct table *table, unsigned slot)
     return shinglebar_unpack_record(table_slot(table, slot));
 }
 
-int table_find(const struct table *table, unsigned kind, uint32_t label, uint64_t mac)
+/* The lowest slots of a pair, each -1 if there is none: any, a configured one, an unmarked learned one, a marked one behind a nickname. */
+struct homes {
+    int lowest, configured, unmarked, marked;
+};
+
+static struct homes find_homes(const struct table *table, const struct home *home)
 {
+    struct homes found = {-1, -1, -1, -1};
     uint8_t wanted[SHINGLEBAR_RECORD_LENGTH];
     const struct shinglebar_record some = {
-        .state = SHINGLEBAR_RECORD_LEARNED, .label_kind = kind, .label = label, .mac = mac, .nickname = 1};
+        .state = SHINGLEBAR_RECORD_LEARNED, .label_kind = home->kind, .label = home->label, .mac = home->mac, .nickname = 1};
     /* No record holds a pair that cannot be packed. */
     if (!shinglebar_pack_record(&some, wanted))
-        return -1;
-    for (unsigned slot = 0; slot < table_slots(table); slot++) {
+        return found;
+    /* The lowest comes last. */
+    for (unsigned slot = table_slots(table); slot-- > 0;) {
         /* Bytes 1 to 8 hold nothing but label and address: most slots are told by them. */
         if (memcmp(table_slot(table, slot) + 1, wanted + 1, 8) != 0)
             continue;
         struct shinglebar_record record = table_record(table, slot);
-        if (record_holds(&record, kind, label, mac))
-            return (int)slot;
+        if (!record_holds(&record, home->kind, home->label, home->mac))
+            continue;
+        found.lowest = (int)slot;
+        if (record.state == SHINGLEBAR_RECORD_CONFIGURED)
+            found.configured = (int)slot;
+        else if (!record.multihomed)
+            found.unmarked = (int)slot;
+        else if (record.nickname == home->nickname)
+            found.marked = (int)slot;
     }
-    return -1;
+    return found;
+}
+
+int table_find(const struct table *table, unsigned kind, uint32_t label, uint64_t mac)
+{
+    const struct home home = {.kind = kind, .label = label, .mac = mac};
+    struct homes found = find_homes(table, &home);
+    return found.configured >= 0 ? found.configured : found.lowest;
+}
+
+int table_judged(const struct table *table, const struct home *home)
+{
+    struct homes found = find_homes(table, home);
+    if (found.configured >= 0)
+        return found.configured;
+    if (!home->marked)
+        return found.lowest;
+    return found.unmarked >= 0 ? found.unmarked : found.marked;
 }
 
 int concerns(const struct audience *audience, const struct shinglebar_record *record)

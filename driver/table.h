@@ -10,6 +10,10 @@
 
 #define TABLE_SLOTS_MAX (SHINGLEBAR_TABLE_LENGTH_MAX / SHINGLEBAR_RECORD_LENGTH)
 
+/* A table file says the width of its records: by its length, or where records of 14 bytes could have that length too (multiples of 210)
+ * by this line in front of them. */
+#define TABLE_LINE "shinglebar table 15\n"
+
 /* One byte more than a table may have, so that a file that is too long is seen. */
 struct table {
     size_t length;
@@ -22,15 +26,33 @@ struct audience {
     uint64_t mac;
 };
 
+/* What a frame teaches, or taught already: a pair of label and address, the nickname that it is behind, and whether the frame was marked. */
+struct home {
+    unsigned kind;
+    uint32_t label;
+    uint64_t mac;
+    unsigned nickname;
+    int marked;
+};
+
 /* Reads a table file. Where it is missing and slots is not 0, the table is that many free slots. 0, or 1 and said. */
 int table_read(struct table *table, const char *name, unsigned long slots);
+
+/* Reads a file of records of 14 bytes, as they are. 0, or 1 and said. */
+int table_read_old(struct table *old, const char *name);
+
+/* The line that a table's file has in front of the records, empty where their length says it all. */
+const char *table_line(const struct table *table);
 
 unsigned table_slots(const struct table *table);
 const uint8_t *table_slot(const struct table *table, unsigned slot);
 struct shinglebar_record table_record(const struct table *table, unsigned slot);
 
-/* The lowest slot with this label and address among the learned and configured ones, or -1. */
+/* Among the learned and configured slots with this label and address: the lowest configured one, else the lowest; -1 if there is none. */
 int table_find(const struct table *table, unsigned kind, uint32_t label, uint64_t mac);
+
+/* The slot that learning judges a frame against, or -1 if it fills a free one. */
+int table_judged(const struct table *table, const struct home *home);
 
 /* Whether a record concerns an audience. */
 int concerns(const struct audience *audience, const struct shinglebar_record *record);

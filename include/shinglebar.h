@@ -24,7 +24,7 @@
  *
  * - An area that a call writes (output, working area, and the table of receive, flush and age) may not
  *   be used by another thread until the call has returned. A table that threads share needs a lock of
- *   theirs: shared for lookup and spoilt, exclusive for receive, flush and age.
+ *   theirs: shared for lookup, spoilt and widen, exclusive for receive, flush and age.
  * - A thread needs SHINGLEBAR_STACK_MAX bytes of stack for a call, beside its own. There is no heap.
  *
  * Bridge messages. A frame with 01-80-C2-00-00-00 to 0F or 21 in front answers 5 in receive, with Compact
@@ -43,9 +43,12 @@
 #include <stddef.h>
 #include <stdint.h>
 
-/* The bytes of a record of the address table, and of the longest table. */
-#define SHINGLEBAR_RECORD_LENGTH 14
-#define SHINGLEBAR_TABLE_LENGTH_MAX 57344
+/* The bytes of a record of the address table, and of the longest table; and those of the older tables that
+ * shinglebar_widen reads. */
+#define SHINGLEBAR_RECORD_LENGTH 15
+#define SHINGLEBAR_TABLE_LENGTH_MAX 61440
+#define SHINGLEBAR_OLD_RECORD_LENGTH 14
+#define SHINGLEBAR_OLD_TABLE_LENGTH_MAX 57344
 
 /* The bytes of the longest frame, and of a working area in which every compaction has room: send wants
  * so many. */
@@ -64,7 +67,7 @@
 enum shinglebar_refusal_number {
     /* settings outside their ranges */
     SHINGLEBAR_REFUSAL_SETTINGS = 1,
-    /* table length 0, not a multiple of 14, or over 57,344 */
+    /* table length 0, not a multiple of 15, or over 61,440 */
     SHINGLEBAR_REFUSAL_TABLE_LENGTH = 2,
     /* frame (or expanded result) outside 14 to 9,216 bytes */
     SHINGLEBAR_REFUSAL_FRAME_LENGTH = 3,
@@ -148,6 +151,11 @@ enum shinglebar_spoilt_kind {
     SHINGLEBAR_SPOILT_NONE = 65
 };
 
+enum shinglebar_widen_kind {
+    /* shinglebar_written_length */
+    SHINGLEBAR_WIDEN_WRITTEN = 64
+};
+
 /* What learning did with the inner source of a frame delivered. */
 enum shinglebar_learning_outcome {
     SHINGLEBAR_LEARNING_LEARNED = 0,
@@ -163,7 +171,7 @@ enum shinglebar_label_kind_number {
 };
 
 /*
- * A record of the address table is 112 bits, the most significant first; bit 0 is the high bit of byte 0:
+ * A record of the address table is 120 bits, the most significant first; bit 0 is the high bit of byte 0:
  *
  *   bits      width  field
  *   0..1      2      state: 0 free, 1 learned, 2 configured
@@ -173,10 +181,12 @@ enum shinglebar_label_kind_number {
  *   75..90    16     nickname
  *   91..98    8      confidence
  *   99..111   13     seconds
+ *   112       1      multihomed: 1 in a record that a marked frame taught
+ *   113..119  7      0
  *
- * Free is 14 zero bytes. Any other record is spoilt that has state 0 or 3, a VLAN label outside 1 to FFE
- * (all 24 bits count), a group MAC, or a nickname outside 0001 to FFBF. A spoilt record matches nothing
- * and is never changed.
+ * Free is 15 zero bytes. Any other record is spoilt that has state 0 or 3, a VLAN label outside 1 to FFE
+ * (all 24 bits count), a group MAC, a nickname outside 0001 to FFBF, or one of the last 7 bits set. A
+ * spoilt record matches nothing and is never changed.
  */
 enum shinglebar_record_state {
     SHINGLEBAR_RECORD_FREE = 0,
@@ -195,6 +205,7 @@ struct shinglebar_record {
     unsigned nickname;   /* 0001 to FFBF */
     unsigned confidence; /* 0 to 255 */
     unsigned seconds;    /* 0 to 8191 */
+    unsigned multihomed; /* 0 or 1 */
 };
 
 #ifdef __cplusplus
@@ -221,6 +232,11 @@ uint64_t shinglebar_age(uint16_t seconds, uint8_t *table, size_t table_len);
 
 /* The lowest spoilt slot, counted from 0, or none. */
 uint64_t shinglebar_spoilt(const uint8_t *table, size_t table_len);
+
+/* Writes an older table, of records of 14 bytes, to the output area as one of records of 15: each record
+ * with a zero byte after it. Answers 2 where the older table's length is 0, not a multiple of 14, or over
+ * 57,344, then 16. A length alone does not tell the two widths apart: a multiple of 210 may be either. */
+uint64_t shinglebar_widen(const uint8_t *old, size_t old_len, uint8_t *out, size_t out_len);
 
 #ifndef SHINGLEBAR_TABLE_ONLY
 
@@ -311,8 +327,8 @@ static inline unsigned shinglebar_count(uint64_t result)
     return (unsigned)((result >> 8) & 0xFFFFu);
 }
 
-/* Of SHINGLEBAR_COMPACT_WRITTEN, SHINGLEBAR_EXPAND_WRITTEN and SHINGLEBAR_SEND_COMPACTED: the bytes
- * written to the output or working area. */
+/* Of SHINGLEBAR_COMPACT_WRITTEN, SHINGLEBAR_EXPAND_WRITTEN, SHINGLEBAR_WIDEN_WRITTEN and
+ * SHINGLEBAR_SEND_COMPACTED: the bytes written to the output or working area. */
 static inline size_t shinglebar_written_length(uint64_t result)
 {
     return (size_t)((result >> 8) & 0xFFFFu);
@@ -336,7 +352,7 @@ static inline const char *shinglebar_refusal_string(uint64_t result)
     static const char *const words[] = {
         "no refusal",
         "settings outside their ranges",
-        "table length 0, not a multiple of 14, or over 57,344",
+        "table length 0, not a multiple of 15, or over 61,440",
         "frame (or expanded result) outside 14 to 9,216 bytes",
         "22F3 not at its place",
         "destination in front not for this port",
@@ -367,7 +383,7 @@ static inline int shinglebar_is_good_entry(const struct shinglebar_record *recor
     int individual = record->mac >> 48 == 0 && (record->mac >> 40 & 1) == 0;
     int nickname = record->nickname >= 1 && record->nickname <= 0xFFBF;
     return (vlan || fine) && individual && nickname && record->confidence <= 255
-           && record->seconds <= 8191;
+           && record->seconds <= 8191 && record->multihomed <= 1;
 }
 
 /* What the SHINGLEBAR_RECORD_LENGTH bytes of a slot hold. Of a spoilt record the fields are as they lie
@@ -376,7 +392,7 @@ static inline struct shinglebar_record shinglebar_unpack_record(const uint8_t *s
 {
     struct shinglebar_record record;
     uint64_t high = 0; /* bits 0..63 */
-    uint64_t low = 0;  /* bits 64..111 */
+    uint64_t low = 0;  /* bits 64..119 */
     int at;
     for (at = 0; at < 8; at++)
         high = high << 8 | slot[at];
@@ -385,11 +401,13 @@ static inline struct shinglebar_record shinglebar_unpack_record(const uint8_t *s
     record.state = (unsigned)(high >> 62);
     record.label_kind = (unsigned)(high >> 61 & 0x1);
     record.label = (uint32_t)(high >> 37 & 0xFFFFFF);
-    record.mac = (high << 11 | low >> 37) & (((uint64_t)1 << 48) - 1);
-    record.nickname = (unsigned)(low >> 21 & 0xFFFF);
-    record.confidence = (unsigned)(low >> 13 & 0xFF);
-    record.seconds = (unsigned)(low & 0x1FFF);
-    if (record.state == SHINGLEBAR_RECORD_FREE ? (high | low) != 0 : !shinglebar_is_good_entry(&record))
+    record.mac = (high << 11 | low >> 45) & (((uint64_t)1 << 48) - 1);
+    record.nickname = (unsigned)(low >> 29 & 0xFFFF);
+    record.confidence = (unsigned)(low >> 21 & 0xFF);
+    record.seconds = (unsigned)(low >> 8 & 0x1FFF);
+    record.multihomed = (unsigned)(low >> 7 & 0x1);
+    if (record.state == SHINGLEBAR_RECORD_FREE ? (high | low) != 0
+                                               : !shinglebar_is_good_entry(&record) || (low & 0x7F) != 0)
         record.state = SHINGLEBAR_RECORD_SPOILT;
     return record;
 }
@@ -407,13 +425,14 @@ static inline int shinglebar_pack_record(const struct shinglebar_record *record,
             return 0;
         high = (uint64_t)record->state << 62 | (uint64_t)record->label_kind << 61
                | (uint64_t)record->label << 37 | record->mac >> 11;
-        low = (record->mac & 0x7FF) << 37 | (uint64_t)record->nickname << 21
-              | (uint64_t)record->confidence << 13 | record->seconds;
+        low = (record->mac & 0x7FF) << 45 | (uint64_t)record->nickname << 29
+              | (uint64_t)record->confidence << 21 | (uint64_t)record->seconds << 8
+              | (uint64_t)record->multihomed << 7;
     }
     for (at = 0; at < 8; at++)
         slot[at] = (uint8_t)(high >> (56 - 8 * at) & 0xFF);
     for (at = 8; at < SHINGLEBAR_RECORD_LENGTH; at++)
-        slot[at] = (uint8_t)(low >> (104 - 8 * at) & 0xFF);
+        slot[at] = (uint8_t)(low >> (8 * (SHINGLEBAR_RECORD_LENGTH - 1 - at)) & 0xFF);
     return 1;
 }
 
@@ -451,6 +470,11 @@ static inline uint64_t shinglebar_age_any(uint16_t seconds, uint8_t *table, size
 static inline uint64_t shinglebar_spoilt_any(const uint8_t *table, size_t table_len)
 {
     return shinglebar_spoilt(shinglebar_const_area(table, table_len), table_len);
+}
+
+static inline uint64_t shinglebar_widen_any(const uint8_t *old, size_t old_len, uint8_t *out, size_t out_len)
+{
+    return shinglebar_widen(shinglebar_const_area(old, old_len), old_len, shinglebar_area(out, out_len), out_len);
 }
 
 #ifndef SHINGLEBAR_TABLE_ONLY

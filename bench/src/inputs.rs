@@ -6,7 +6,7 @@ use crate::random::Random;
 pub const SLOTS: usize = 4096;
 /// The slots of the tables along a curve.
 pub const SIZES: [usize; 4] = [64, 256, 1024, SLOTS];
-pub const RECORD: usize = 14;
+pub const RECORD: usize = 15;
 
 pub const LEARNED: u8 = 1;
 pub const CONFIGURED: u8 = 2;
@@ -63,6 +63,7 @@ pub struct Entry {
     pub nickname: u16,
     pub confidence: u8,
     pub seconds: u16,
+    pub multihomed: bool,
 }
 
 impl Entry {
@@ -75,18 +76,20 @@ impl Entry {
             nickname: random.pick(&NICKNAMES),
             confidence: random.byte(),
             seconds: random.between(101, 8191) as u16,
+            multihomed: false,
         }
     }
 
     pub fn bytes(&self) -> [u8; RECORD] {
-        let bits = u128::from(self.state) << 110
-            | u128::from(self.label.kind()) << 109
-            | u128::from(self.label.number()) << 85
-            | u128::from(self.mac) << 37
-            | u128::from(self.nickname) << 21
-            | u128::from(self.confidence) << 13
-            | u128::from(self.seconds);
-        let [_, _, bytes @ ..] = bits.to_be_bytes();
+        let bits = u128::from(self.state) << 118
+            | u128::from(self.label.kind()) << 117
+            | u128::from(self.label.number()) << 93
+            | u128::from(self.mac) << 45
+            | u128::from(self.nickname) << 29
+            | u128::from(self.confidence) << 21
+            | u128::from(self.seconds) << 8
+            | u128::from(self.multihomed) << 7;
+        let [_, bytes @ ..] = bits.to_be_bytes();
         bytes
     }
 }

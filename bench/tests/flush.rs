@@ -82,13 +82,20 @@ fn record(random: &mut Random, pool: &Pool) -> [u8; RECORD] {
         _ => pool.label(random),
     };
     let group = if random.one_in(50) { GROUP } else { 0 };
-    let bits = u128::from(state) << 110
-        | u128::from(kind) << 109
-        | u128::from(label) << 85
-        | u128::from(pool.mac(random) | group) << 37
-        | u128::from(random.pick(&pool.nicknames)) << 21
-        | u128::from(random.between(0, 0x1F_FFFF));
-    let [_, _, bytes @ ..] = bits.to_be_bytes();
+    // Marked or not; now and then spoilt by the bits behind the mark.
+    let last = match random.between(0, 24) {
+        0 => random.between(0, 0xFF),
+        1..=6 => 0x80,
+        _ => 0,
+    };
+    let bits = u128::from(state) << 118
+        | u128::from(kind) << 117
+        | u128::from(label) << 93
+        | u128::from(pool.mac(random) | group) << 45
+        | u128::from(random.pick(&pool.nicknames)) << 29
+        | u128::from(random.between(0, 0x1F_FFFF)) << 8
+        | u128::from(last);
+    let [_, bytes @ ..] = bits.to_be_bytes();
     bytes
 }
 

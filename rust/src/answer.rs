@@ -6,7 +6,7 @@
 //! | receive | 65 delivered | 8..23 length, 24..25 learning, 32 label kind, 40..63 label |
 //! | receive | 66 other channel | |
 //! | receive, flush | 67 flushed | 8..23 records cleared |
-//! | compact, expand | 64 written | 8..23 length |
+//! | compact, expand, widen | 64 written | 8..23 length |
 //! | send | 64 compacted | 8..23 length |
 //! | send | 65 the frame itself | |
 //! | lookup | 64 found | 8..23 nickname |
@@ -20,10 +20,12 @@ use core::error::Error;
 use core::fmt;
 use core::ops::RangeInclusive;
 
-use crate::{Label, Refusal};
+use crate::{Label, Refusal, RECORD_LENGTH, TABLE_LENGTH_MAX};
 
 /// The bytes of what a call writes: a frame.
 const LENGTHS: RangeInclusive<u16> = 14..=9216;
+/// The bytes of a table that is written.
+const TABLES: RangeInclusive<u16> = RECORD_LENGTH as u16..=TABLE_LENGTH_MAX as u16;
 /// The records of a table that can be cleared, and its slots.
 const COUNTS: RangeInclusive<u16> = 0..=4096;
 const SLOTS: RangeInclusive<u16> = 0..=4095;
@@ -133,6 +135,13 @@ pub enum Spoilt {
     Slot(u16),
     /// No slot is spoilt.
     None,
+}
+
+/// The widened table starts the output area.
+#[derive(Clone, Copy, Debug, PartialEq, Eq, Hash)]
+pub struct Widened {
+    /// The bytes written.
+    pub length: usize,
 }
 
 /// The answers of a call, without its refusals.
@@ -454,5 +463,18 @@ impl Answer for Spoilt {
             Spoilt::Slot(slot) => with_value(64, slot),
             Spoilt::None => 65,
         }
+    }
+}
+
+impl Answer for Widened {
+    const REFUSALS: &'static [Refusal] = &[Refusal::TableLength, Refusal::OutputLength];
+
+    fn from_word(word: u64) -> Option<Widened> {
+        let length = value(word, TABLES).map(usize::from)?;
+        (kind(word) == 64 && length.is_multiple_of(RECORD_LENGTH)).then_some(Widened { length })
+    }
+
+    fn word(&self) -> u64 {
+        with_length(64, self.length)
     }
 }

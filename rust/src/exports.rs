@@ -87,4 +87,6 @@ extern "C" {
     pub fn shinglebar_age(seconds: u16, table: *mut u8, table_len: usize) -> u64;
 
     pub fn shinglebar_spoilt(table: *const u8, table_len: usize) -> u64;
+
+    pub fn shinglebar_widen(old: *const u8, old_len: usize, out: *mut u8, out_len: usize) -> u64;
 }

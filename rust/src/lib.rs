@@ -12,11 +12,12 @@
 //! | [`compact`], [`expand`] | convert between General and Compact Format |
 //! | [`send`] | chooses what to send to a far port |
 //! | [`lookup`], [`age`], [`spoilt`] | the address table |
+//! | [`widen`] | makes an older table, of records of 14 bytes, one of 15 |
 //!
 //! Each takes any bytes. A [`Refusal`] has changed nothing; an area keeps its bytes behind what a
 //! call writes. [`raw`] has the calls with any numbers too.
 //!
-//! The address table is a lent area of 1 to 4,096 records of 14 bytes; all zero is free.
+//! The address table is a lent area of 1 to 4,096 records of 15 bytes; all zero is free.
 //!
 //! ```
 //! use shinglebar::{Found, Label, Learning, Mac, Received, Settings};
@@ -62,7 +63,7 @@ mod values;
 
 pub use answer::{
     decode, encode, Aged, Answer, Compacted, Expanded, Flushed, Found, Learning, Received, Sent,
-    Spoilt, UnknownWord,
+    Spoilt, UnknownWord, Widened,
 };
 pub use refusal::Refusal;
 pub use values::{Label, Mac, Outer, Settings};
@@ -71,9 +72,13 @@ pub use values::{Label, Mac, Outer, Settings};
 pub const VERSION: &str = env!("CARGO_PKG_VERSION");
 
 /// The bytes of a record of the address table.
-pub const RECORD_LENGTH: usize = 14;
+pub const RECORD_LENGTH: usize = 15;
 /// The bytes of the longest table.
-pub const TABLE_LENGTH_MAX: usize = 57_344;
+pub const TABLE_LENGTH_MAX: usize = 61_440;
+/// The bytes of a record of an older table, and of the longest one: what [`widen`] reads.
+pub const OLD_RECORD_LENGTH: usize = 14;
+/// The bytes of the longest older table.
+pub const OLD_TABLE_LENGTH_MAX: usize = 57_344;
 /// The bytes of the longest frame: an output area in which every result has room.
 pub const FRAME_LENGTH_MAX: usize = 9216;
 /// The bytes of a working area in which every compaction has room.
@@ -125,14 +130,14 @@ pub fn receive(
 ///
 /// // Learned: VLAN 10, 02-00-00-00-00-01, nickname 1234.
 /// let mut table = [
-///     0x40, 0x00, 0x01, 0x40, 0x40, 0x00, 0x00, 0x00, 0x00, 0x22, 0x46, 0x82, 0x81, 0x2C,
+///     0x40, 0x00, 0x01, 0x40, 0x40, 0x00, 0x00, 0x00, 0x00, 0x22, 0x46, 0x82, 0x81, 0x2C, 0x00,
 /// ];
 /// // One nickname, 1234; one block, the VLANs 10 to 12.
 /// let payload = [0x01, 0x12, 0x34, 0x01, 0x00, 0x0A, 0x00, 0x0C];
 /// let cut = &payload[..7];
 /// assert_eq!(shinglebar::flush(0x0102, cut, &mut table), Err(Refusal::Payload));
 /// assert_eq!(shinglebar::flush(0x0102, &payload, &mut table), Ok(Flushed { count: 1 }));
-/// assert_eq!(table, [0; 14]);
+/// assert_eq!(table, [0; shinglebar::RECORD_LENGTH]);
 /// ```
 #[inline]
 pub fn flush(ingress: u16, payload: &[u8], table: &mut [u8]) -> Result<Flushed, Refusal> {
@@ -222,13 +227,32 @@ pub fn age(seconds: u16, table: &mut [u8]) -> Result<Aged, Refusal> {
 /// // State 0 with another bit set.
 /// let mut table = [0; 2 * shinglebar::RECORD_LENGTH];
 /// assert_eq!(shinglebar::spoilt(&table), Ok(Spoilt::None));
-/// table[27] = 1;
+/// table[2 * shinglebar::RECORD_LENGTH - 1] = 1;
 /// assert_eq!(shinglebar::spoilt(&table), Ok(Spoilt::Slot(1)));
 /// assert_eq!(shinglebar::spoilt(&table[1..]), Err(Refusal::TableLength));
 /// ```
 #[inline]
 pub fn spoilt(table: &[u8]) -> Result<Spoilt, Refusal> {
     answered(raw::spoilt(table))
+}
+
+/// Writes an older table, of records of 14 bytes, as one of records of 15: each record with a zero byte after it.
+///
+/// ```
+/// use shinglebar::{Refusal, Widened};
+///
+/// // Learned: VLAN 10, 02-00-00-00-00-01, nickname 1234.
+/// let old = [
+///     0x40, 0x00, 0x01, 0x40, 0x40, 0x00, 0x00, 0x00, 0x00, 0x22, 0x46, 0x82, 0x81, 0x2C,
+/// ];
+/// let mut table = [0xFF; shinglebar::RECORD_LENGTH];
+/// assert_eq!(shinglebar::widen(&old, &mut table[..14]), Err(Refusal::OutputLength));
+/// assert_eq!(shinglebar::widen(&old, &mut table), Ok(Widened { length: 15 }));
+/// assert_eq!((&table[..14], table[14]), (&old[..], 0));
+/// ```
+#[inline]
+pub fn widen(old: &[u8], out: &mut [u8]) -> Result<Widened, Refusal> {
+    answered(raw::widen(old, out))
 }
 
 #[cfg(test)]

@@ -40,7 +40,7 @@ macro_rules! refusals {
 
 refusals! {
     Settings = 1, "settings outside their ranges";
-    TableLength = 2, "table length 0, not a multiple of 14, or over 57,344";
+    TableLength = 2, "table length 0, not a multiple of 15, or over 61,440";
     FrameLength = 3, "frame (or expanded result) outside 14 to 9,216 bytes";
     NotTrill = 4, "22F3 not at its place";
     NotForThisPort = 5, "destination in front not for this port";

@@ -4,6 +4,8 @@
 
 #include "expect.h"
 
+#define LENGTH SHINGLEBAR_RECORD_LENGTH
+
 static void null_areas(void)
 {
     expect("lookup NULL", shinglebar_lookup_any(0, 10, 1, NULL, 0), 2);
@@ -11,14 +13,39 @@ static void null_areas(void)
     expect("age NULL", shinglebar_age_any(300, NULL, 0), 2);
     expect("age NULL by 65,535", shinglebar_age_any(65535, NULL, 0), 2);
     expect("spoilt NULL", shinglebar_spoilt_any(NULL, 0), 2);
+    expect("widen NULL", shinglebar_widen_any(NULL, 0, NULL, 0), 2);
+}
+
+static void an_older_table(void)
+{
+    const uint8_t old[SHINGLEBAR_OLD_RECORD_LENGTH] = {0x40, 0x00, 0x01, 0x40, 0x40, 0x00, 0x00,
+                                                       0x00, 0x00, 0x22, 0x46, 0x82, 0x81, 0x2C};
+    uint8_t table[LENGTH + 1];
+    size_t at;
+    for (at = 0; at < sizeof table; at++)
+        table[at] = 0x5A;
+    expect("no room", shinglebar_widen_any(old, sizeof old, NULL, 0), SHINGLEBAR_REFUSAL_OUTPUT_LENGTH);
+    expect("a byte short of room", shinglebar_widen_any(old, sizeof old, table, LENGTH - 1),
+           SHINGLEBAR_REFUSAL_OUTPUT_LENGTH);
+    expect("no older table", shinglebar_widen_any(old, sizeof old - 1, table, sizeof table),
+           SHINGLEBAR_REFUSAL_TABLE_LENGTH);
+    expect("nothing is written", table[0], 0x5A);
+    expect("widened", shinglebar_kind(shinglebar_widen_any(old, sizeof old, table, sizeof table)),
+           SHINGLEBAR_WIDEN_WRITTEN);
+    expect("widened length", shinglebar_written_length(shinglebar_widen_any(old, sizeof old, table, sizeof table)),
+           LENGTH);
+    for (at = 0; at < sizeof old; at++)
+        expect("copied", table[at], old[at]);
+    expect("a zero byte", table[LENGTH - 1], 0);
+    expect("the rest stays", table[LENGTH], 0x5A);
 }
 
 static void a_table(void)
 {
     /* Learned, VLAN 10, MAC 02-00-00-00-00-01, nickname 1234, confidence 20, 300 seconds; then a
      * spoilt record. */
-    uint8_t table[28] = {0x40, 0x00, 0x01, 0x40, 0x40, 0x00, 0x00, 0x00, 0x00, 0x22, 0x46, 0x82, 0x81,
-                         0x2C, 0xC0};
+    uint8_t table[2 * LENGTH] = {0x40, 0x00, 0x01, 0x40, 0x40, 0x00, 0x00, 0x00, 0x00, 0x22, 0x46, 0x82, 0x81,
+                                 0x2C, 0x00, 0xC0};
     size_t at;
     uint64_t found = shinglebar_lookup_any(SHINGLEBAR_LABEL_VLAN, 10, UINT64_C(0x020000000001), table,
                                            sizeof table);
@@ -27,13 +54,13 @@ static void a_table(void)
     expect("nickname found", shinglebar_nickname(found), 0x1234);
     expect("spoilt", shinglebar_kind(spoilt), SHINGLEBAR_SPOILT_SLOT);
     expect("slot", shinglebar_slot(spoilt), 1);
-    expect("one slot", shinglebar_spoilt_any(table, 14), SHINGLEBAR_SPOILT_NONE);
-    expect("length 13", shinglebar_spoilt_any(table, 13), SHINGLEBAR_REFUSAL_TABLE_LENGTH);
+    expect("one slot", shinglebar_spoilt_any(table, LENGTH), SHINGLEBAR_SPOILT_NONE);
+    expect("a byte short", shinglebar_spoilt_any(table, LENGTH - 1), SHINGLEBAR_REFUSAL_TABLE_LENGTH);
     expect("age by 299", shinglebar_age_any(299, table, sizeof table), SHINGLEBAR_AGE_DONE);
-    expect("1 second left", table[13], 1);
+    expect("1 second left", table[LENGTH - 2], 1);
     expect("age by 1", shinglebar_age_any(1, table, sizeof table), SHINGLEBAR_AGE_DONE);
     for (at = 0; at < sizeof table; at++) {
-        expect("byte", table[at], at == 14 ? 0xC0 : 0);
+        expect("byte", table[at], at == LENGTH ? 0xC0 : 0);
     }
     expect("none", shinglebar_lookup_any(0, 10, UINT64_C(0x020000000001), table, sizeof table),
            SHINGLEBAR_LOOKUP_NONE);
@@ -73,6 +100,7 @@ int main(void)
 {
     null_areas();
     a_table();
+    an_older_table();
     decoders();
     return failures == 0 ? 0 : 1;
 }

@@ -33,6 +33,7 @@ static void put_record(uint8_t *slot, const struct shinglebar_record *record)
     put_bits(slot, 75, 16, record->nickname);
     put_bits(slot, 91, 8, record->confidence);
     put_bits(slot, 99, 13, record->seconds);
+    put_bits(slot, 112, 1, record->multihomed);
 }
 
 /* What the library says that a slot is: a record that is not spoilt is free if it is found by nothing,
@@ -120,8 +121,9 @@ static void good_record(const struct shinglebar_record *record, const uint8_t *s
         expect("a second left", aged.seconds, 1);
         expect("nickname after ageing", aged.nickname, record->nickname);
         expect("confidence after ageing", aged.confidence, record->confidence);
+        expect("mark after ageing", aged.multihomed, record->multihomed);
     }
-    if (is_learned && record->seconds >= 10) {
+    if (is_learned && record->seconds >= 10 && !record->multihomed) {
         memset(copy, 0, LENGTH);
         expect("learned", shinglebar_learning(learn(record, record->confidence, record->seconds, copy)),
                SHINGLEBAR_LEARNING_LEARNED);
@@ -144,6 +146,7 @@ static void one_record(const struct shinglebar_record *bits)
     expect("nickname", record.nickname, bits->nickname);
     expect("confidence", record.confidence, bits->confidence);
     expect("seconds", record.seconds, bits->seconds);
+    expect("multihomed", record.multihomed, bits->multihomed);
 
     memset(packed, 0x5A, LENGTH);
     if (record.state == SHINGLEBAR_RECORD_SPOILT) {
@@ -170,21 +173,23 @@ static void every_boundary(void)
     static const unsigned CONFIDENCES[] = {0, 1, 0x80, 254, 255};
     static const unsigned SECONDS[] = {0, 1, 10, 300, 0x1000, 8190, 8191};
     struct shinglebar_record record;
-    size_t l, m, n, c, s;
+    size_t l, m, n, c, s, h;
     for (record.state = 0; record.state < 4; record.state++)
         for (record.label_kind = 0; record.label_kind < 2; record.label_kind++)
             for (l = 0; l < COUNT(LABELS); l++)
                 for (m = 0; m < COUNT(MACS); m++)
                     for (n = 0; n < COUNT(NICKNAMES); n++)
                         for (c = 0; c < COUNT(CONFIDENCES); c++)
-                            for (s = 0; s < COUNT(SECONDS); s++) {
-                                record.label = LABELS[l];
-                                record.mac = MACS[m];
-                                record.nickname = NICKNAMES[n];
-                                record.confidence = CONFIDENCES[c];
-                                record.seconds = SECONDS[s];
-                                one_record(&record);
-                            }
+                            for (s = 0; s < COUNT(SECONDS); s++)
+                                for (h = 0; h < 2; h++) {
+                                    record.label = LABELS[l];
+                                    record.mac = MACS[m];
+                                    record.nickname = NICKNAMES[n];
+                                    record.confidence = CONFIDENCES[c];
+                                    record.seconds = SECONDS[s];
+                                    record.multihomed = (unsigned)h;
+                                    one_record(&record);
+                                }
 }
 
 /* A good record, and the free one, with one bit the other way. */
@@ -211,6 +216,7 @@ static void every_bit(void)
             slot[bit / 8] ^= (uint8_t)(0x80 >> bit % 8);
             record = shinglebar_unpack_record(slot);
             expect("state", record.state, state_by_library(slot, &record));
+            expect("the last byte", (uint64_t)(record.state == SHINGLEBAR_RECORD_SPOILT || (slot[LENGTH - 1] & 0x7F) == 0), 1);
             expect("packed", (uint64_t)shinglebar_pack_record(&record, packed),
                    record.state != SHINGLEBAR_RECORD_SPOILT);
             if (record.state != SHINGLEBAR_RECORD_SPOILT)
@@ -225,7 +231,7 @@ static void out_of_range(void)
     const uint8_t good[LENGTH] = {0x80, 0x00, 0x01, 0x40, 0x40, 0x00, 0x00,
                                   0x00, 0x00, 0x22, 0x46, 0x82, 0x81, 0x2C};
     const struct shinglebar_record configured = shinglebar_unpack_record(good);
-    struct shinglebar_record wrong[9];
+    struct shinglebar_record wrong[10];
     uint8_t slot[LENGTH];
     size_t i, at;
     expect("configured", configured.state, SHINGLEBAR_RECORD_CONFIGURED);
@@ -241,6 +247,7 @@ static void out_of_range(void)
     wrong[6].confidence = 256;
     wrong[7].seconds = 8192;
     wrong[8].label = 0x100000A;
+    wrong[9].multihomed = 2;
     memset(slot, 0x5A, LENGTH);
     for (i = 0; i < COUNT(wrong); i++)
         expect("out of range", (uint64_t)shinglebar_pack_record(&wrong[i], slot), 0);

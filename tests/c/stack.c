@@ -59,6 +59,7 @@ static void fill_table(void)
         record.nickname = 0x1234 + below(3);
         record.confidence = 20;
         record.seconds = 300;
+        record.multihomed = 0;
         if (!shinglebar_pack_record(&record, table + at))
             exit(2);
     }

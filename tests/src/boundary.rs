@@ -5,6 +5,7 @@
 
 use shinglebar::{
     decode, encode, raw, Aged, Answer, Compacted, Expanded, Flushed, Found, Received, Sent, Spoilt,
+    Widened,
 };
 
 use crate::lend::Lend;
@@ -104,4 +105,12 @@ pub fn age(lender: &mut impl Lend, seconds: u16, table: &mut [u8]) -> u64 {
 
 pub fn spoilt(lender: &mut impl Lend, table: &[u8]) -> u64 {
     known::<Spoilt>(lender.lend(("table", table), [], |table, []| raw::spoilt(table)))
+}
+
+pub fn widen(lender: &mut impl Lend, old: &[u8], out: &mut [u8]) -> u64 {
+    known::<Widened>(lender.lend(
+        ("older table", old),
+        [("output area", out)],
+        |old, [out]| raw::widen(old, out),
+    ))
 }

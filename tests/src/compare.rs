@@ -173,3 +173,19 @@ pub fn send(lender: &mut impl Lend, settings: &Settings, frame: &[u8], work: &mu
     );
     paper
 }
+
+pub fn widen(lender: &mut impl Lend, old: &[u8], out: &mut [u8]) -> u64 {
+    let given = out.to_vec();
+    let mut after = out.to_vec();
+    let library = boundary::widen(lender, old, &mut after);
+    let paper = reference::widen(old, out);
+    assert!(
+        library == paper && after == out,
+        "widen: {}{}older table {}\noutput area {}",
+        words(library, paper),
+        difference("output area", &after, out),
+        hex(old),
+        hex(&given)
+    );
+    paper
+}

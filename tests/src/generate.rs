@@ -4,7 +4,7 @@
 //! and flushes clear.
 
 use crate::random::Random;
-use crate::reference::{Settings, RECORD};
+use crate::reference::{Settings, OLD_RECORD, RECORD, SLOTS, TABLE};
 
 const MASK_48: u64 = (1 << 48) - 1;
 const GROUP: u64 = 1 << 40;
@@ -208,7 +208,12 @@ pub struct Raw {
     pub nickname: u16,
     pub confidence: u8,
     pub seconds: u16,
+    /// The byte behind the seconds: the multihomed bit, then 7 bits that are 0 in a good record.
+    pub last: u8,
 }
+
+/// The multihomed bit in that byte.
+pub const MARK: u8 = 0x80;
 
 impl Raw {
     pub fn bytes(&self) -> [u8; RECORD] {
@@ -219,26 +224,31 @@ impl Raw {
         bits = (bits << 16) | u128::from(self.nickname);
         bits = (bits << 8) | u128::from(self.confidence);
         bits = (bits << 13) | u128::from(self.seconds & 0x1FFF);
+        bits = (bits << 8) | u128::from(self.last);
         let mut bytes = [0; RECORD];
-        bytes.copy_from_slice(&bits.to_be_bytes()[2..]);
+        bytes.copy_from_slice(&bits.to_be_bytes()[UNUSED..]);
         bytes
     }
 
     pub fn of(bytes: &[u8]) -> Raw {
         let mut all = [0; 16];
-        all[2..].copy_from_slice(bytes);
+        all[UNUSED..].copy_from_slice(bytes);
         let bits = u128::from_be_bytes(all);
         Raw {
-            state: (bits >> 110) as u8 & 3,
-            kind: (bits >> 109) as u8 & 1,
-            label: (bits >> 85) as u32 & 0xFF_FFFF,
-            mac: (bits >> 37) as u64 & MASK_48,
-            nickname: (bits >> 21) as u16,
-            confidence: (bits >> 13) as u8,
-            seconds: bits as u16 & 0x1FFF,
+            state: (bits >> 118) as u8 & 3,
+            kind: (bits >> 117) as u8 & 1,
+            label: (bits >> 93) as u32 & 0xFF_FFFF,
+            mac: (bits >> 45) as u64 & MASK_48,
+            nickname: (bits >> 29) as u16,
+            confidence: (bits >> 21) as u8,
+            seconds: (bits >> 8) as u16 & 0x1FFF,
+            last: bits as u8,
         }
     }
 }
+
+/// The bytes of a 128-bit number in front of a record's.
+const UNUSED: usize = 16 - RECORD;
 
 /// A good record of the pool, learned or configured.
 fn good_record(random: &mut Random, pool: &Pool) -> Raw {
@@ -261,11 +271,12 @@ fn good_record(random: &mut Random, pool: &Pool) -> Raw {
             0 => random.pick(&[0, 1, 9, 10, 299, 300, 301, 4096, 8190, 8191]),
             _ => random.below(8192) as u16,
         },
+        last: if random.one_in(3) { MARK } else { 0 },
     }
 }
 
 /// The ways in which a record is spoilt, by number; see `spoilt_record`.
-const SPOILT_WAYS: u64 = 10;
+const SPOILT_WAYS: u64 = 12;
 
 fn spoilt_record(random: &mut Random, pool: &Pool) -> Raw {
     let mut record = good_record(random, pool);
@@ -274,7 +285,7 @@ fn spoilt_record(random: &mut Random, pool: &Pool) -> Raw {
         1 => record.state = 0,
         2 => {
             // State 0 with one other bit.
-            record = Raw::of(&(1u128 << random.below(110)).to_be_bytes()[2..]);
+            record = Raw::of(&(1u128 << random.below(118)).to_be_bytes()[UNUSED..]);
         }
         3 => (record.kind, record.label) = (0, 0),
         4 => (record.kind, record.label) = (0, 0xFFF),
@@ -288,7 +299,10 @@ fn spoilt_record(random: &mut Random, pool: &Pool) -> Raw {
         }
         7 => record.mac |= GROUP,
         8 => record.nickname = 0,
-        _ => record.nickname = random.between(0xFFC0, 0xFFFF) as u16,
+        9 => record.nickname = random.between(0xFFC0, 0xFFFF) as u16,
+        // One of the seven bits behind the multihomed one, or any of them.
+        10 => record.last |= 1 << random.below(7),
+        _ => record.last |= random.between(1, 0x7F) as u8,
     }
     record
 }
@@ -296,8 +310,8 @@ fn spoilt_record(random: &mut Random, pool: &Pool) -> Raw {
 /// The slots of a table of good length.
 fn slots(random: &mut Random) -> usize {
     match random.below(1000) {
-        0..=3 => random.pick(&[4095, 4096, 4096]),
-        4..=6 => random.length(300, 4096),
+        0..=3 => random.pick(&[SLOTS - 1, SLOTS, SLOTS]),
+        4..=6 => random.length(300, SLOTS),
         7..=50 => random.length(41, 300),
         51..=400 => random.length(1, 4),
         _ => random.length(5, 40),
@@ -308,15 +322,18 @@ fn slots(random: &mut Random) -> usize {
 fn bad_length(random: &mut Random) -> usize {
     match random.below(20) {
         0 => 100_000,
-        1 => 57_345,
-        2 => 57_344 + RECORD,
-        3 => 57_343,
+        1 => TABLE + 1,
+        2 => TABLE + RECORD,
+        3 => TABLE - 1,
         4..=7 => 0,
-        8..=9 => 13,
-        10..=11 => 15,
-        12..=13 => random.length(1, 13),
-        14 => 57_344 + RECORD * random.length(1, 200),
-        _ => RECORD * random.length(0, 40) + random.length(1, 13),
+        8..=9 => RECORD - 1,
+        10..=11 => RECORD + 1,
+        12..=13 => random.length(1, RECORD - 1),
+        14 => TABLE + RECORD * random.length(1, 200),
+        // Lengths of older tables: the longest, and one of some records.
+        15 => 57_344,
+        16 => OLD_RECORD * random.length(1, 14),
+        _ => RECORD * random.length(0, 40) + random.length(1, RECORD - 1),
     }
 }
 
@@ -352,6 +369,9 @@ pub fn good_length_table(random: &mut Random, pool: &Pool) -> Vec<u8> {
             for slot in records {
                 let mut record = Raw::of(&random.bytes(RECORD));
                 record.mac &= !GROUP;
+                if !random.one_in(4) {
+                    record.last &= MARK;
+                }
                 if record.kind == 0 {
                     record.label &= 0xFFF;
                 }
@@ -421,6 +441,23 @@ pub fn good_length_table(random: &mut Random, pool: &Pool) -> Vec<u8> {
         }
     }
     bytes
+}
+
+/// An older table, of records of 14 bytes: any bytes, mostly of a length that it may have.
+pub fn older_table(random: &mut Random) -> Vec<u8> {
+    let length = match random.below(20) {
+        0 => 0,
+        1 => random.length(1, OLD_RECORD - 1),
+        2 => OLD_RECORD * random.length(0, 40) + random.length(1, OLD_RECORD - 1),
+        3 if random.one_in(4) => OLD_RECORD * SLOTS + random.pick(&[1, OLD_RECORD - 1, OLD_RECORD]),
+        4 if random.one_in(4) => random.pick(&[RECORD * SLOTS, OLD_RECORD * (SLOTS + 100)]),
+        5 if random.one_in(4) => OLD_RECORD * SLOTS,
+        // Lengths that fit both widths.
+        6 => OLD_RECORD * RECORD * random.length(1, 4),
+        7 => RECORD * random.length(1, 13),
+        _ => OLD_RECORD * random.length(1, 40),
+    };
+    random.bytes(length)
 }
 
 /// Neighbouring labels from slot to slot, around a label of the pool or an end of the numbering.

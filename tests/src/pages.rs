@@ -13,6 +13,7 @@ use std::slice;
 use shinglebar::exports;
 
 use crate::lend::{Lend, Read, Write};
+use crate::reference::RECORD;
 
 extern "C" {
     fn mmap(
@@ -214,8 +215,8 @@ impl Access {
     ];
 
     /// P1 of document 01, a learned record.
-    const LEARNED: [u8; 14] = [
-        0x40, 0x00, 0x01, 0x40, 0x40, 0x00, 0x00, 0x00, 0x00, 0x22, 0x46, 0x82, 0x81, 0x2C,
+    const LEARNED: [u8; RECORD] = [
+        0x40, 0x00, 0x01, 0x40, 0x40, 0x00, 0x00, 0x00, 0x00, 0x22, 0x46, 0x82, 0x81, 0x2C, 0x00,
     ];
 
     /// P10 of document 01, which compacts to 28 bytes.
@@ -229,7 +230,7 @@ impl Access {
     pub fn make(self) {
         let mut region = Region::new();
         // A byte short of a free record, of which every byte counts.
-        let table = [0; 13];
+        let table = [0; RECORD - 1];
         // SAFETY: none but for the first. The others are meant to fault: the byte they access lies in
         // a wall or in memory that cannot be written, so the process dies before anything follows.
         unsafe {

@@ -17,6 +17,12 @@ pub const AGE: Answers = &[(2, "refusal 2: table length"), (64, "done")];
 
 pub const SPOILT: Answers = &[(2, "refusal 2: table length"), (64, "slot"), (65, "none")];
 
+pub const WIDEN: Answers = &[
+    (2, "refusal 2: the older table's length"),
+    (16, "refusal 16: output area"),
+    (64, "written"),
+];
+
 pub const FLUSH: Answers = &[
     (2, "refusal 2: table length"),
     (15, "refusal 15: flush payload corrupt"),

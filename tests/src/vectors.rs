@@ -6,7 +6,7 @@ use std::collections::BTreeMap;
 use crate::captures;
 use crate::generate::{self, Pool};
 use crate::random::Random;
-use crate::reference::{self, Settings, RECORD};
+use crate::reference::{self, write, Entry, Label, Settings, OLD_RECORD, RECORD};
 use crate::run::{self, Answers};
 
 /// What the program's input and table hold at most, and its output or working area.
@@ -58,7 +58,14 @@ enum Call {
         room: usize,
         frame: Vec<u8>,
     },
+    Widen {
+        room: usize,
+        old: Vec<u8>,
+    },
 }
+
+/// The number of widening, which is that of its request.
+const WIDEN: u8 = 0x12;
 
 /// The calls' numbers, and the answers that each must give in some vector.
 pub const ANSWERS: &[(u8, Answers)] = &[
@@ -70,6 +77,7 @@ pub const ANSWERS: &[(u8, Answers)] = &[
     (6, run::COMPACT),
     (7, run::EXPAND),
     (8, run::SEND),
+    (WIDEN, run::WIDEN),
 ];
 
 fn settings_bytes(settings: &Settings) -> Vec<u8> {
@@ -162,6 +170,7 @@ impl Call {
             Call::Compact { .. } => 6,
             Call::Expand { .. } => 7,
             Call::Send { .. } => 8,
+            Call::Widen { .. } => WIDEN,
         }
     }
 
@@ -171,7 +180,8 @@ impl Call {
             Call::Receive { room, .. }
             | Call::Compact { room, .. }
             | Call::Expand { room, .. }
-            | Call::Send { room, .. } => *room,
+            | Call::Send { room, .. }
+            | Call::Widen { room, .. } => *room,
             Call::Flush { .. } | Call::Age { .. } | Call::Lookup { .. } | Call::Spoilt => 0,
         }
     }
@@ -218,6 +228,7 @@ impl Call {
             ]
             .concat(),
             Call::Spoilt => Vec::new(),
+            Call::Widen { room, old } => [&length(*room)[..], old].concat(),
         }
     }
 
@@ -251,6 +262,7 @@ impl Call {
                 room,
                 frame,
             } => reference::send(settings, frame, &mut area[..*room]),
+            Call::Widen { room, old } => reference::widen(old, &mut area[..*room]),
         }
     }
 
@@ -331,7 +343,7 @@ fn small_table(random: &mut Random, pool: &Pool) -> Vec<u8> {
     let mut table = generate::good_length_table(random, pool);
     table.truncate(RECORD * random.length(1, 5));
     if random.one_in(6) {
-        table.truncate(random.length(0, 13));
+        table.truncate(random.length(0, RECORD - 1));
     }
     table
 }
@@ -379,6 +391,49 @@ fn control_calls(room: usize) -> Vec<Call> {
     captures::control().into_iter().flat_map(calls).collect()
 }
 
+/// Older tables, with learned, configured, free and spoilt records: of lengths that are none, without room, with just enough, with more,
+/// and of a length that fits both widths.
+fn widen_calls() -> Vec<Call> {
+    let entry = Entry {
+        label: Label::Vlan(10),
+        mac: 0x0200_0000_0001,
+        nickname: 0x1234,
+        confidence: 20,
+        seconds: 300,
+        multihomed: false,
+    };
+    let records = [
+        write(true, &entry),
+        [0; RECORD],
+        write(false, &entry),
+        [0xC3; RECORD],
+    ];
+    let old = |length: usize| -> Vec<u8> {
+        let fields = records.iter().cycle();
+        fields
+            .flat_map(|record| record[..OLD_RECORD].to_vec())
+            .take(length)
+            .collect()
+    };
+    let both = OLD_RECORD * RECORD;
+    [
+        (0, 64),
+        (OLD_RECORD - 1, 64),
+        (RECORD, 64),
+        (OLD_RECORD, RECORD - 1),
+        (OLD_RECORD, 0),
+        (OLD_RECORD, RECORD),
+        (4 * OLD_RECORD, 4 * RECORD + 4),
+        (both, both),
+        (both, RECORD * RECORD),
+    ]
+    .map(|(length, room)| Call::Widen {
+        room,
+        old: old(length),
+    })
+    .into()
+}
+
 /// The input and the output of the program; always the same ones.
 pub fn files() -> (String, String) {
     let mut replay = Replay {
@@ -407,6 +462,10 @@ pub fn files() -> (String, String) {
     }
     // Control addresses and those beside them (2026-09), on the table that is there.
     for call in control_calls(128) {
+        replay.offer(replay.table.clone(), &call);
+    }
+    // Older tables widened (2026-12); the table that is there stays.
+    for call in widen_calls() {
         replay.offer(replay.table.clone(), &call);
     }
     let mut case = 0;

@@ -13,7 +13,7 @@ use std::time::{Duration, Instant};
 use shinglebar_tests::captures::{self, Form, PORT, USUAL};
 use shinglebar_tests::generate;
 use shinglebar_tests::random::Random;
-use shinglebar_tests::reference::{self, write, Entry, Label, RECORD};
+use shinglebar_tests::reference::{self, write, Entry, Label, OLD_RECORD, RECORD, TABLE};
 
 /// The options of the settings `captures::PORT`.
 const SETTINGS: [&str; 8] = [
@@ -225,6 +225,7 @@ fn record(learned: bool, label: Label, mac: u64, confidence: u8, seconds: u16) -
             nickname: 0x1234,
             confidence,
             seconds,
+            multihomed: false,
         },
     )
 }
@@ -1387,9 +1388,12 @@ fn bad_pcapng_captures_are_refused_with_a_message() {
 fn a_table_file_that_is_no_table_is_refused() {
     let folder = folder("no_table");
     fs::write(folder.join("in"), captures::capture(USUAL, &frames("hall"))).expect("a capture");
-    for length in [0, 13, 15, 14 * 4_096 + 1, 14 * 4_097] {
+    for length in [0, RECORD - 1, RECORD + 1, TABLE + 1, TABLE + RECORD] {
         fs::write(folder.join("table"), vec![0; length]).expect("a table");
-        let words = "refused 2: table length 0, not a multiple of 14, or over 57,344";
+        let words = match length {
+            OLD_RECORD => "table has records of 14 bytes; `widen` makes them 15",
+            _ => "refused 2: table length 0, not a multiple of 15, or over 61,440",
+        };
         for command in [
             receive_words("in"),
             vec!["check", "--table", "table"],
@@ -1400,7 +1404,7 @@ fn a_table_file_that_is_no_table_is_refused() {
         assert_eq!(bytes(&folder.join("table")).len(), length);
         assert_eq!(names(&folder), ["in", "table"]);
     }
-    fs::write(folder.join("table"), [0; 28]).expect("a table");
+    fs::write(folder.join("table"), [0; 2 * RECORD]).expect("a table");
     bad(
         &run_in(&folder, &receive_words("in")),
         1,
@@ -1731,9 +1735,9 @@ fn lookup_age_and_check_answer_of_a_table_file() {
         "lowest spoilt slot: 2\n\
          table: 5 slots, 1 learned, 1 configured, 2 spoilt, 1 free\n  \
          slot 1: configured FGL 70000 02-00-00-00-00-02 behind 1234, confidence 7, 0 s\n  \
-         slot 2: spoilt C0 00 00 00 00 00 00 00 00 00 00 00 00 00\n  \
+         slot 2: spoilt C0 00 00 00 00 00 00 00 00 00 00 00 00 00 00\n  \
          slot 3: learned VLAN 10 02-00-00-00-00-03 behind 1234, confidence 255, 7891 s\n  \
-         slot 4: spoilt 40 00 00 20 60 00 00 00 00 22 46 80 00 09\n"
+         slot 4: spoilt 40 00 00 20 60 00 00 00 00 22 46 80 00 09 00\n"
     );
     assert!(bytes(&folder.join("table")) == table);
 }
@@ -2290,7 +2294,7 @@ fn the_words_for_refusals_are_those_of_the_header() {
         &folder,
         &[&convert("expand", "lab_to_left")[..], &source].concat(),
     ));
-    fs::write(folder.join("table"), [0; RECORD - 1]).expect("a table");
+    fs::write(folder.join("table"), [0; RECORD + 1]).expect("a table");
     let output = run_in(&folder, &["check", "--table", "table"]);
     assert_eq!(output.status.code(), Some(1));
     printed += &text(&output.stderr);

@@ -252,6 +252,7 @@ fn every_vlan_is_cleared_or_stays_as_the_paper_says() {
                         nickname,
                         confidence: 20,
                         seconds: 300,
+                        last: 0,
                     }
                     .bytes(),
                 );
@@ -289,6 +290,7 @@ fn every_length_of_every_type_is_judged_as_the_paper_says() {
         nickname: 1,
         confidence: 0,
         seconds: 0,
+        last: 0,
     }
     .bytes();
     for kind in 0..=u8::MAX {
@@ -322,6 +324,7 @@ fn maps_and_blocks_at_the_ends_of_the_numberings_mean_what_the_paper_says() {
                 nickname: 1,
                 confidence: 0,
                 seconds: 0,
+                last: 0,
             }
             .bytes()
         })
@@ -464,6 +467,7 @@ impl Crowd {
             nickname,
             confidence: 20,
             seconds: 300,
+            last: 0,
         }
     }
 }

@@ -6,7 +6,7 @@ use std::fs;
 use std::path::{Path, PathBuf};
 
 use shinglebar::{Compacted, Flushed, Label, Learning, Mac, Received, Refusal, Settings, Spoilt};
-use shinglebar_tests::reference::{self, Entry, Record};
+use shinglebar_tests::reference::{self, Entry, Record, RECORD};
 
 fn root() -> PathBuf {
     let package = Path::new(env!("CARGO_MANIFEST_DIR"));
@@ -119,6 +119,7 @@ fn the_examples_of_the_formats_are_what_they_say() {
         nickname: 0x1234,
         confidence: 20,
         seconds: 300,
+        multihomed: false,
     };
     assert_eq!(reference::read(record), Record::Learned(entry));
     assert_eq!(shinglebar::spoilt(record), Ok(Spoilt::None));
@@ -132,7 +133,7 @@ fn the_examples_of_the_formats_are_what_they_say() {
     );
     assert_eq!(&written[..], &compact[..]);
     for frame in [general, compact] {
-        let (mut table, mut out) = ([0; 14], [0; 16]);
+        let (mut table, mut out) = ([0; RECORD], [0; 16]);
         let delivered = Received::Delivered {
             length: 16,
             learning: Learning::Learned,
@@ -148,10 +149,10 @@ fn the_examples_of_the_formats_are_what_they_say() {
     let mut table = record.clone();
     let outcome = shinglebar::flush(0x5678, payload, &mut table);
     assert_eq!(outcome, Ok(Flushed { count: 1 }));
-    assert_eq!(table, [0; 14]);
+    assert_eq!(table, [0; RECORD]);
     let mut table = record.clone();
     let outcome = shinglebar::receive(&PORT, flush, &mut table, &mut []);
     assert_eq!(outcome, Ok(Received::Flushed { count: 1 }));
-    assert_eq!(table, [0; 14]);
+    assert_eq!(table, [0; RECORD]);
     assert!(flush.ends_with(payload));
 }

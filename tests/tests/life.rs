@@ -33,9 +33,9 @@ fn age(seconds: u16, table: &mut [u8]) {
     assert_eq!(boundary::age(&mut Random::new(1), seconds, table), 64);
 }
 
-/// The low 13 bits of a record.
+/// The 13 bits in front of a record's last byte.
 fn seconds_of(record: &[u8]) -> u16 {
-    u16::from_be_bytes([record[RECORD - 2], record[RECORD - 1]]) & 0x1FFF
+    u16::from_be_bytes([record[RECORD - 3], record[RECORD - 2]]) & 0x1FFF
 }
 
 fn is_free(record: &[u8]) -> bool {
@@ -78,6 +78,7 @@ fn a_table_from_before_keeps_its_seconds_until_it_is_aged_or_refreshed() {
         nickname: 0x1234,
         confidence: 20,
         seconds,
+        multihomed: false,
     };
     // the source of the frame and another station, with what is left of 300 seconds; and a configured record
     let kept = [

@@ -248,6 +248,7 @@ impl Judged {
             nickname: self.ingress,
             confidence: 77,
             seconds: 1234,
+            multihomed: false,
         };
         let (first, second) = table.split_at(RECORD);
         assert_eq!(reference::read(first), Record::Learned(entry));

@@ -9,7 +9,7 @@ use shinglebar_tests::compare;
 use shinglebar_tests::generate::{self, Pool};
 use shinglebar_tests::pages::{Access, Pages};
 use shinglebar_tests::random::Random;
-use shinglebar_tests::reference::{Settings, RECORD};
+use shinglebar_tests::reference::{Settings, OLD_RECORD, RECORD};
 use shinglebar_tests::run;
 
 /// Each case makes many calls: one for each side, and for each length at which the frame or payload is
@@ -195,6 +195,25 @@ fn lookup_age_and_spoilt_touch_only_what_they_are_lent() {
                 tally.word(compare::lookup(pages, kind, label, mac, &table));
                 tally.word(compare::age(pages, seconds, &mut table.clone()));
                 tally.word(compare::spoilt(pages, &table));
+            }
+        },
+    );
+}
+
+#[test]
+fn widen_touches_only_what_it_is_lent() {
+    let mut both = Pages::both();
+    run::cases(
+        "widen_touches_only_what_it_is_lent",
+        4,
+        run::WIDEN,
+        &[],
+        |random, tally| {
+            let old = generate::older_table(random);
+            let length = generate::area_length(random, old.len() / OLD_RECORD * RECORD);
+            let out = random.bytes(length);
+            for pages in &mut both {
+                tally.word(compare::widen(pages, &old, &mut out.clone()));
             }
         },
     );

@@ -5,7 +5,7 @@ use shinglebar_tests::compare::hex;
 use shinglebar_tests::generate::{self, Pool};
 use shinglebar_tests::reference::{
     age, compact, expand, flush, lookup, read, receive, send, spoilt, write, Entry, Label, Record,
-    Settings,
+    Settings, RECORD,
 };
 use shinglebar_tests::run;
 
@@ -26,11 +26,12 @@ const OFF: Settings = Settings {
     ..SETTINGS
 };
 
-const P1: [u8; 14] = [
-    0x40, 0x00, 0x01, 0x40, 0x40, 0x00, 0x00, 0x00, 0x00, 0x22, 0x46, 0x82, 0x81, 0x2C,
+/// "P1 gets the zero byte too" (document 02, 2026-12).
+const P1: [u8; 15] = [
+    0x40, 0x00, 0x01, 0x40, 0x40, 0x00, 0x00, 0x00, 0x00, 0x22, 0x46, 0x82, 0x81, 0x2C, 0x00,
 ];
 
-const FREE: [u8; 14] = [0; 14];
+const FREE: [u8; RECORD] = [0; RECORD];
 
 /// P10: General, and what it compacts to.
 const GENERAL: &str =
@@ -61,6 +62,7 @@ fn entry(label: Label) -> Entry {
         nickname: 0x1234,
         confidence: 20,
         seconds: 300,
+        multihomed: false,
     }
 }
 
@@ -73,7 +75,7 @@ fn cleared(payload: &str, labels: &[Label]) -> Vec<Label> {
     let word = flush(0x1234, &bytes(payload), &mut table);
     let gone: Vec<Label> = labels
         .iter()
-        .zip(table.chunks(14))
+        .zip(table.chunks(RECORD))
         .filter(|(_, record)| *record == FREE)
         .map(|(label, _)| *label)
         .collect();
@@ -529,18 +531,22 @@ fn reading_14_only_a_strictly_higher_confidence_is_kept() {
             seconds: 8191,
             ..entry(Label::Vlan(10))
         };
-        let mut table = [[0xC0; 14], FREE, write(true, &there)].concat();
+        let mut table = [[0xC0; RECORD], FREE, write(true, &there)].concat();
         let given = table.clone();
         let word = receive(&SETTINGS, &bytes(COMPACT), &mut table, &mut [0; 16]);
         assert_eq!(word >> 24 & 3, learning);
-        let last = if learning == 1 { &P1 } else { &given[28..] };
-        assert_eq!(table, [&given[..28], last].concat());
+        let last = if learning == 1 {
+            &P1
+        } else {
+            &given[2 * RECORD..]
+        };
+        assert_eq!(table, [&given[..2 * RECORD], last].concat());
     }
     // A spoilt record beside the address does not hinder learning it in a free slot.
     let mut table = [write(true, &entry(Label::Vlan(0))), FREE].concat();
     let word = receive(&SETTINGS, &bytes(COMPACT), &mut table, &mut [0; 16]);
     assert_eq!(word >> 24 & 3, 0);
-    assert_eq!(table[14..], P1);
+    assert_eq!(table[RECORD..], P1);
     // A configured record is kept; a table without a free slot is full.
     let mut table = write(false, &entry(Label::Vlan(10)));
     let word = receive(&SETTINGS, &bytes(COMPACT), &mut table, &mut [0; 16]);

@@ -91,7 +91,7 @@ const SITUATIONS: &[&str] = &[
     "one byte changed",
 ];
 
-/// The pairs of label and MAC of the learned and configured records are all different.
+/// The pairs of label and MAC of the learned and configured records are all different: what stays so at a port with the setting none.
 fn pairs_differ(table: &[u8]) -> bool {
     let mut pairs: Vec<(u8, u32, u64)> = Vec::new();
     for record in table.chunks_exact(RECORD) {

@@ -6,6 +6,7 @@ use std::fs;
 use std::path::Path;
 
 use shinglebar::raw;
+use shinglebar_tests::reference::RECORD;
 
 const PORT: [u8; 6] = [0x02, 0, 0, 0, 0, 0xA1];
 const INNER: [u8; 6] = [0x02, 0, 0, 0, 0, 0xB1];
@@ -150,7 +151,7 @@ impl Case {
                 tagged: 1,
                 tag: 5,
             },
-            table: 14,
+            table: RECORD,
             out: 9216,
             parts,
             cuts: Vec::new(),
@@ -176,7 +177,7 @@ impl Case {
             faults.push(fault(3, |t| t.outer.tag = 0));
         }
         if self.call == 'R' {
-            faults.push(fault(4, |t| t.table = 13));
+            faults.push(fault(4, |t| t.table = RECORD - 1));
         }
         if self.call == 'S' {
             faults.push(fault(5, |t| t.out = 9203));
@@ -337,12 +338,12 @@ fn of_two_tests_that_fail_the_one_in_the_higher_row_gives_the_number() {
     }
 
     // the calls without a frame
-    assert_eq!(raw::flush(0x1234, &[0, 0], &mut [0; 14]), 67);
-    assert_eq!(raw::flush(0x1234, &[], &mut [0; 13]), number(4));
-    assert_eq!(raw::flush(0x1234, &[], &mut [0; 14]), number(36));
-    assert_eq!(raw::lookup(0, 10, 1, &[0; 13]), number(4));
-    assert_eq!(raw::age(1, &mut [0; 13]), number(4));
-    assert_eq!(raw::spoilt(&[0; 13]), number(4));
+    assert_eq!(raw::flush(0x1234, &[0, 0], &mut [0; RECORD]), 67);
+    assert_eq!(raw::flush(0x1234, &[], &mut [0; RECORD - 1]), number(4));
+    assert_eq!(raw::flush(0x1234, &[], &mut [0; RECORD]), number(36));
+    assert_eq!(raw::lookup(0, 10, 1, &[0; RECORD - 1]), number(4));
+    assert_eq!(raw::age(1, &mut [0; RECORD - 1]), number(4));
+    assert_eq!(raw::spoilt(&[0; RECORD - 1]), number(4));
     tried.extend([(4, 'F'), (36, 'F'), (4, 'T')]);
 
     // every step was tried at every call that it names, and at no other

@@ -20,6 +20,7 @@ fn record(learned: bool, vlan: u32, mac: u64, nickname: u16) -> [u8; RECORD] {
             nickname,
             confidence: 20,
             seconds: 300,
+            multihomed: false,
         },
     )
 }

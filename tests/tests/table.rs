@@ -1,8 +1,8 @@
 //! Lookup, ageing and the lowest spoilt slot, compared through the C boundary.
 
 use shinglebar_tests::compare;
-use shinglebar_tests::generate::{self, Pool, Raw};
-use shinglebar_tests::reference::{self, Record, RECORD};
+use shinglebar_tests::generate::{self, Pool, Raw, MARK};
+use shinglebar_tests::reference::{self, Record, OLD_RECORD, RECORD, TABLE};
 use shinglebar_tests::run::{self, Tally};
 
 /// Why a record is spoilt, the first reason in the order of document 01.
@@ -30,7 +30,11 @@ fn spoilt_reason(record: &Raw) -> &'static str {
         } => "spoilt: VLAN label above 16 bits",
         Raw { mac, .. } if mac >> 40 & 1 == 1 => "spoilt: group MAC",
         Raw { nickname: 0, .. } => "spoilt: nickname 0",
-        _ => "spoilt: nickname FFC0 to FFFF",
+        Raw {
+            nickname: 0xFFC0.., ..
+        } => "spoilt: nickname FFC0 to FFFF",
+        Raw { last: MARK.., .. } => "spoilt: a bit behind the multihomed one, which is set",
+        _ => "spoilt: a bit behind the multihomed one, which is not",
     }
 }
 
@@ -44,25 +48,31 @@ const SPOILT_REASONS: &[&str] = &[
     "spoilt: group MAC",
     "spoilt: nickname 0",
     "spoilt: nickname FFC0 to FFFF",
+    "spoilt: a bit behind the multihomed one, which is set",
+    "spoilt: a bit behind the multihomed one, which is not",
 ];
 
 fn count_length(tally: &mut Tally, table: &[u8]) {
     tally.situation(match table.len() {
         0 => "length 0",
-        57_344 => "length 57,344",
-        57_345.. if table.len().is_multiple_of(RECORD) => "length over 57,344, a multiple",
-        57_345.. => "length over 57,344, no multiple",
-        length if !length.is_multiple_of(RECORD) => "length no multiple",
-        _ => "length good",
+        TABLE => "length 61,440",
+        length if length > TABLE && length.is_multiple_of(RECORD) => {
+            "length over 61,440, a multiple"
+        }
+        length if length > TABLE => "length over 61,440, no multiple",
+        length if length.is_multiple_of(RECORD) => "length good",
+        length if length.is_multiple_of(OLD_RECORD) => "length of an older table",
+        _ => "length no multiple",
     });
 }
 
 const LENGTHS: &[&str] = &[
     "length 0",
-    "length 57,344",
-    "length over 57,344, a multiple",
-    "length over 57,344, no multiple",
+    "length 61,440",
+    "length over 61,440, a multiple",
+    "length over 61,440, no multiple",
     "length no multiple",
+    "length of an older table",
     "length good",
 ];
 
@@ -232,9 +242,13 @@ fn spoilt_names_the_lowest_spoilt_slot_as_the_paper_says() {
 fn every_table_length_is_judged_as_the_paper_says() {
     let mut random = run::random("every_table_length_is_judged_as_the_paper_says");
     let mut accepted = 0;
-    for length in (0..=300).chain(57_300..=57_400).chain([100_000]) {
+    for length in (0..=300)
+        .chain(57_300..=57_400)
+        .chain(61_400..=61_500)
+        .chain([100_000])
+    {
         let mut table = random.bytes(length);
-        let expected = length > 0 && length % 14 == 0 && length <= 57_344;
+        let expected = length > 0 && length % 15 == 0 && length <= 61_440;
         let lookup = compare::lookup(&mut random, 0, 1, 2, &table);
         let spoilt = compare::spoilt(&mut random, &table);
         let age = compare::age(&mut random, 3, &mut table);
@@ -243,7 +257,27 @@ fn every_table_length_is_judged_as_the_paper_says() {
         }
         accepted += u32::from(expected);
     }
-    assert_eq!(accepted, 21 + 4);
+    assert_eq!(accepted, 20 + 7 + 3);
+}
+
+/// The lengths at which the widths meet: fits both, the longest older table, the longest table, one record more.
+#[test]
+fn the_lengths_of_older_tables_are_no_lengths_of_tables() {
+    let mut random = run::random("the_lengths_of_older_tables_are_no_lengths_of_tables");
+    for (length, good) in [
+        (14, false),
+        (15, true),
+        (210, true),
+        (224, false),
+        (57_330, true),
+        (57_344, false),
+        (61_440, true),
+        (61_455, false),
+    ] {
+        let table = vec![0; length];
+        let refused = compare::spoilt(&mut random, &table) == 2;
+        assert_eq!(refused, !good, "length {length}");
+    }
 }
 
 /// Good records of both states and kinds, with each single bit and each pair of bits changed.
@@ -260,8 +294,9 @@ fn every_pair_of_bits_of_a_record_is_judged_as_the_paper_says() {
             nickname: if state == 0 { 0 } else { 0x1234 },
             confidence: if state == 0 { 0 } else { 20 },
             seconds: if state == 0 { 0 } else { 300 },
+            last: 0,
         };
-        for first in 0..112 {
+        for first in 0..8 * RECORD {
             for second in 0..=first {
                 let mut table = record.bytes();
                 table[first / 8] ^= 0x80 >> (first % 8);

@@ -4,11 +4,11 @@
 
 use shinglebar::{
     decode, encode, raw, Aged, Answer, Compacted, Expanded, Flushed, Found, Label, Learning, Mac,
-    Outer, Received, Refusal, Sent, Settings, Spoilt,
+    Outer, Received, Refusal, Sent, Settings, Spoilt, Widened,
 };
 use shinglebar_tests::generate::{self, Pool};
 use shinglebar_tests::random::Random;
-use shinglebar_tests::reference;
+use shinglebar_tests::reference::{self, OLD_RECORD, RECORD};
 use shinglebar_tests::run::{self, Answers};
 
 /// The words by the table of the C boundary, beside the package's own packing of them.
@@ -96,6 +96,12 @@ impl Packed for Spoilt {
             Spoilt::Slot(slot) => value(64, usize::from(*slot)),
             Spoilt::None => 65,
         }
+    }
+}
+
+impl Packed for Widened {
+    fn packed(&self) -> u64 {
+        value(64, self.length)
     }
 }
 
@@ -277,6 +283,27 @@ fn typed_lookup_age_and_spoilt_give_what_the_paper_says() {
     );
 }
 
+#[test]
+fn typed_widen_gives_what_the_paper_says() {
+    run::cases(
+        "typed_widen_gives_what_the_paper_says",
+        8,
+        run::WIDEN,
+        &[],
+        |random, tally| {
+            let old = generate::older_table(random);
+            let length = generate::area_length(random, old.len() / OLD_RECORD * RECORD);
+            let mut out = random.bytes(length);
+            let mut paper_out = out.clone();
+            let outcome = shinglebar::widen(&old, &mut out);
+            let paper = reference::widen(&old, &mut paper_out);
+            assert_eq!(packed(outcome), paper, "{outcome:?}");
+            assert!(out == paper_out);
+            tally.word(paper);
+        },
+    );
+}
+
 /// The bits of a word by their use: the low byte, those of values, and all others, which are 0.
 struct Bits {
     kind: u8,
@@ -371,6 +398,7 @@ fn a_word_that_is_no_answer_is_not_taken_for_one() {
         run::SPOILT,
         &[bits(64, ONE_VALUE, 64), bits(65, NO_VALUE, 65)],
     );
+    check_words::<Widened>("widen", run::WIDEN, &[bits(64, ONE_VALUE, 0x0F40)]);
 }
 
 #[test]
@@ -390,6 +418,9 @@ fn values_that_no_answer_has_are_not_taken_for_one() {
     assert!(count(0) && count(4096) && !count(4097));
     let slot = |slot: u64| decode::<Spoilt>(64 | slot << 8).is_ok();
     assert!(slot(0) && slot(4095) && !slot(4096));
+    let table = |length: u64| decode::<Widened>(64 | length << 8).is_ok();
+    assert!(!table(0) && !table(14) && table(15) && table(210));
+    assert!(!table(57_344) && table(61_440) && !table(61_455));
 }
 
 /// The words of the table of document 01, which the second implementation has as comments.
@@ -431,8 +462,10 @@ fn empty_slices_are_areas_too() {
     assert_eq!(raw::compact(&settings, &[], &mut []), 3);
     assert_eq!(raw::send(&settings, &[], &mut []), 16);
     assert_eq!(raw::flush(1, &[], &mut []), 2);
-    assert_eq!(raw::flush(1, &[], &mut [0; 14]), 15);
+    assert_eq!(raw::flush(1, &[], &mut [0; RECORD]), 15);
     assert_eq!(raw::lookup(0, 1, 0, &[]), 2);
     assert_eq!(raw::age(0, &mut []), 2);
     assert_eq!(raw::spoilt(&[]), 2);
+    assert_eq!(raw::widen(&[], &mut []), 2);
+    assert_eq!(raw::widen(&[0; OLD_RECORD], &mut []), 16);
 }

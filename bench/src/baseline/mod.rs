@@ -12,6 +12,7 @@
 mod convert;
 mod flush;
 mod frame;
+mod homes;
 mod receive;
 mod record;
 mod refusal;

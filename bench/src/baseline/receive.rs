@@ -4,10 +4,10 @@ use std::slice;
 
 use super::flush::clear;
 use super::frame::{is_trill_group, length_good, six, two, Fields, Front};
+use super::homes::learn;
 use super::record::{nickname_good, slots_mut, Slot, FINE, GROUP};
 use super::refusal;
 use super::settings::Port;
-use super::table::learn;
 
 const ONWARD: u64 = 64;
 const DELIVERED: u64 = 65;
@@ -105,6 +105,7 @@ fn deliver(
         fields.ingress,
         port.confidence,
         port.seconds,
+        false,
     );
     let kind = fields.label / FINE;
     let label = fields.label % FINE;

@@ -1,9 +1,9 @@
 //! A record of the table: state 2 bits, label kind 1, label 24, MAC 48, nickname 16, confidence 8,
-//! seconds 13, most significant first.
+//! seconds 13, multihomed 1, seven bits 0, most significant first.
 
 use std::slice;
 
-pub const RECORD: usize = 14;
+pub const RECORD: usize = 15;
 pub const MOST_SLOTS: usize = 4096;
 const LONGEST_TABLE: usize = MOST_SLOTS * RECORD;
 
@@ -48,12 +48,16 @@ pub fn eight<const AT: usize>(slot: &Slot) -> u64 {
     unsafe { slot.as_ptr().add(AT).cast::<u64>().read_unaligned() }
 }
 
-/// The first eight bytes of a record and its last eight; two bytes are in both.
+/// The first eight bytes of a record, the bytes 6 to 13, of which two are in both, and the last byte.
 #[derive(Clone, Copy)]
 pub struct Bits {
     high: u64,
     low: u64,
+    last: u8,
 }
+
+/// The multihomed bit in the last byte; the others are 0.
+pub const MARK: u8 = 0x80;
 
 impl Bits {
     #[inline(always)]
@@ -61,6 +65,7 @@ impl Bits {
         Bits {
             high: u64::from_be(eight::<0>(slot)),
             low: u64::from_be(eight::<6>(slot)),
+            last: slot[RECORD - 1],
         }
     }
 
@@ -86,7 +91,7 @@ impl Bits {
         (self.high & 0x1F_FFFF_FFFF) << 11 | self.low >> 37 & 0x7FF
     }
 
-    /// The low 27 bits of the MAC, which the last eight bytes have.
+    /// The low 27 bits of the MAC, which the bytes 6 to 13 have.
     pub fn mac_low_bits(self) -> u32 {
         (self.low >> 37) as u32
     }
@@ -103,9 +108,21 @@ impl Bits {
         self.low as u16 & 0x1FFF
     }
 
-    /// Label, MAC and nickname are such as a good record has.
+    pub fn is_marked(self) -> bool {
+        self.last & MARK != 0
+    }
+
+    /// The bits behind the mark are 0.
+    pub fn last_good(self) -> bool {
+        self.last & !MARK == 0
+    }
+
+    /// Label, MAC, nickname and the last bits are such as a good record has.
     pub fn entry_good(self) -> bool {
-        label_good(self.label()) && !self.is_group() && nickname_good(u64::from(self.nickname()))
+        label_good(self.label())
+            && !self.is_group()
+            && nickname_good(u64::from(self.nickname()))
+            && self.last_good()
     }
 }
 
@@ -128,17 +145,25 @@ pub fn state_learned(slot: &Slot) -> bool {
 /// Whether a slot is free. Most that are not differ from 0 in the first eight bytes.
 #[inline(always)]
 pub fn is_free(slot: &Slot) -> bool {
-    eight::<0>(slot) == 0 && eight::<6>(slot) == 0
+    eight::<0>(slot) == 0 && eight::<7>(slot) == 0
 }
 
 /// The bytes of a learned record.
-pub fn learned(label: u32, mac: u64, nickname: u16, confidence: u8, seconds: u16) -> Slot {
-    let bits = u128::from(LEARNED) << 110
-        | u128::from(label) << 85
-        | u128::from(mac) << 37
-        | u128::from(nickname) << 21
-        | u128::from(confidence) << 13
-        | u128::from(seconds);
-    let [_, _, bytes @ ..] = bits.to_be_bytes();
+pub fn learned(
+    label: u32,
+    mac: u64,
+    nickname: u16,
+    confidence: u8,
+    seconds: u16,
+    marked: bool,
+) -> Slot {
+    let bits = u128::from(LEARNED) << 118
+        | u128::from(label) << 93
+        | u128::from(mac) << 45
+        | u128::from(nickname) << 29
+        | u128::from(confidence) << 21
+        | u128::from(seconds) << 8
+        | u128::from(marked) << 7;
+    let [_, bytes @ ..] = bits.to_be_bytes();
     bytes
 }

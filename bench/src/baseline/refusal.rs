@@ -2,7 +2,7 @@
 
 /// settings outside their ranges
 pub const SETTINGS: u64 = 1;
-/// table length 0, not a multiple of 14, or over 57,344
+/// table length 0, not a multiple of 15, or over 61,440
 pub const TABLE_LENGTH: u64 = 2;
 /// frame (or expanded result) outside 14 to 9,216 bytes
 pub const FRAME_LENGTH: u64 = 3;

@@ -1,4 +1,4 @@
-//! Lookup, ageing, the lowest spoilt slot, learning.
+//! Lookup, ageing, the lowest spoilt slot. Learning stands in homes.rs.
 
 use super::record::{
     eight, is_free, label_good, learned, nickname_good, slots, slots_mut, state_learned, Bits,
@@ -12,7 +12,7 @@ const SLOT: u64 = 64;
 const NONE: u64 = 65;
 
 /// A label and an address as they lie in a record.
-struct Key {
+pub struct Key {
     /// Bytes 1 to 8, which hold nothing else.
     middle: u64,
     /// The low six bits of byte 0.
@@ -23,11 +23,11 @@ struct Key {
 
 impl Key {
     /// None for values that no good record can hold.
-    fn new(label: u32, mac: u64) -> Option<Key> {
+    pub fn new(label: u32, mac: u64) -> Option<Key> {
         if !label_good(label) || label >= 2 * FINE || mac >= 1 << 48 || mac & GROUP != 0 {
             return None;
         }
-        let record = learned(label, mac, 0, 0, 0);
+        let record = learned(label, mac, 0, 0, 0, false);
         Some(Key {
             middle: eight::<1>(&record),
             first: record[0] & 0x3F,
@@ -35,28 +35,31 @@ impl Key {
         })
     }
 
+    /// Whether the bytes 1 to 8 agree: a single comparison that few slots pass.
+    #[inline(always)]
+    pub fn may_be_in(&self, slot: &Slot) -> bool {
+        eight::<1>(slot) == self.middle
+    }
+
     /// Whether a slot whose bytes 1 to 8 agree holds the label and address in a good record.
-    fn is_in(&self, slot: &Slot) -> bool {
+    pub fn is_in(&self, slot: &Slot) -> bool {
         let bits = Bits::of(slot);
         slot[0] & 0x3F == self.first
             && slot[9] & 0xE0 == self.last
             && matches!(bits.state(), LEARNED | CONFIGURED)
             && nickname_good(u64::from(bits.nickname()))
+            && bits.last_good()
     }
 
     /// The lowest slot with the label and address.
     #[inline(always)]
     fn find(&self, slots: &[Slot]) -> Option<usize> {
-        lowest(
-            slots,
-            |slot| eight::<1>(slot) == self.middle,
-            |slot| self.is_in(slot),
-        )
+        lowest(slots, |slot| self.may_be_in(slot), |slot| self.is_in(slot))
     }
 }
 
 /// The slots of a round: one jump back for eight comparisons.
-const ROUND: usize = 8;
+pub const ROUND: usize = 8;
 
 /// The lowest slot that passes both tests. The first is a single comparison that few slots pass.
 #[inline(always)]
@@ -117,7 +120,7 @@ pub unsafe extern "C" fn age(seconds: u16, table: *mut u8, table_len: usize) -> 
         if bits.seconds() <= seconds {
             *slot = [0; RECORD];
         } else {
-            // The seconds are the low bits of the last two bytes: nothing is borrowed from above.
+            // The seconds are the low bits of these two bytes: nothing is borrowed from above.
             let [high, low] = [slot[12], slot[13]];
             let left = u16::from_be_bytes([high, low]) - seconds;
             [slot[12], slot[13]] = left.to_be_bytes();
@@ -139,42 +142,5 @@ pub unsafe extern "C" fn spoilt(table: *const u8, table_len: usize) -> u64 {
     match spoilt {
         Some(slot) => SLOT | (slot as u64) << 8,
         None => NONE,
-    }
-}
-
-/// What learning did, with the numbers of the answer.
-#[derive(Clone, Copy)]
-pub enum Learning {
-    Learned = 0,
-    Refreshed = 1,
-    Kept = 2,
-    Full = 3,
-}
-
-/// Learns a label and an address. The arguments are such as a good record can hold.
-pub fn learn(
-    slots: &mut [Slot],
-    label: u32,
-    mac: u64,
-    nickname: u16,
-    confidence: u8,
-    seconds: u16,
-) -> Learning {
-    let record = learned(label, mac, nickname, confidence, seconds);
-    let found = Key::new(label, mac).and_then(|key| key.find(slots));
-    if let Some(slot) = found {
-        let there = Bits::of(&slots[slot]);
-        if there.state() == CONFIGURED || there.confidence() > confidence {
-            return Learning::Kept;
-        }
-        slots[slot] = record;
-        return Learning::Refreshed;
-    }
-    match lowest(slots, |slot| eight::<0>(slot) == 0, is_free) {
-        Some(slot) => {
-            slots[slot] = record;
-            Learning::Learned
-        }
-        None => Learning::Full,
     }
 }

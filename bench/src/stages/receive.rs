@@ -60,6 +60,7 @@ impl Rows<'_> {
             nickname: 0x1607,
             confidence: SETTINGS.confidence as u8,
             seconds: DEFAULT_SECONDS,
+            multihomed: false,
         };
         let others = entries(&mut random);
         let with_source_at = |slot: usize| {

@@ -6,10 +6,11 @@ use super::frame::{
     check_length as check_frame_length, front, is_reserved, read_compact, read_general, Fields,
     Front, CHANNEL,
 };
+use super::homes::learn;
 use super::record::Entry;
 use super::refusal::Refusal;
-use super::settings::{Port, Settings, DEFAULT_LIFE};
-use super::table::{check_length as check_table_length, learn};
+use super::settings::{MultihomingBit, Port, Settings, DEFAULT_LIFE};
+use super::table::check_length as check_table_length;
 use super::{is_group, is_nickname, number};
 
 /// 01-80-C2-00-00-42
@@ -20,6 +21,20 @@ const ADDRESS_FLUSH: u64 = 0x009;
 
 pub fn receive(settings: &Settings, frame: &[u8], table: &mut [u8], out: &mut [u8]) -> u64 {
     receive_with(DEFAULT_LIFE, settings, frame, table, out)
+}
+
+/// Reading at a port with the setting of 2026-12.
+pub fn receive_homes(
+    settings: &Settings,
+    multihomed: u32,
+    frame: &[u8],
+    table: &mut [u8],
+    out: &mut [u8],
+) -> u64 {
+    let checked = settings
+        .check()
+        .and_then(|port| Ok((port, MultihomingBit::check(multihomed)?)));
+    word(checked.and_then(|(port, bit)| received(&port, bit, frame, table, out)))
 }
 
 /// Reading with another default of the learning seconds.
@@ -33,7 +48,7 @@ pub fn receive_with(
     word(
         settings
             .check_with(life)
-            .and_then(|port| received(&port, frame, table, out)),
+            .and_then(|port| received(&port, MultihomingBit::None, frame, table, out)),
     )
 }
 
@@ -43,6 +58,7 @@ pub fn receive_with(
 /// changes nothing."
 fn received(
     port: &Port,
+    bit: MultihomingBit,
     frame: &[u8],
     table: &mut [u8],
     out: &mut [u8],
@@ -78,7 +94,7 @@ fn received(
     if number(ethertype) == CHANNEL {
         channel(port, &fields, rest, table)
     } else {
-        deliver(port, &fields, table, out)
+        deliver(port, bit, &fields, table, out)
     }
 }
 
@@ -87,6 +103,7 @@ fn received(
 /// its length, its label, and learned, refreshed, kept or full."
 fn deliver(
     port: &Port,
+    bit: MultihomingBit,
     fields: &Fields,
     table: &mut [u8],
     out: &mut [u8],
@@ -109,6 +126,7 @@ fn deliver(
             nickname: fields.ingress,
             confidence: port.confidence,
             seconds: port.seconds,
+            multihomed: is_marked(bit, fields),
         },
     );
     Ok(Received::Delivered {
@@ -116,6 +134,17 @@ fn deliver(
         learning,
         label: fields.label,
     })
+}
+
+/// "TRILL header, 6 bytes: V 2 bits, R 2, M 1, [..]": the R bits are the third and the fourth of the first byte. "Document 003 marks a
+/// station on two switches by a multihoming header bit."
+fn is_marked(bit: MultihomingBit, fields: &Fields) -> bool {
+    let first = fields.header.first().copied().unwrap_or_default();
+    match bit {
+        MultihomingBit::None => false,
+        MultihomingBit::FirstReserved => first & 0x20 != 0,
+        MultihomingBit::SecondReserved => first & 0x10 != 0,
+    }
 }
 
 /// "Content: 8946, version 4 bits, protocol 12, flags 12 (not read), ERR 4, payload." "Channel

@@ -6,7 +6,7 @@
 pub enum Refusal {
     /// settings outside their ranges
     Settings = 1,
-    /// table length 0, not a multiple of 14, or over 57,344
+    /// table length 0, not a multiple of 15, or over 61,440
     TableLength = 2,
     /// frame (or expanded result) outside 14 to 9,216 bytes
     FrameLength = 3,

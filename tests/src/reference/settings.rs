@@ -79,3 +79,22 @@ impl Settings {
         }
     }
 }
+
+/// Document 02, 2026-12: "A setting says which of the two R bits it is, or none." 0 is none, 1 the first, 2 the second.
+#[derive(Clone, Copy, Debug, PartialEq, Eq)]
+pub enum MultihomingBit {
+    None,
+    FirstReserved,
+    SecondReserved,
+}
+
+impl MultihomingBit {
+    pub fn check(setting: u32) -> Result<MultihomingBit, Refusal> {
+        match setting {
+            0 => Ok(MultihomingBit::None),
+            1 => Ok(MultihomingBit::FirstReserved),
+            2 => Ok(MultihomingBit::SecondReserved),
+            _ => Err(Refusal::Settings),
+        }
+    }
+}

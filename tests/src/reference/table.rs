@@ -1,12 +1,12 @@
-//! The address table: lookup, ageing, the lowest spoilt slot, learning.
+//! The address table: lookup, ageing, the lowest spoilt slot. Learning stands in homes.rs.
 
-use super::answer::{word, Aged, Found, Learning, SpoiltSlot};
-use super::record::{read, write, Entry, Label, Record, RECORD};
+use super::answer::{word, Aged, Found, SpoiltSlot};
+use super::record::{read, write, Entry, Label, Record, RECORD, TABLE};
 use super::refusal::Refusal;
 
-/// 2: "table length 0, not a multiple of 14, or over 57,344"
+/// 2: "table length 0", and by document 02 "Document 01's lengths become multiples of 15 up to 61,440"
 pub fn check_length(table: &[u8]) -> Result<(), Refusal> {
-    if table.is_empty() || !table.len().is_multiple_of(RECORD) || table.len() > 57_344 {
+    if table.is_empty() || !table.len().is_multiple_of(RECORD) || table.len() > TABLE {
         Err(Refusal::TableLength)
     } else {
         Ok(())
@@ -69,38 +69,4 @@ pub fn spoilt(table: &[u8]) -> u64 {
         check_length(table)
             .map(|()| SpoiltSlot(slots(table).position(|record| record == Record::Spoilt))),
     )
-}
-
-/// "Learning looks for the lowest slot with the same label and MAC." The entry holds what is
-/// learned: the label and MAC, and the nickname, confidence and seconds to write.
-pub fn learn(table: &mut [u8], entry: &Entry) -> Learning {
-    for slot in table.chunks_exact_mut(RECORD) {
-        match read(slot) {
-            // "Configured: kept."
-            Record::Configured(there) if same_key(&there, entry) => return Learning::Kept,
-            Record::Learned(there) if same_key(&there, entry) => {
-                // "Learned with higher confidence: kept."
-                if there.confidence > entry.confidence {
-                    return Learning::Kept;
-                }
-                // "Learned otherwise: nickname, confidence and seconds overwritten."
-                slot.copy_from_slice(&write(true, entry));
-                return Learning::Refreshed;
-            }
-            _ => {}
-        }
-    }
-    // "No match: the lowest free slot is filled."
-    for slot in table.chunks_exact_mut(RECORD) {
-        if read(slot) == Record::Free {
-            slot.copy_from_slice(&write(true, entry));
-            return Learning::Learned;
-        }
-    }
-    // "No free slot: not learned, answer "full"."
-    Learning::Full
-}
-
-fn same_key(one: &Entry, other: &Entry) -> bool {
-    one.label == other.label && one.mac == other.mac
 }

@@ -84,5 +84,5 @@ fn clear_of(nicknames: &impl Nicknames, payload: &Payload, slots: &mut [Slot]) -
 #[inline(always)]
 fn learned(slot: &Slot, has: impl Fn(u32) -> bool) -> bool {
     let bits = Bits::of(slot);
-    has(bits.learned_label()) & !bits.is_group()
+    has(bits.learned_label()) & !bits.is_group() & bits.last_good()
 }
