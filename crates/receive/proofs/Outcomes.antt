@@ -31,7 +31,7 @@ use Rattle.flush.specs.Flush.{clearing, flushed}
 use Rattle.flush.specs.declared.FlushAnswer.the-variants as flush
 use Rattle.flush.proofs.Flushing.{flush-exact, clearing-unique}
 use Rattle.flush.proofs.Stays.{clearing-leaves-alone}
-use Rattle.frame.specs.Settings.{addressesGood, secondsGood, numbersGood, settingsGood, lifeOf, defaultLife, compactOn}
+use Rattle.frame.specs.Settings.{addressesGood, secondsGood, numbersGood, laterGood, settingsGood, lifeOf, defaultLife, compactOn}
 use Rattle.frame.specs.Front.{addressIn, Front, unicast, multicast, refusedFront, inner, frontOf}
 use Rattle.frame.specs.Header.{ingressOf, egressOf}
 use Rattle.frame.specs.Labels.{isChannel, labelRead}
@@ -173,7 +173,8 @@ pub settings-fit : (life : ℕ) (s : Settings) → life < 2 ^ 13 → settingsGoo
 unfolding settingsGood numbersGood
 settings-fit life s small set =
     let a = both-true (addressesGood s) _ set in
-    let b = both-true (nicknameGood (s .nickname)) _ (a .1) in
+    let n = both-true (numbersGood s) (laterGood s) (a .1) in
+    let b = both-true (nicknameGood (s .nickname)) _ (n .0) in
     let c = both-true (leb (s .compact) 1) _ (b .1) in
     let d = both-true (leb (s .confidence) 255) (secondsGood (s .seconds)) (c .1) in
     (leb-true (s .confidence) 255 (d .0), life-fits (s .seconds) life (eqb (s .seconds) 0) refl small (d .1))

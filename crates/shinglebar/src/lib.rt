@@ -15,7 +15,7 @@ ghost use Rattle.convert.specs.Compaction.{compacted};
 ghost use Rattle.convert.specs.Expansion.{expanded};
 ghost use Rattle.convert.specs.Sending.{sent};
 ghost use Rattle.convert.specs.Words.{convertWord, sendWord};
-ghost use Rattle.shinglebar.specs.Arguments.{settingsOf, outerOf};
+ghost use Rattle.shinglebar.specs.Arguments.{portSettingsOf, settingsOf, outerOf};
 use convert::ConvertAnswer;
 use convert::SendAnswer;
 use convert_expand::Outer;
@@ -94,7 +94,36 @@ pub extern "C" fn shinglebar_flush(ingress: u32, payload: &[u8], table: &mut [u8
     flush_word(flush_call::flush(ingress, payload, table))
 }
 
-// The settings of a port, from the six numbers of every call that has them.
+// The settings of a port, from the eight numbers.
+pub fn port_settings(
+    port: u64,
+    inner: u64,
+    nickname: u32,
+    compact: u32,
+    confidence: u32,
+    seconds: u32,
+    multihomed: u32,
+    smart: u32,
+) -> Settings
+    ensures { λ r. ⌜ r ≡ portSettingsOf port inner nickname compact confidence seconds multihomed smart ⌝ }
+{
+    Settings {
+        port: port,
+        inner: inner,
+        nickname: nickname,
+        compact: compact,
+        confidence: confidence,
+        seconds: seconds,
+        multihomed: multihomed,
+        smart: smart,
+    }
+}
+
+// The same from the six numbers of document 01: no multihoming bit, and Smart Endnodes off.
+const NO_MULTIHOMING: u32 = 0;
+
+const SMART_OFF: u32 = 0;
+
 pub fn settings(
     port: u64,
     inner: u64,
@@ -105,14 +134,16 @@ pub fn settings(
 ) -> Settings
     ensures { λ r. ⌜ r ≡ settingsOf port inner nickname compact confidence seconds ⌝ }
 {
-    Settings {
-        port: port,
-        inner: inner,
-        nickname: nickname,
-        compact: compact,
-        confidence: confidence,
-        seconds: seconds,
-    }
+    port_settings(
+        port,
+        inner,
+        nickname,
+        compact,
+        confidence,
+        seconds,
+        NO_MULTIHOMING,
+        SMART_OFF,
+    )
 }
 
 fn learning_number(l: Learning) -> u64
