@@ -32,10 +32,17 @@ numbersGood s =
     (both (leb (s .confidence) mostConfidence)
     (secondsGood (s .seconds))))
 
--- which R bit marks a station with two homes (2026-12), and Smart Endnodes on or off (2026-13): 0, which is none and off, until they land
-abbrev pub mostMultihomed : ℕ
-mostMultihomed = 0
+-- "A setting says which of the two R bits it is, or none" (2026-12): 0 none, 1 the first, 2 the second
+abbrev pub firstBit : ℕ
+firstBit = 1
 
+abbrev pub secondBit : ℕ
+secondBit = 2
+
+abbrev pub mostMultihomed : ℕ
+mostMultihomed = secondBit
+
+-- Smart Endnodes on or off (2026-13): 0, which is off, until they land
 abbrev pub mostSmart : ℕ
 mostSmart = 0
 

@@ -7,7 +7,7 @@ ghost use Rattle.numbers.specs.Bytes.{startsWith};
 ghost use Rattle.numbers.specs.Ranges.{vlanGood};
 ghost use Rattle.frame.specs.Formats.{outerLength};
 ghost use Rattle.frame.specs.Front.{trillGroup, controlAddress, reservedGroup};
-ghost use Rattle.frame.specs.Header.{versionOf, multicastOf, optionLength, hopCount, egressOf, ingressOf, fixedBytes, headerBytes, agrees, headerLength};
+ghost use Rattle.frame.specs.Header.{versionOf, firstReserved, secondReserved, multicastOf, optionLength, hopCount, egressOf, ingressOf, fixedBytes, headerBytes, agrees, headerLength};
 ghost use Rattle.frame.specs.Labels.{tagBytes, low12, labelLength};
 ghost use Rattle.frame.specs.Settings.{addressesGood, secondsGood, numbersGood, laterGood, settingsGood};
 ghost use Rattle.frame_fields.specs.Meaning.{frontAs, frontAt, lengthAs};
@@ -19,6 +19,7 @@ use frame::ETHERTYPE_BYTES;
 use frame::FINE_BYTES;
 use frame::FINE_ETHERTYPE;
 use frame::FIRST_CONTROL;
+use frame::FIRST_RESERVED_BIT;
 use frame::FIXED_HEADER_BYTES;
 use frame::HOP_COUNT_VALUES;
 use frame::INGRESS_OFFSET;
@@ -35,6 +36,8 @@ use frame::MULTICAST_VALUES;
 use frame::OPTION_BYTES;
 use frame::OPTION_LENGTH_BIT;
 use frame::OPTION_LENGTH_VALUES;
+use frame::RESERVED_VALUES;
+use frame::SECOND_RESERVED_BIT;
 use frame::Settings;
 use frame::TAG_BYTES;
 use frame::TAG_ETHERTYPE;
@@ -150,6 +153,21 @@ fn version(l: &[u8], k: usize) -> u64
     ensures { λ r. ⌜ r ≡ versionOf (drop k (now (l .entry))) ⌝ }
 {
     numbers::be2(l, k) / VERSION_BIT % VERSION_VALUES
+}
+
+// The two R bits.
+pub fn first_reserved(l: &[u8], k: usize) -> u64
+    requires { ⌜ k + 2 ≤ length (now l) ⌝ }
+    ensures { λ r. ⌜ r ≡ firstReserved (drop k (now (l .entry))) ⌝ }
+{
+    numbers::be2(l, k) / FIRST_RESERVED_BIT % RESERVED_VALUES
+}
+
+pub fn second_reserved(l: &[u8], k: usize) -> u64
+    requires { ⌜ k + 2 ≤ length (now l) ⌝ }
+    ensures { λ r. ⌜ r ≡ secondReserved (drop k (now (l .entry))) ⌝ }
+{
+    numbers::be2(l, k) / SECOND_RESERVED_BIT % RESERVED_VALUES
 }
 
 pub fn multicast(l: &[u8], k: usize) -> u64

@@ -13,7 +13,7 @@ use Rattle.numbers.specs.Ranges.{individual, nicknameGood, vlanGood}
 use Rattle.numbers.specs.Numberings.{vlans, fines, numberOf, atLeast, atMost, startOf, endOf, inBlock, filled, inBlocks, someFilled, inList, bitOf, bitAt, inMap}
 use Rattle.numbers.proofs.Truth.{between-in, between-below, between-above, between-none}
 use Rattle.numbers.proofs.Widths.{maps-hold}
-use Rattle.table.specs.Record.{labelFrom, entryOf, entryGood, held, slotOf, unpacked, recordNumber, packed}
+use Rattle.table.specs.Record.{markedSlot, labelFrom, entryOf, entryGood, held, slotOf, unpacked, recordNumber, packed}
 use Rattle.table.specs.Slots.{tableGood, onSlots, countSlots}
 use Rattle.table.specs.declared.Label.{Label}
 use Rattle.table.specs.declared.Label.the-variants.{Vlan, Fine}
@@ -29,11 +29,11 @@ use Rattle.convert.specs.Compaction.{compactBytes, staysGeneral, generalOnly, g
 use Rattle.promises.specs.Cases.{Case, Holds, AllHold, records, p1, p1Entry, flushCases, meaningCases, compactionCases, vlansFrom, finesFrom, noLabel, Cases, ControlCases}
 
 p1-holds : Holds (records p1 p1Entry)
-unfolding pick both between num bytesOf individual nicknameGood vlanGood labelFrom entryOf entryGood held slotOf unpacked recordNumber packed
+unfolding pick both between num bytesOf individual nicknameGood vlanGood labelFrom entryOf entryGood held slotOf markedSlot unpacked recordNumber packed
 p1-holds = (refl, refl)
 
 flushes-hold : AllHold flushCases
-unfolding pick both either anyOf between check andThen settled num bytesOf partsFrom parts individual nicknameGood vlanGood numberOf atLeast atMost startOf endOf inBlock filled inBlocks someFilled inList bitOf bitAt inMap labelFrom entryOf entryGood held slotOf unpacked tableGood onSlots countSlots tlvsFrom tlvs lengthGood corrupt piecesOf payloadOf nicknameMeant vlanIn fineIn macIn someMacIn bringsLabel bringsMac gathersMac labelMeant macMeant entryMeant slotMeant clearedSlot clearedBy clearing flushed
+unfolding pick both either anyOf between check andThen settled num bytesOf partsFrom parts individual nicknameGood vlanGood numberOf atLeast atMost startOf endOf inBlock filled inBlocks someFilled inList bitOf bitAt inMap labelFrom entryOf entryGood held slotOf markedSlot unpacked tableGood onSlots countSlots tlvsFrom tlvs lengthGood corrupt piecesOf payloadOf nicknameMeant vlanIn fineIn macIn someMacIn bringsLabel bringsMac gathersMac labelMeant macMeant entryMeant slotMeant clearedSlot clearedBy clearing flushed
 flushes-hold = (refl, (refl, (refl, (refl, (refl, (refl, (refl, tt)))))))
 
 either-none : (b : Bool) → either b false ≡ b

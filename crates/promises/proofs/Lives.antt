@@ -13,7 +13,7 @@ use Rattle.frame.specs.declared.Settings.{Settings}
 use Rattle.convert.specs.Compaction.{staysGeneral, generalFields, compacting, compacted}
 use Rattle.convert.specs.Expansion.{Outer, outerDestination, generalBytes, expanding, expanded}
 use Rattle.convert.specs.Sending.{sentFields, sending, sent}
-use Rattle.receive.specs.Deciding.{ingressAllowed, nicknamesGood, isOnward, channelGood}
+use Rattle.receive.specs.Deciding.{isMarked, ingressAllowed, nicknamesGood, isOnward, channelGood}
 use Rattle.receive.specs.Receive.{learnedEntry, delivery, channel, acted, reading, receivedWith, received}
 use Rattle.promises.specs.Interchange.{Call, read, age, lookup, spoilt, Seen, seenReading, calledWith, runWith, run}
 use Rattle.promises.specs.Lives.{oldLife, passing, LifeAsBefore, OtherLivesStay}
@@ -22,7 +22,7 @@ use Rattle.promises.specs.Lives.{oldLife, passing, LifeAsBefore, OtherLi
 
 module _ (s : Settings) where
   reading-as-before : (f t o : List ℕ) → received (passing 300 s) f t o ≡ receivedWith oldLife (passing 0 s) f t o
-  unfolding received receivedWith reading acted delivery channel channelGood learnedEntry ingressAllowed nicknamesGood isOnward parsed frontOf settingsGood addressesGood numbersGood laterGood secondsGood pick both either between
+  unfolding received receivedWith reading acted delivery channel channelGood learnedEntry isMarked ingressAllowed nicknamesGood isOnward parsed frontOf settingsGood addressesGood numbersGood laterGood secondsGood pick both either between
   reading-as-before f t o = refl
 
   call-as-before : (t : List ℕ) (c : Call) → calledWith defaultLife (passing 300 s) t c ≡ calledWith oldLife (passing 0 s) t c

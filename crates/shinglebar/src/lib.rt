@@ -5,7 +5,8 @@ ghost use mathlib.Core.Path.{_≡_};
 ghost use Rattle.numbers.specs.After.{onTable, tableAs, onArea, areaAs, onBoth, bothAs};
 ghost use Rattle.table.specs.Record.{labelNumber};
 ghost use Rattle.table.specs.Table.{lookedUp, aged, lowestSpoilt};
-ghost use Rattle.table.specs.Words.{lookupWord, ageWord, spoiltWord, learningNumber};
+ghost use Rattle.table.specs.Widening.{widened};
+ghost use Rattle.table.specs.Words.{lookupWord, ageWord, spoiltWord, widenWord, learningNumber};
 ghost use Rattle.flush.specs.Flush.{flushed};
 ghost use Rattle.flush.specs.Words.{flushWord};
 ghost use Rattle.receive.specs.Receive.{received};
@@ -27,6 +28,7 @@ use table::Label;
 use table::Learning;
 use table::LookupAnswer;
 use table::SpoiltAnswer;
+use table::WidenAnswer;
 
 fn lookup_word(a: LookupAnswer) -> u64
     ensures { λ r. ⌜ r ≡ lookupWord a ⌝ }
@@ -76,6 +78,22 @@ pub extern "C" fn shinglebar_spoilt(table: &[u8]) -> u64
     ensures { λ r. ⌜ r ≡ spoiltWord (lowestSpoilt (now (table .entry))) ⌝ }
 {
     spoilt_word(table_search::lowest_spoilt(table))
+}
+
+fn widen_word(a: WidenAnswer) -> u64
+    ensures { λ r. ⌜ r ≡ widenWord a ⌝ }
+{
+    match a {
+        WidenAnswer::Refused(n) => n as u64,
+        WidenAnswer::Written(k) => 64 + k as u64 * 0x100,
+    }
+}
+
+#[no_mangle]
+pub extern "C" fn shinglebar_widen(old: &[u8], out: &mut [u8]) -> u64
+    ensures { λ r. ⌜ onArea r (now (out .exit)) ≡ areaAs widenWord (widened (now (old .entry)) (now (out .entry))) ⌝ }
+{
+    widen_word(table_widening::widen(old, out))
 }
 
 fn flush_word(a: FlushAnswer) -> u64
