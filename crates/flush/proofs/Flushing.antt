@@ -1,5 +1,5 @@
 -- A flush of a good table with a good payload, slot by slot: what is learned and meant becomes free, and nothing else changes. So the
--- slots learned before and free after are those that were counted, and no slot holds a new pair of label and MAC.
+-- slots learned before and free after are those that were counted, and no slot holds a new home.
 -- Assumes nothing.
 use Prim.Native.Nat.{ℕ, zero, suc, _<_, _≤_}
 use mathlib.Core.Bool.{Bool, true, false}
@@ -16,19 +16,19 @@ use Rattle.numbers.proofs.Answers.{got-got, check-got, then-got}
 use Rattle.numbers.proofs.Truth.{not-true-false, both-true, both-pass, pick-true, pick-false}
 use Rattle.table.specs.Record.{unpacked, isFree, isLearned}
 use Rattle.table.specs.Slots.{tableGood, slotsOf, slotAt, freed, onSlots, countSlots}
-use Rattle.table.specs.Claims.{Unique}
+use Rattle.table.specs.Claims.{Apart}
 use Rattle.table.specs.declared.Entry.{Entry}
 use Rattle.table.specs.declared.Slot.{Slot}
 use Rattle.table.specs.declared.Slot.the-variants.{Free, Spoilt, Learned, Configured}
 use Rattle.table.proofs.Slots.{Keeps, length-allSlots, slot-allSlots}
 use Rattle.table.proofs.Refusals.{refusal-keeps}
 use Rattle.table.proofs.Contents.{unpacked-freed}
-use Rattle.table.proofs.Unique.{unique-allSlots, freed-less, freed-keeps}
+use Rattle.table.proofs.Apart.{apart-allSlots, freeing-keeps, freeing-lessens}
 use Rattle.flush.specs.Payload.{everyType, Payload, payloadOf}
 use Rattle.flush.specs.Meaning.{nicknameMeant, labelMeant, macMeant, entryMeant}
 use Rattle.flush.specs.Flush.{heldMeant, slotMeant, clearedSlot, clearedBy, clearing, answered, flushed}
 use Rattle.flush.specs.Sets.{Meant}
-use Rattle.flush.specs.Claims.{learnedThenFree, SlotFacts, Flushes, FlushExact, FlushingKeepsUnique, FlushRefusal}
+use Rattle.flush.specs.Claims.{learnedThenFree, SlotFacts, Flushes, FlushExact, FlushingKeepsApart, FlushRefusal}
 use Rattle.flush.specs.declared.FlushAnswer.{FlushAnswer}
 use Rattle.flush.specs.declared.FlushAnswer.the-variants.{Refused, Flushed}
 use Rattle.flush.proofs.Lists.{false-true}
@@ -55,11 +55,11 @@ module _ (meant : List ℕ → Bool) where
 
   pub cleared-keeps : Keeps (clearedSlot meant)
   unfolding clearedSlot
-  cleared-keeps r h = freed-keeps (meant r) r h
+  cleared-keeps = freeing-keeps (clearedSlot meant) meant (λ r. refl)
 
-  pub cleared-unique : (t : List ℕ) → Unique t → Unique (onSlots (clearedSlot meant) 0 (slotsOf t) t)
+  pub cleared-apart : (t : List ℕ) → Apart t → Apart (onSlots (clearedSlot meant) 0 (slotsOf t) t)
   unfolding clearedSlot
-  cleared-unique t u = unique-allSlots (clearedSlot meant) cleared-keeps (λ l m r. freed-less (meant r) l m r) t u
+  cleared-apart t a = apart-allSlots (clearedSlot meant) cleared-keeps (freeing-lessens (clearedSlot meant) meant (λ r. refl)) t a
 
 abbrev meant : Payload → ℕ → List ℕ → Bool
 meant = slotMeant everyType
@@ -187,20 +187,20 @@ flush-refusal ingress l t n e =
 
 -- ---- no pair twice
 
-outcome-unique : (ingress : ℕ) (t : List ℕ) (good : Bool) (r : Result Payload) → Unique t
-    → Unique (settled (λ n. onTable (Refused n) t) (check good table-length-bad (andThen (andThen r λ p. got (clearedBy (slotMeant everyType p ingress) t)) λ c. got (answered c))) .table)
+outcome-apart : (ingress : ℕ) (t : List ℕ) (good : Bool) (r : Result Payload) → Apart t
+    → Apart (settled (λ n. onTable (Refused n) t) (check good table-length-bad (andThen (andThen r λ p. got (clearedBy (slotMeant everyType p ingress) t)) λ c. got (answered c))) .table)
 unfolding clearedBy settled check andThen
-outcome-unique ingress t false r u = u
-outcome-unique ingress t true (refused n) u = u
-outcome-unique ingress t true (got p) u = cleared-unique (meant p ingress) t u
+outcome-apart ingress t false r u = u
+outcome-apart ingress t true (refused n) u = u
+outcome-apart ingress t true (got p) u = cleared-apart (meant p ingress) t u
 
-pub flushing-keeps-unique : FlushingKeepsUnique
+pub flushing-keeps-apart : FlushingKeepsApart
 unfolding flushed clearing
-flushing-keeps-unique ingress l t u = outcome-unique ingress t (tableGood t) (payloadOf everyType l) u
+flushing-keeps-apart ingress l t u = outcome-apart ingress t (tableGood t) (payloadOf everyType l) u
 
 -- the same of a flush that came in a frame
-pub clearing-unique : (ingress : ℕ) (l t : List ℕ) (c : OnTable ℕ) → clearing everyType ingress l t ≡ got c → Unique t → Unique (c .table)
+pub clearing-apart : (ingress : ℕ) (l t : List ℕ) (c : OnTable ℕ) → clearing everyType ingress l t ≡ got c → Apart t → Apart (c .table)
 unfolding clearing clearedBy
-clearing-unique ingress l t c q u =
+clearing-apart ingress l t c q u =
     let (p, r, e) = then-got _ _ _ q in
-    subst (λ (x : OnTable ℕ). Unique (x .table)) (got-got _ _ e) (cleared-unique (meant p ingress) t u)
+    subst (λ (x : OnTable ℕ). Apart (x .table)) (got-got _ _ e) (cleared-apart (meant p ingress) t u)

@@ -6,17 +6,16 @@ use mathlib.Core.Bool.{Bool, true, false, not, _||_}
 use mathlib.Core.List.{List, [], _∷_}
 use mathlib.Core.Path.{_≡_, refl, sym, ap, _∙_}
 use native.Mathlib.Decide.{ℕ-discrete}
-use native.Mathlib.Omega.{arith}
 use lib.Dec.{eqb}
-use borrow.Author.Tests.{eq-eqb, eqb-true}
+use borrow.Author.Tests.{eq-eqb}
 use Rattle.numbers.specs.Tests.{pick, both, either, anyOf}
-use Rattle.numbers.proofs.Truth.{not-true-false, both-true, or-either}
-use Rattle.table.specs.Record.{recordOf, stateOf, kindOf, labelOf, macOf, nicknameOf, learnedState, labelFrom, entryOf, entryGood, slotOf, unpacked, isLearned}
+use Rattle.numbers.proofs.Truth.{or-either}
+use Rattle.table.specs.Record.{recordOf, kindOf, labelOf, macOf, nicknameOf, labelFrom, entryOf, unpacked, isLearned}
 use Rattle.table.specs.Slots.{slotsOf}
 use Rattle.table.specs.declared.Label.the-variants.{Vlan, Fine}
 use Rattle.table.specs.declared.Slot.{Slot}
 use Rattle.table.specs.declared.Slot.the-variants.{Free, Spoilt, Learned, Configured}
-use Rattle.table.proofs.Contents.{learned-is, slot-held, state-learned, free-state}
+use Rattle.table.proofs.Contents.{learned-entry}
 use Rattle.flush.specs.Payload.{everyType, Piece, tlv, block, stump, tlvs, piecesOf, Payload}
 use Rattle.flush.specs.Meaning.{fineIn, someMacIn, bringsLabel, gathersMac, nicknameMeant, labelMeant, macMeant, entryMeant}
 use Rattle.flush.specs.Flush.{heldMeant, slotMeant}
@@ -131,16 +130,10 @@ module _ (p : Payload) (ingress : ℕ) where
   not-learned (Learned x) e = false-true (sym e)
   not-learned (Configured x) e = refl
 
-  learned-entry : (n : ℕ) → isLearned (slotOf n) ≡ true → slotOf n ≡ Learned (entryOf n)
-  learned-entry n e =
-      let b = both-true (eqb (stateOf n) learnedState) (entryGood (entryOf n)) (sym (learned-is n) ∙ e) in
-      let one : stateOf n ≡ 1 = eqb-true (stateOf n) 1 (b .0) in
-      sym (slot-held n (not-true-false _ (λ q. let z = free-state n q in omega arith))) ∙ sym (state-learned n (b .1) one)
-
   by-learned : (r : List ℕ) (b : Bool) → isLearned (unpacked r) ≡ b → slotMeant everyType p ingress r ≡ both b (entryMeant everyType p ingress (entryOf (recordOf r)))
-  unfolding slotMeant unpacked both
-  by-learned r true e = ap (heldMeant everyType p ingress) (learned-entry (recordOf r) e)
-  by-learned r false e = not-learned (slotOf (recordOf r)) e
+  unfolding slotMeant entryMeant both
+  by-learned r true e = ap (heldMeant everyType p ingress) (learned-entry r e)
+  by-learned r false e = not-learned (unpacked r) e
 
   four-assoc : (a b c d : Bool) → both (both (both a b) c) d ≡ both a (both b (both c d))
   unfolding both

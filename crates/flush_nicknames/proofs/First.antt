@@ -21,7 +21,7 @@ use Rattle.table.specs.Record.{recordOf, stateOf, kindOf, labelOf, nicknameOf, 
 use Rattle.table.specs.Slots.{slotBytes, mostSlots, slotAt}
 use Rattle.table.specs.declared.Label.the-variants.{Vlan, Fine}
 use Rattle.table.proofs.Slots.{Local}
-use Rattle.table.proofs.Contents.{record-near, unpacked-near, learned-is}
+use Rattle.table.proofs.Contents.{record-near, unpacked-near, learned-is, learned-parts}
 use Rattle.flush.specs.Payload.{everyType, Piece}
 use Rattle.flush.specs.Meaning.{nicknameMeant, labelMeant}
 use Rattle.flush_sets.specs.Gains.{Gains, None, inNicknames}
@@ -159,9 +159,9 @@ learned-vlan n e h =
 
 module _ (ps : List Piece) (vlans : List ℕ) (told : VlansMeant ps vlans) (fine : Bool) (r : List ℕ) where
   same-label : isLearned (unpacked r) ≡ true → (b : Bool) → eqb (kindOf (recordOf r)) 0 ≡ b → labelPart vlans fine r ≡ kindMeant ps fine r
-  unfolding labelPart kindMeant pick unpacked
+  unfolding labelPart kindMeant pick
   same-label l true e =
-      let few = learned-vlan (recordOf r) (sym (learned-is (recordOf r)) ∙ l) (eqb-true (kindOf (recordOf r)) 0 e) in
+      let few = learned-vlan (recordOf r) (sym (learned-is (recordOf r)) ∙ learned-parts r l .0) (eqb-true (kindOf (recordOf r)) 0 e) in
       rw (e, mod-eq-of-lt few) (told .each (labelOf (recordOf r)) few)
   same-label l false e = rw e
 

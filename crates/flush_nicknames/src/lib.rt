@@ -6,7 +6,7 @@ ghost use lib.Dec.{eqb};
 ghost use lib.ListN.{length, drop};
 ghost use Rattle.numbers.specs.Numberings.{bitAt};
 ghost use Rattle.table.specs.Record.{recordBytes, recordOf, nicknameOf};
-ghost use Rattle.table.specs.Slots.{mostSlots};
+ghost use Rattle.table.specs.Slots.{slotBytes, mostSlots};
 ghost use Rattle.flush.specs.Payload.{blockBytes, piecesOf};
 ghost use Rattle.flush.specs.Meaning.{nicknameMeant};
 ghost use Rattle.flush_sets.specs.Gains.{Gains, inNicknames};
@@ -119,7 +119,7 @@ fn label_passes(t: &[u8], at: usize, vlans: &[u8], fine: bool) -> bool
 
 // Whether the slot at an offset is to be marked, by one nickname. One byte of it decides most slots, and then the label.
 fn single_at(t: &[u8], at: usize, one: u64, vlans: &[u8], fine: bool) -> bool
-    requires { ⌜ (at + recordBytes ≤ length (now t)) × (length (now vlans) ≡ vlanBytes) ⌝ }
+    requires { ⌜ (at + slotBytes ≤ length (now t)) × (length (now vlans) ≡ vlanBytes) ⌝ }
     ensures { λ b. ⌜ b ≡ slotMarked (λ x. eqb x one) (now (vlans .entry)) fine (drop at (now (t .entry))) ⌝ }
 {
     if table_fields::nickname_middle_at(t, at) != one / 8 % 0x100 {
@@ -136,7 +136,7 @@ fn single_at(t: &[u8], at: usize, one: u64, vlans: &[u8], fine: bool) -> bool
 
 // The same, by a set of nicknames. One byte of the set decides most slots.
 fn listed_at(t: &[u8], at: usize, names: &[u8], vlans: &[u8], fine: bool) -> bool
-    requires { ⌜ (at + recordBytes ≤ length (now t)) × ((length (now names) ≡ nameBytes) × (length (now vlans) ≡ vlanBytes)) ⌝ }
+    requires { ⌜ (at + slotBytes ≤ length (now t)) × ((length (now names) ≡ nameBytes) × (length (now vlans) ≡ vlanBytes)) ⌝ }
     ensures { λ b. ⌜ b ≡ slotMarked (λ x. bitAt x (now (names .entry))) (now (vlans .entry)) fine (drop at (now (t .entry))) ⌝ }
 {
     if flush_bits::none_at(names, table_fields::nickname_high_at(t, at)) {

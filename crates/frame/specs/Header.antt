@@ -17,6 +17,13 @@ wordAt k l = num (take 2 (drop k l))
 abbrev pub versionOf : List ℕ → ℕ
 versionOf h = wordAt 0 h / 2 ^ 14 % 2 ^ 2
 
+-- the two R bits: 20h and 10h of the first byte
+abbrev pub firstReserved : List ℕ → ℕ
+firstReserved h = wordAt 0 h / 2 ^ 13 % 2 ^ 1
+
+abbrev pub secondReserved : List ℕ → ℕ
+secondReserved h = wordAt 0 h / 2 ^ 12 % 2 ^ 1
+
 abbrev pub multicastOf : List ℕ → ℕ
 multicastOf h = wordAt 0 h / 2 ^ 11 % 2 ^ 1
 

@@ -32,8 +32,25 @@ numbersGood s =
     (both (leb (s .confidence) mostConfidence)
     (secondsGood (s .seconds))))
 
+-- "A setting says which of the two R bits it is, or none" (2026-12): 0 none, 1 the first, 2 the second
+abbrev pub firstBit : ℕ
+firstBit = 1
+
+abbrev pub secondBit : ℕ
+secondBit = 2
+
+abbrev pub mostMultihomed : ℕ
+mostMultihomed = secondBit
+
+-- Smart Endnodes on or off (2026-13): 0, which is off, until they land
+abbrev pub mostSmart : ℕ
+mostSmart = 0
+
+unfoldable pub laterGood : Settings → Bool
+laterGood s = both (leb (s .multihomed) mostMultihomed) (leb (s .smart) mostSmart)
+
 unfoldable pub settingsGood : Settings → Bool
-settingsGood s = both (addressesGood s) (numbersGood s)
+settingsGood s = both (addressesGood s) (both (numbersGood s) (laterGood s))
 
 -- Compact is on
 abbrev pub compactOn : Settings → Bool

@@ -1,7 +1,8 @@
 // Frames of both formats: settings, the destination in front, header, label, fields. The definitions are in specs/.
 ghost use Rattle.frame.specs.Claims.{HeaderLocal, LabelLocal, LabelsGood};
 
-// The six numbers of a port's settings, as they arrive.
+// The eight numbers of a port's settings, as they arrive: the six of document 01, then that of two homes, and that of Smart Endnodes,
+// which is 0 until its request lands.
 pub struct Settings {
     pub port: u64,
     pub inner: u64,
@@ -9,10 +10,22 @@ pub struct Settings {
     pub compact: u32,
     pub confidence: u32,
     pub seconds: u32,
+    pub multihomed: u32,
+    pub smart: u32,
 }
 
 // Compact on, as a setting.
 pub const COMPACT_ON: u32 = 1;
+
+// Which R bit of the header marks a frame: none (0), the first, the second.
+pub const FIRST_BIT: u32 = 1;
+
+pub const SECOND_BIT: u32 = 2;
+
+pub const MOST_MULTIHOMED: u32 = SECOND_BIT;
+
+// Smart Endnodes: 0, which is off, until their request lands.
+pub const MOST_SMART: u32 = 0;
 
 // The greatest confidence; the learning seconds, and those that 0 stands for.
 pub const MOST_CONFIDENCE: u32 = 255;
@@ -94,6 +107,12 @@ pub const OPTION_LENGTH_VALUES: u64 = 0x20;
 pub const MULTICAST_BIT: u64 = 0x800;
 
 pub const MULTICAST_VALUES: u64 = 2;
+
+pub const FIRST_RESERVED_BIT: u64 = 0x2000;
+
+pub const SECOND_RESERVED_BIT: u64 = 0x1000;
+
+pub const RESERVED_VALUES: u64 = 2;
 
 pub const VERSION_BIT: u64 = 0x4000;
 

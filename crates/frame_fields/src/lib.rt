@@ -7,9 +7,9 @@ ghost use Rattle.numbers.specs.Bytes.{startsWith};
 ghost use Rattle.numbers.specs.Ranges.{vlanGood};
 ghost use Rattle.frame.specs.Formats.{outerLength};
 ghost use Rattle.frame.specs.Front.{trillGroup, controlAddress, reservedGroup};
-ghost use Rattle.frame.specs.Header.{versionOf, multicastOf, optionLength, hopCount, egressOf, ingressOf, fixedBytes, headerBytes, agrees, headerLength};
+ghost use Rattle.frame.specs.Header.{versionOf, firstReserved, secondReserved, multicastOf, optionLength, hopCount, egressOf, ingressOf, fixedBytes, headerBytes, agrees, headerLength};
 ghost use Rattle.frame.specs.Labels.{tagBytes, low12, labelLength};
-ghost use Rattle.frame.specs.Settings.{addressesGood, secondsGood, numbersGood, settingsGood};
+ghost use Rattle.frame.specs.Settings.{addressesGood, secondsGood, numbersGood, laterGood, settingsGood};
 ghost use Rattle.frame_fields.specs.Meaning.{frontAs, frontAt, lengthAs};
 use frame::ADDRESSES_BYTES;
 use frame::ALL_RBRIDGES;
@@ -19,6 +19,7 @@ use frame::ETHERTYPE_BYTES;
 use frame::FINE_BYTES;
 use frame::FINE_ETHERTYPE;
 use frame::FIRST_CONTROL;
+use frame::FIRST_RESERVED_BIT;
 use frame::FIXED_HEADER_BYTES;
 use frame::HOP_COUNT_VALUES;
 use frame::INGRESS_OFFSET;
@@ -27,12 +28,16 @@ use frame::LAST_CONTROL;
 use frame::LAST_TRILL_GROUP;
 use frame::LEAST_SECONDS;
 use frame::MOST_CONFIDENCE;
+use frame::MOST_MULTIHOMED;
 use frame::MOST_SECONDS;
+use frame::MOST_SMART;
 use frame::MULTICAST_BIT;
 use frame::MULTICAST_VALUES;
 use frame::OPTION_BYTES;
 use frame::OPTION_LENGTH_BIT;
 use frame::OPTION_LENGTH_VALUES;
+use frame::RESERVED_VALUES;
+use frame::SECOND_RESERVED_BIT;
 use frame::Settings;
 use frame::TAG_BYTES;
 use frame::TAG_ETHERTYPE;
@@ -84,11 +89,17 @@ fn numbers_good(s: Settings) -> bool
             & ((s.confidence <= MOST_CONFIDENCE) & seconds_good(s.seconds)))
 }
 
+fn later_good(s: Settings) -> bool
+    ensures { λ r. ⌜ r ≡ laterGood s ⌝ }
+{
+    (s.multihomed <= MOST_MULTIHOMED) & (s.smart <= MOST_SMART)
+}
+
 // Refusal 1: whether the settings are within their ranges.
 pub fn settings_good(s: Settings) -> bool
     ensures { λ r. ⌜ r ≡ settingsGood s ⌝ }
 {
-    addresses_good(s) & numbers_good(s)
+    addresses_good(s) & (numbers_good(s) & later_good(s))
 }
 
 // :40 to :4F.
@@ -142,6 +153,21 @@ fn version(l: &[u8], k: usize) -> u64
     ensures { λ r. ⌜ r ≡ versionOf (drop k (now (l .entry))) ⌝ }
 {
     numbers::be2(l, k) / VERSION_BIT % VERSION_VALUES
+}
+
+// The two R bits.
+pub fn first_reserved(l: &[u8], k: usize) -> u64
+    requires { ⌜ k + 2 ≤ length (now l) ⌝ }
+    ensures { λ r. ⌜ r ≡ firstReserved (drop k (now (l .entry))) ⌝ }
+{
+    numbers::be2(l, k) / FIRST_RESERVED_BIT % RESERVED_VALUES
+}
+
+pub fn second_reserved(l: &[u8], k: usize) -> u64
+    requires { ⌜ k + 2 ≤ length (now l) ⌝ }
+    ensures { λ r. ⌜ r ≡ secondReserved (drop k (now (l .entry))) ⌝ }
+{
+    numbers::be2(l, k) / SECOND_RESERVED_BIT % RESERVED_VALUES
 }
 
 pub fn multicast(l: &[u8], k: usize) -> u64

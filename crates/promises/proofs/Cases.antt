@@ -13,14 +13,14 @@ use Rattle.numbers.specs.Ranges.{individual, nicknameGood, vlanGood}
 use Rattle.numbers.specs.Numberings.{vlans, fines, numberOf, atLeast, atMost, startOf, endOf, inBlock, filled, inBlocks, someFilled, inList, bitOf, bitAt, inMap}
 use Rattle.numbers.proofs.Truth.{between-in, between-below, between-above, between-none}
 use Rattle.numbers.proofs.Widths.{maps-hold}
-use Rattle.table.specs.Record.{labelFrom, entryOf, entryGood, held, slotOf, unpacked, recordNumber, packed}
+use Rattle.table.specs.Record.{markedSlot, labelFrom, entryOf, entryGood, held, slotOf, unpacked, recordNumber, packed}
 use Rattle.table.specs.Slots.{tableGood, onSlots, countSlots}
 use Rattle.table.specs.declared.Label.{Label}
 use Rattle.table.specs.declared.Label.the-variants.{Vlan, Fine}
 use Rattle.flush.specs.Payload.{everyType, tlv, block, tlvsFrom, tlvs, lengthGood, corrupt, piecesOf, payloadOf}
 use Rattle.flush.specs.Meaning.{nicknameMeant, vlanIn, fineIn, macIn, someMacIn, bringsLabel, bringsMac, gathersMac, labelMeant, macMeant, entryMeant}
 use Rattle.flush.specs.Flush.{slotMeant, clearedSlot, clearedBy, clearing, flushed}
-use Rattle.frame.specs.Settings.{addressesGood, secondsGood, numbersGood, settingsGood}
+use Rattle.frame.specs.Settings.{addressesGood, secondsGood, numbersGood, laterGood, settingsGood}
 use Rattle.frame.specs.Front.{trillGroup, controlAddress, reservedGroup, frontRefused, frontOf}
 use Rattle.frame.specs.Header.{headerLength}
 use Rattle.frame.specs.Labels.{labelLength}
@@ -29,11 +29,11 @@ use Rattle.convert.specs.Compaction.{compactBytes, staysGeneral, generalOnly, g
 use Rattle.promises.specs.Cases.{Case, Holds, AllHold, records, p1, p1Entry, flushCases, meaningCases, compactionCases, vlansFrom, finesFrom, noLabel, Cases, ControlCases}
 
 p1-holds : Holds (records p1 p1Entry)
-unfolding pick both between num bytesOf individual nicknameGood vlanGood labelFrom entryOf entryGood held slotOf unpacked recordNumber packed
+unfolding pick both between num bytesOf individual nicknameGood vlanGood labelFrom entryOf entryGood held slotOf markedSlot unpacked recordNumber packed
 p1-holds = (refl, refl)
 
 flushes-hold : AllHold flushCases
-unfolding pick both either anyOf between check andThen settled num bytesOf partsFrom parts individual nicknameGood vlanGood numberOf atLeast atMost startOf endOf inBlock filled inBlocks someFilled inList bitOf bitAt inMap labelFrom entryOf entryGood held slotOf unpacked tableGood onSlots countSlots tlvsFrom tlvs lengthGood corrupt piecesOf payloadOf nicknameMeant vlanIn fineIn macIn someMacIn bringsLabel bringsMac gathersMac labelMeant macMeant entryMeant slotMeant clearedSlot clearedBy clearing flushed
+unfolding pick both either anyOf between check andThen settled num bytesOf partsFrom parts individual nicknameGood vlanGood numberOf atLeast atMost startOf endOf inBlock filled inBlocks someFilled inList bitOf bitAt inMap labelFrom entryOf entryGood held slotOf markedSlot unpacked tableGood onSlots countSlots tlvsFrom tlvs lengthGood corrupt piecesOf payloadOf nicknameMeant vlanIn fineIn macIn someMacIn bringsLabel bringsMac gathersMac labelMeant macMeant entryMeant slotMeant clearedSlot clearedBy clearing flushed
 flushes-hold = (refl, (refl, (refl, (refl, (refl, (refl, (refl, tt)))))))
 
 either-none : (b : Bool) → either b false ≡ b
@@ -88,11 +88,11 @@ meanings-hold = (
 )
 
 compactions-hold : AllHold compactionCases
-unfolding pick both either between check andThen settled num bytesOf startsWith laid individual nicknameGood vlanGood addressesGood secondsGood numbersGood settingsGood trillGroup controlAddress reservedGroup frontRefused frontOf headerLength labelLength outerLength generalAfter general frameLengthGood compactBytes staysGeneral generalOnly generalFields compacting written compacted
+unfolding pick both either between check andThen settled num bytesOf startsWith laid individual nicknameGood vlanGood addressesGood secondsGood numbersGood laterGood settingsGood trillGroup controlAddress reservedGroup frontRefused frontOf headerLength labelLength outerLength generalAfter general frameLengthGood compactBytes staysGeneral generalOnly generalFields compacting written compacted
 compactions-hold = (refl, (refl, tt))
 
 pub control-cases : ControlCases
-unfolding pick both either between check andThen settled num bytesOf startsWith laid individual nicknameGood vlanGood addressesGood secondsGood numbersGood settingsGood trillGroup controlAddress reservedGroup frontRefused frontOf headerLength labelLength outerLength generalAfter general frameLengthGood compactBytes staysGeneral generalOnly generalFields compacting written compacted
+unfolding pick both either between check andThen settled num bytesOf startsWith laid individual nicknameGood vlanGood addressesGood secondsGood numbersGood laterGood settingsGood trillGroup controlAddress reservedGroup frontRefused frontOf headerLength labelLength outerLength generalAfter general frameLengthGood compactBytes staysGeneral generalOnly generalFields compacting written compacted
 control-cases = (refl, (refl, (refl, (refl, (refl, (refl, tt))))))
 
 all-append : (xs ys : List Case) → AllHold xs → AllHold ys → AllHold (xs ++ ys)

@@ -10,11 +10,11 @@ use Rattle.numbers.specs.Tests.{pick, both, either, anyOf, between}
 use Rattle.numbers.specs.Result.{got, check, andThen, settled}
 use Rattle.numbers.specs.Bytes.{num, bytesOf, startsWith, laid}
 use Rattle.numbers.specs.Ranges.{individual, nicknameGood, vlanGood}
-use Rattle.table.specs.Record.{labelFrom, entryOf, entryGood, held, slotOf, unpacked, recordNumber, packed, entryMatches}
+use Rattle.table.specs.Record.{markedSlot, labelFrom, entryOf, entryGood, held, slotOf, unpacked, recordNumber, packed, entryMatches}
 use Rattle.table.specs.Slots.{freed, tableGood, onSlots, firstSlot, lowest}
-use Rattle.table.specs.Table.{holds, placeOf, nicknameAt, lookedUp, agedSlot, aged, spoiltSlot, spoiltAt, lowestSpoilt}
-use Rattle.table.specs.Learning.{overMatch, freeSlot, intoFree, learnedAt, learnt}
-use Rattle.frame.specs.Settings.{addressesGood, secondsGood, numbersGood, settingsGood}
+use Rattle.table.specs.Table.{holds, holdsConfigured, holdsLearned, holdsUnmarked, holdsMarked, placeOf, nicknameAt, lookedUp, agedSlot, aged, spoiltSlot, spoiltAt, lowestSpoilt}
+use Rattle.table.specs.Learning.{rivalOf, clearedPair, roomFor, judgedAt, freeSlot, intoFree, judged, learnt}
+use Rattle.frame.specs.Settings.{addressesGood, secondsGood, numbersGood, laterGood, settingsGood}
 use Rattle.frame.specs.Front.{trillGroup, controlAddress, reservedGroup, frontRefused, frontOf}
 use Rattle.frame.specs.Header.{headerLength}
 use Rattle.frame.specs.Labels.{labelLength, labelRead}
@@ -23,7 +23,7 @@ use Rattle.frame.specs.Formats.{outerLength, generalAfter, general, compactAfte
 use Rattle.convert.specs.Compaction.{compactBytes, staysGeneral, generalOnly, generalFields, compacting, compacted}
 use Rattle.convert.specs.Claims.{converted}
 use Rattle.convert.proofs.Areas.{writes}
-use Rattle.receive.specs.Deciding.{ingressAllowed, nicknamesGood, isOnward}
+use Rattle.receive.specs.Deciding.{isMarked, ingressAllowed, nicknamesGood, isOnward}
 use Rattle.receive.specs.Receive.{learnedEntry, delivery, acted, reading, receivedWith}
 use Rattle.promises.specs.Cases.{farPort, p10Compact}
 use Rattle.promises.specs.Interchange.{Call, read, age, lookup, spoilt, calledWith, runWith, run, workingArea, frameOr, compactedCall, compactedWhere}
@@ -34,7 +34,7 @@ unfolding workingArea
 area-length = length-replicate {A = ℕ} 9204 0
 
 p10-compacting : compacting farPort p10Frame ≡ got p10Compact
-unfolding pick both either between check andThen num startsWith individual nicknameGood vlanGood addressesGood secondsGood numbersGood settingsGood trillGroup controlAddress reservedGroup frontRefused frontOf headerLength labelLength outerLength generalAfter general frameLengthGood compactBytes staysGeneral generalOnly generalFields compacting
+unfolding pick both either between check andThen num startsWith individual nicknameGood vlanGood addressesGood secondsGood numbersGood laterGood settingsGood trillGroup controlAddress reservedGroup frontRefused frontOf headerLength labelLength outerLength generalAfter general frameLengthGood compactBytes staysGeneral generalOnly generalFields compacting
 p10-compacting = refl
 
 p10-converted : converted (compacted farPort p10Frame workingArea) ≡ got p10Compact
@@ -46,7 +46,7 @@ unfolding compactedWhere compactedCall pick
 replaced = ap (λ r. read (frameOr p10Frame r) outBefore ∷ later) p10-converted
 
 both-run : (run farPort freed generalCalls ≡ seen) × (run farPort freed compactCalls ≡ seen)
-unfolding pick both either anyOf between check andThen settled num bytesOf startsWith laid individual nicknameGood vlanGood labelFrom entryOf entryGood held slotOf unpacked recordNumber packed entryMatches tableGood onSlots firstSlot lowest holds placeOf nicknameAt lookedUp agedSlot aged spoiltSlot spoiltAt lowestSpoilt overMatch freeSlot intoFree learnedAt learnt addressesGood secondsGood numbersGood settingsGood trillGroup controlAddress reservedGroup frontRefused frontOf headerLength labelLength labelRead nativeBytes outerLength generalAfter general compactAfter compact frameLengthGood byFront parsed ingressAllowed nicknamesGood isOnward learnedEntry delivery acted reading receivedWith calledWith runWith run
+unfolding pick both either anyOf between check andThen settled num bytesOf startsWith laid individual nicknameGood vlanGood labelFrom entryOf entryGood held slotOf markedSlot unpacked recordNumber packed entryMatches tableGood onSlots firstSlot lowest holds placeOf nicknameAt lookedUp agedSlot aged spoiltSlot spoiltAt lowestSpoilt holdsConfigured holdsLearned holdsUnmarked holdsMarked rivalOf clearedPair roomFor judgedAt freeSlot intoFree judged learnt isMarked addressesGood secondsGood numbersGood laterGood settingsGood trillGroup controlAddress reservedGroup frontRefused frontOf headerLength labelLength labelRead nativeBytes outerLength generalAfter general compactAfter compact frameLengthGood byFront parsed ingressAllowed nicknamesGood isOnward learnedEntry delivery acted reading receivedWith calledWith runWith run
 both-run = (refl, refl)
 
 -- the first frames have 40 and 28 bytes

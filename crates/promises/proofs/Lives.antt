@@ -6,14 +6,14 @@ use mathlib.Core.List.{List, [], _∷_}
 use mathlib.Core.Path.{_≡_, refl, ap}
 use borrow.Author.Tests.{ne-eqb}
 use Rattle.numbers.specs.Tests.{pick, both, either, between}
-use Rattle.frame.specs.Settings.{addressesGood, secondsGood, numbersGood, settingsGood, lifeOf, defaultLife}
+use Rattle.frame.specs.Settings.{addressesGood, secondsGood, numbersGood, laterGood, settingsGood, lifeOf, defaultLife}
 use Rattle.frame.specs.Front.{frontOf}
 use Rattle.frame.specs.Formats.{parsed}
 use Rattle.frame.specs.declared.Settings.{Settings}
 use Rattle.convert.specs.Compaction.{staysGeneral, generalFields, compacting, compacted}
 use Rattle.convert.specs.Expansion.{Outer, outerDestination, generalBytes, expanding, expanded}
 use Rattle.convert.specs.Sending.{sentFields, sending, sent}
-use Rattle.receive.specs.Deciding.{ingressAllowed, nicknamesGood, isOnward, channelGood}
+use Rattle.receive.specs.Deciding.{isMarked, ingressAllowed, nicknamesGood, isOnward, channelGood}
 use Rattle.receive.specs.Receive.{learnedEntry, delivery, channel, acted, reading, receivedWith, received}
 use Rattle.promises.specs.Interchange.{Call, read, age, lookup, spoilt, Seen, seenReading, calledWith, runWith, run}
 use Rattle.promises.specs.Lives.{oldLife, passing, LifeAsBefore, OtherLivesStay}
@@ -22,7 +22,7 @@ use Rattle.promises.specs.Lives.{oldLife, passing, LifeAsBefore, OtherLi
 
 module _ (s : Settings) where
   reading-as-before : (f t o : List ℕ) → received (passing 300 s) f t o ≡ receivedWith oldLife (passing 0 s) f t o
-  unfolding received receivedWith reading acted delivery channel channelGood learnedEntry ingressAllowed nicknamesGood isOnward parsed frontOf settingsGood addressesGood numbersGood secondsGood pick both either between
+  unfolding received receivedWith reading acted delivery channel channelGood learnedEntry isMarked ingressAllowed nicknamesGood isOnward parsed frontOf settingsGood addressesGood numbersGood laterGood secondsGood pick both either between
   reading-as-before f t o = refl
 
   call-as-before : (t : List ℕ) (c : Call) → calledWith defaultLife (passing 300 s) t c ≡ calledWith oldLife (passing 0 s) t c
@@ -38,15 +38,15 @@ module _ (s : Settings) where
   calls-as-before t (c ∷ cs) = rw (call-as-before t c) (ap (λ (r : List Seen). calledWith oldLife (passing 0 s) t c ∷ r) (calls-as-before _ cs))
 
   compaction-as-before : (f area : List ℕ) → compacted (passing 300 s) f area ≡ compacted (passing 0 s) f area
-  unfolding compacted compacting generalFields staysGeneral frontOf settingsGood addressesGood numbersGood secondsGood both either between
+  unfolding compacted compacting generalFields staysGeneral frontOf settingsGood addressesGood numbersGood laterGood secondsGood both either between
   compaction-as-before f area = refl
 
   expansion-as-before : (u : Outer) (f area : List ℕ) → expanded (passing 300 s) u f area ≡ expanded (passing 0 s) u f area
-  unfolding expanded expanding generalBytes outerDestination frontOf settingsGood addressesGood numbersGood secondsGood both either between
+  unfolding expanded expanding generalBytes outerDestination frontOf settingsGood addressesGood numbersGood laterGood secondsGood both either between
   expansion-as-before u f area = refl
 
   sending-as-before : (f work : List ℕ) → sent (passing 300 s) f work ≡ sent (passing 0 s) f work
-  unfolding sent sending sentFields staysGeneral frontOf settingsGood addressesGood numbersGood secondsGood both either between
+  unfolding sent sending sentFields staysGeneral frontOf settingsGood addressesGood numbersGood laterGood secondsGood both either between
   sending-as-before f work = refl
 
 pub life-as-before : LifeAsBefore

@@ -42,6 +42,8 @@ farPort = record {
   compact = 1;
   confidence = 20;
   seconds = 300;
+  multihomed = 0;
+  smart = 0;
 }
 
 abbrev pub Holds : Case → Type 0
@@ -68,10 +70,10 @@ noLabel l = false
 
 -- P1
 abbrev pub p1 : List ℕ
-p1 = 0x40 ∷ 0x00 ∷ 0x01 ∷ 0x40 ∷ 0x40 ∷ 0x00 ∷ 0x00 ∷ 0x00 ∷ 0x00 ∷ 0x22 ∷ 0x46 ∷ 0x82 ∷ 0x81 ∷ 0x2C ∷ []
+p1 = 0x40 ∷ 0x00 ∷ 0x01 ∷ 0x40 ∷ 0x40 ∷ 0x00 ∷ 0x00 ∷ 0x00 ∷ 0x00 ∷ 0x22 ∷ 0x46 ∷ 0x82 ∷ 0x81 ∷ 0x2C ∷ 0x00 ∷ []
 
 abbrev pub p1Entry : Entry
-p1Entry = record { label = Vlan 10; mac = 0x0200_0000_0001; nickname = 0x1234; confidence = 20; seconds = 300 }
+p1Entry = record { label = Vlan 10; mac = 0x0200_0000_0001; nickname = 0x1234; confidence = 20; seconds = 300; multihomed = false }
 
 abbrev pub flushedTo : ℕ → List ℕ → OnTable FlushAnswer
 flushedTo count t = onTable (flush.Flushed count) t

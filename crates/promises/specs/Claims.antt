@@ -3,30 +3,31 @@
 use Prim.Native.Nat.{ℕ}
 use mathlib.Core.List.{List}
 use Rattle.table.specs.Table.{aged}
-use Rattle.table.specs.Claims.{AgeingRefusal, AgeingKeepsUnique, Stays, IsSpoilt, IsConfigured}
+use Rattle.table.specs.Claims.{AgeingRefusal, WideningRefusal, AgeingKeepsApart, Stays, IsSpoilt, IsConfigured}
 use Rattle.table.specs.declared.Slot.{Slot}
 use Rattle.flush.specs.Flush.{flushed}
 use Rattle.frame.specs.declared.Settings.{Settings}
 use Rattle.receive.specs.Receive.{received}
-use Rattle.flush.specs.Claims.{FlushRefusal, FlushingKeepsUnique}
+use Rattle.flush.specs.Claims.{FlushRefusal, FlushingKeepsApart}
 use Rattle.convert.specs.Claims.{ConvertRefusals}
-use Rattle.receive.specs.Claims.{ReadRefusal, ReadingKeepsUnique}
+use Rattle.receive.specs.Claims.{ReadRefusal, ReadingKeepsApart}
 
 -- Demand 1: "A refusal returns its number and changes nothing: every lent area keeps its bytes." For every public call that is lent
--- an area to change: reading, flushing, ageing, compacting, expanding, sending. Lookup and the naming of the lowest spoilt slot are
+-- an area to change: reading, flushing, ageing, widening, compacting, expanding, sending. Lookup and the naming of the lowest spoilt slot are
 -- lent the table for reading only.
 pub record RefusalChangesNothing : Type 0 where
   pub reading : ReadRefusal
   pub flushing : FlushRefusal
   pub ageing : AgeingRefusal
+  pub widening : WideningRefusal
   pub converting : ConvertRefusals
 
--- "A table without two equal (label, MAC) pairs among its learned and configured records stays so", under every call that is lent the
--- table to change
-pub record PairsStayUnique : Type 0 where
-  pub reading : ReadingKeepsUnique
-  pub flushing : FlushingKeepsUnique
-  pub ageing : AgeingKeepsUnique
+-- "A table with, among its learned and configured records, no two equal (label, MAC, nickname) triples, and no unmarked learned record
+-- beside another of its label and MAC, stays so" (2026-12), under every call that is lent the table to change and for all settings
+pub record HomesStayApart : Type 0 where
+  pub reading : ReadingKeepsApart
+  pub flushing : FlushingKeepsApart
+  pub ageing : AgeingKeepsApart
 
 -- slot by slot, a record of such a kind keeps its bytes under every call that is lent the table to change
 pub record StaysUnderCalls (Such : Slot → Type 0) : Type 0 where

@@ -25,6 +25,8 @@ passing seconds s = record {
   compact = s .compact;
   confidence = s .confidence;
   seconds = seconds;
+  multihomed = s .multihomed;
+  smart = s .smart;
 }
 
 -- for all settings, good or not: every reading, and every list of calls from every table, with all answers, refusals, table bytes and

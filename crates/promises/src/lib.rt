@@ -1,23 +1,25 @@
 // What is promised of the definitions as a whole. The one function here has no code: its contract names every theorem of every crate,
 // and its proof is theirs.
 ghost use Rattle.numbers.specs.Claims.{Blocks, Maps};
-ghost use Rattle.table.specs.Claims.{UnpackPacked, PackUnpacked, LearningKeepsUnique, AgeingKeepsUnique, KeptWritesNothing, AgeingRefusal, LearningLeavesAlone, AgeingLeavesAlone};
-ghost use Rattle.flush.specs.Claims.{FlushExact, FlushingKeepsUnique, FlushRefusal, FlushingLeavesAlone};
+ghost use Rattle.table.specs.Claims.{UnpackPacked, PackUnpacked, LearningKeepsApart, AgeingKeepsApart, KeptWritesNothing, AgeingRefusal, WideningRefusal, LearningLeavesAlone, AgeingLeavesAlone, WidenedSame, UnmarkedAsBefore};
+ghost use Rattle.table.specs.Examples.{HomesExamples};
+ghost use Rattle.flush.specs.Claims.{FlushExact, FlushingKeepsApart, FlushRefusal, FlushingLeavesAlone};
 ghost use Rattle.flush.specs.Padding.{PaddedFlush};
 ghost use Rattle.flush.specs.Validity.{Validity};
 ghost use Rattle.frame.specs.Claims.{HeaderLocal, LabelLocal, LabelsGood};
 ghost use Rattle.convert.specs.Claims.{ReadsSame, ExpandCompacted, CompactExpanded, ConvertRefusals, SendsExactly, RoomForCompaction, SendRoom, ControlNeverCompact};
 ghost use Rattle.convert.specs.Chosen.{ChosenSent};
-ghost use Rattle.receive.specs.Claims.{ReadRefusal, ReadingKeepsUnique, ReadsParsed, ReadingLeavesAlone, ReadFlushExact, PaddedRead};
+ghost use Rattle.receive.specs.Claims.{ReadRefusal, ReadingKeepsApart, ReadsParsed, ReadingLeavesAlone, ReadFlushExact, PaddedRead};
 ghost use Rattle.receive.specs.Order.{ReadsExactly};
 ghost use Rattle.promises.specs.Cases.{Cases, ControlCases};
-ghost use Rattle.promises.specs.Claims.{RefusalChangesNothing, PairsStayUnique, SpoiltStays, ConfiguredStays};
+ghost use Rattle.promises.specs.Claims.{RefusalChangesNothing, HomesStayApart, SpoiltStays, ConfiguredStays};
 ghost use Rattle.promises.specs.Example.{InterchangeExample};
+ghost use Rattle.promises.specs.Homes.{NoneAsBefore, MarkedRead};
 ghost use Rattle.promises.specs.Interchange.{Interchange};
 ghost use Rattle.promises.specs.Lives.{LifeAsBefore, OtherLivesStay};
 
 pub fn claims()
-    ensures demands { λ _. ⌜ Interchange × InterchangeExample × ExpandCompacted × CompactExpanded × RefusalChangesNothing × Validity × FlushExact × ReadFlushExact × PaddedFlush × PaddedRead × ReadsExactly × PairsStayUnique × SpoiltStays × ConfiguredStays × SendsExactly × RoomForCompaction × SendRoom × ChosenSent × ControlNeverCompact × LifeAsBefore × OtherLivesStay × Cases × ControlCases ⌝ }
-    ensures calls { λ _. ⌜ ReadRefusal × FlushRefusal × AgeingRefusal × ConvertRefusals × ReadingKeepsUnique × FlushingKeepsUnique × AgeingKeepsUnique × LearningKeepsUnique × ReadingLeavesAlone × FlushingLeavesAlone × AgeingLeavesAlone × LearningLeavesAlone ⌝ }
+    ensures demands { λ _. ⌜ Interchange × InterchangeExample × ExpandCompacted × CompactExpanded × RefusalChangesNothing × Validity × FlushExact × ReadFlushExact × PaddedFlush × PaddedRead × ReadsExactly × HomesStayApart × WidenedSame × UnmarkedAsBefore × NoneAsBefore × HomesExamples × MarkedRead × SpoiltStays × ConfiguredStays × SendsExactly × RoomForCompaction × SendRoom × ChosenSent × ControlNeverCompact × LifeAsBefore × OtherLivesStay × Cases × ControlCases ⌝ }
+    ensures calls { λ _. ⌜ ReadRefusal × FlushRefusal × AgeingRefusal × WideningRefusal × ConvertRefusals × ReadingKeepsApart × FlushingKeepsApart × AgeingKeepsApart × LearningKeepsApart × ReadingLeavesAlone × FlushingLeavesAlone × AgeingLeavesAlone × LearningLeavesAlone ⌝ }
     ensures laws { λ _. ⌜ Blocks × Maps × UnpackPacked × PackUnpacked × KeptWritesNothing × HeaderLocal × LabelLocal × LabelsGood × ReadsSame × ReadsParsed ⌝ }
 {}

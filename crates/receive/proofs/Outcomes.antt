@@ -22,16 +22,16 @@ use Rattle.table.specs.Record.{labelGood, entryGood}
 use Rattle.table.specs.Learning.{learnt}
 use Rattle.table.specs.declared.Label.{Label}
 use Rattle.table.specs.Slots.{tableGood}
-use Rattle.table.specs.Claims.{Sound, Unique, LeavesAlone}
+use Rattle.table.specs.Claims.{Sound, Apart, LeavesAlone}
 use Rattle.table.proofs.Packing.{label-fits}
-use Rattle.table.proofs.Unique.{learning-unique}
+use Rattle.table.proofs.Apart.{learning-apart}
 use Rattle.table.proofs.Stays.{learning-leaves-alone}
 use Rattle.flush.specs.Payload.{everyType}
 use Rattle.flush.specs.Flush.{clearing, flushed}
 use Rattle.flush.specs.declared.FlushAnswer.the-variants as flush
-use Rattle.flush.proofs.Flushing.{flush-exact, clearing-unique}
+use Rattle.flush.proofs.Flushing.{flush-exact, clearing-apart}
 use Rattle.flush.proofs.Stays.{clearing-leaves-alone}
-use Rattle.frame.specs.Settings.{addressesGood, secondsGood, numbersGood, settingsGood, lifeOf, defaultLife, compactOn}
+use Rattle.frame.specs.Settings.{addressesGood, secondsGood, numbersGood, laterGood, settingsGood, lifeOf, defaultLife, compactOn}
 use Rattle.frame.specs.Front.{addressIn, Front, unicast, multicast, refusedFront, inner, frontOf}
 use Rattle.frame.specs.Header.{ingressOf, egressOf}
 use Rattle.frame.specs.Labels.{isChannel, labelRead}
@@ -40,10 +40,10 @@ use Rattle.frame.specs.Formats.{byFront, parsed}
 use Rattle.frame.specs.declared.Settings.{Settings}
 use Rattle.frame.proofs.Local.{labels-good}
 use Rattle.frame.proofs.Parts.{Good, general-is, compact-is}
-use Rattle.receive.specs.Deciding.{ingressAllowed, nicknamesGood, channelPayload}
+use Rattle.receive.specs.Deciding.{isMarked, ingressAllowed, nicknamesGood, channelPayload}
 use Rattle.receive.specs.Receive.{learnedEntry, deliveredWith, delivery, flushedWith, channel, acted, reading, receivedWith, received}
 use Rattle.receive.specs.Words.{LabelFits}
-use Rattle.receive.specs.Claims.{ReadRefusal, ReadingKeepsUnique, ReadsParsed, ReadingLeavesAlone, FlushRead, ReadFlushExact}
+use Rattle.receive.specs.Claims.{ReadRefusal, ReadingKeepsApart, ReadsParsed, ReadingLeavesAlone, FlushRead, ReadFlushExact}
 use Rattle.receive.specs.declared.ReadAnswer.{ReadAnswer}
 use Rattle.receive.specs.declared.ReadAnswer.the-variants.{Refused, Onward, OtherChannel, Flushed}
 
@@ -164,16 +164,17 @@ unfolding secondsGood either pick
 life-fits n life true e h g = h
 life-fits n life false e h g = let k = between-is 10 8191 n (rw e at g) in omega arith
 
-entry-good : (l : Label) (m n c k : ℕ) → labelGood l ≡ true → individual m ≡ true → nicknameGood n ≡ true → entryGood (record { label = l; mac = m; nickname = n; confidence = c; seconds = k }) ≡ true
+entry-good : (l : Label) (m n c k : ℕ) (mark : Bool) → labelGood l ≡ true → individual m ≡ true → nicknameGood n ≡ true → entryGood (record { label = l; mac = m; nickname = n; confidence = c; seconds = k; multihomed = mark }) ≡ true
 unfolding entryGood
-entry-good l m n c k a b d = both-pass _ _ a (both-pass _ _ b d)
+entry-good l m n c k mark a b d = both-pass _ _ a (both-pass _ _ b d)
 
 -- confidence and seconds of good settings fit their bits
 pub settings-fit : (life : ℕ) (s : Settings) → life < 2 ^ 13 → settingsGood s ≡ true → (s .confidence ≤ 255) × (lifeOf life s < 2 ^ 13)
 unfolding settingsGood numbersGood
 settings-fit life s small set =
     let a = both-true (addressesGood s) _ set in
-    let b = both-true (nicknameGood (s .nickname)) _ (a .1) in
+    let n = both-true (numbersGood s) (laterGood s) (a .1) in
+    let b = both-true (nicknameGood (s .nickname)) _ (n .0) in
     let c = both-true (leb (s .compact) 1) _ (b .1) in
     let d = both-true (leb (s .confidence) 255) (secondsGood (s .seconds)) (c .1) in
     (leb-true (s .confidence) 255 (d .0), life-fits (s .seconds) life (eqb (s .seconds) 0) refl small (d .1))
@@ -186,25 +187,25 @@ learned-sound life s p small set g n i =
     let k = both-true (nicknameGood (ingressOf (p .header))) (ingressAllowed s (ingressOf (p .header))) (e .1) in
     let m = d .0 in
     record {
-      good = entry-good (labelRead (p .label)) (num (p .src)) (ingressOf (p .header)) (s .confidence) (lifeOf life s) (parts-label p g) i (k .0);
+      good = entry-good (labelRead (p .label)) (num (p .src)) (ingressOf (p .header)) (s .confidence) (lifeOf life s) (isMarked s (p .header)) (parts-label p g) i (k .0);
       confidence-fits = omega arith;
       seconds-fit = d .1;
     }
 
-keeps-unique : (life : ℕ) (s : Settings) (p : Fields) (t o : List ℕ) → life < 2 ^ 13 → settingsGood s ≡ true → Good p → Unique t → Holds life s p t o (λ a. Unique (a .table))
-keeps-unique life s p t o small set g u = record {
+keeps-apart : (life : ℕ) (s : Settings) (p : Fields) (t o : List ℕ) → life < 2 ^ 13 → settingsGood s ≡ true → Good p → Apart t → Holds life s p t o (λ a. Apart (a .table))
+keeps-apart life s p t o small set g u = record {
   onward = u;
   other = u;
-  flushes = λ is c q. clearing-unique (ingressOf (p .header)) (channelPayload (p .content)) t c q u;
-  delivers = λ n i. learning-unique (learnedEntry life s p) (learned-sound life s p small set g n i) t u;
+  flushes = λ is c q. clearing-apart (ingressOf (p .header)) (channelPayload (p .content)) t c q u;
+  delivers = λ n i. learning-apart (learnedEntry life s p) (learned-sound life s p small set g n i) t u;
 }
 
-pub reading-unique : ReadingKeepsUnique
+pub reading-apart : ReadingKeepsApart
 unfolding received receivedWith
-reading-unique s f t o u =
-    settled-left (λ (a : OnBoth ReadAnswer). Unique (a .table)) (λ k. onBoth (Refused k) t o) (reading defaultLife s (parsed s f) t o)
+reading-apart s f t o u =
+    settled-left (λ (a : OnBoth ReadAnswer). Apart (a .table)) (λ k. onBoth (Refused k) t o) (reading defaultLife s (parsed s f) t o)
     (λ k. u)
-    (reading-left defaultLife s (parsed s f) t o _ (λ p set d q. keeps-unique defaultLife s p t o (omega arith) set (parsed-good s f p q) u))
+    (reading-left defaultLife s (parsed s f) t o _ (λ p set d q. keeps-apart defaultLife s p t o (omega arith) set (parsed-good s f p q) u))
 
 -- ---- spoilt and configured records
 

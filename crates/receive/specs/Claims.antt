@@ -7,7 +7,7 @@ use lib.ListN.{length}
 use Rattle.numbers.specs.Result.{got}
 use Rattle.numbers.specs.After.{onTable}
 use Rattle.table.specs.Slots.{slotsOf}
-use Rattle.table.specs.Claims.{Unique, LeavesAlone}
+use Rattle.table.specs.Claims.{Apart, LeavesAlone}
 use Rattle.flush.specs.Payload.{everyType, Payload, payloadOf}
 use Rattle.flush.specs.Flush.{flushed}
 use Rattle.flush.specs.Padding.{padded}
@@ -26,9 +26,9 @@ abbrev pub ReadRefusal : Type 0
 ReadRefusal =
     (s : Settings) (f t o : List ℕ) (n : ℕ) → received s f t o .answer ≡ Refused n → (received s f t o .table ≡ t) × (received s f t o .out ≡ o)
 
--- "A table without two equal (label, MAC) pairs among its learned and configured records stays so"
-abbrev pub ReadingKeepsUnique : Type 0
-ReadingKeepsUnique = (s : Settings) (f t o : List ℕ) → Unique t → Unique (received s f t o .table)
+-- a table whose homes are apart stays so, for every value of the settings
+abbrev pub ReadingKeepsApart : Type 0
+ReadingKeepsApart = (s : Settings) (f t o : List ℕ) → Apart t → Apart (received s f t o .table)
 
 -- "No answer tells which format arrived": reading sees of a frame only what is parsed of it
 abbrev pub ReadsParsed : Type 0

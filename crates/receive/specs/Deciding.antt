@@ -9,7 +9,8 @@ use Rattle.numbers.specs.Tests.{both, either}
 use Rattle.numbers.specs.Bytes.{num}
 use Rattle.numbers.specs.Ranges.{nicknameGood}
 use Rattle.frame.specs.Front.{allEgressRBridges}
-use Rattle.frame.specs.Header.{wordAt, multicastOf, egressOf, ingressOf}
+use Rattle.frame.specs.Header.{wordAt, firstReserved, secondReserved, multicastOf, egressOf, ingressOf}
+use Rattle.frame.specs.Settings.{firstBit, secondBit}
 use Rattle.frame.specs.Fields.{Fields}
 use Rattle.frame.specs.declared.Settings.{Settings}
 
@@ -26,6 +27,13 @@ nicknamesGood s h =
 -- "Onward: M is 0 and egress is not our nickname" (document 01's own term)
 unfoldable pub isOnward : Settings → List ℕ → Bool
 isOnward s h = both (eqb (multicastOf h) 0) (not (eqb (egressOf h) (s .nickname)))
+
+-- "A setting says which of the two R bits it is, or none": whether the frame is marked
+unfoldable pub isMarked : Settings → List ℕ → Bool
+isMarked s h =
+    either
+    (both (eqb (s .multihomed) firstBit) (eqb (firstReserved h) 1))
+    (both (eqb (s .multihomed) secondBit) (eqb (secondReserved h) 1))
 
 -- "Content: 8946, version 4 bits, protocol 12, flags 12 (not read), ERR 4, payload"
 abbrev pub channelVersion : List ℕ → ℕ

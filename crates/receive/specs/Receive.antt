@@ -25,11 +25,11 @@ use Rattle.frame.specs.Labels.{isChannel, labelRead}
 use Rattle.frame.specs.Fields.{Fields, nativeBytes}
 use Rattle.frame.specs.Formats.{parsed}
 use Rattle.frame.specs.declared.Settings.{Settings}
-use Rattle.receive.specs.Deciding.{nicknamesGood, isOnward, channelBytes, channelProtocol, channelPayload, flushProtocol, channelGood}
+use Rattle.receive.specs.Deciding.{nicknamesGood, isOnward, isMarked, channelBytes, channelProtocol, channelPayload, flushProtocol, channelGood}
 use Rattle.receive.specs.declared.ReadAnswer.{ReadAnswer}
 use Rattle.receive.specs.declared.ReadAnswer.the-variants.{Refused, Onward, Delivered, OtherChannel, Flushed}
 
--- the entry learned of a delivered frame: its source is reached through its ingress nickname
+-- the entry learned of a delivered frame: its source is reached through its ingress nickname; the frame's mark is the entry's
 unfoldable pub learnedEntry : ℕ → Settings → Fields → Entry
 learnedEntry life s p = record {
   label = labelRead (p .label);
@@ -37,6 +37,7 @@ learnedEntry life s p = record {
   nickname = ingressOf (p .header);
   confidence = s .confidence;
   seconds = lifeOf life s;
+  multihomed = isMarked s (p .header);
 }
 
 -- "the answer gives its length, its label, and learned, refreshed, kept or full"

@@ -1,7 +1,7 @@
 -- The label, what is learned, the native frame, and each outcome of delivering.
 -- Assumes nothing.
 use Prim.Native.Nat.{ℕ, _+_, _*_, _^_, _<_, _≤_}
-use mathlib.Core.Bool.{Bool, true, false}
+use mathlib.Core.Bool.{Bool, true, false, _&&_, _||_}
 use mathlib.Core.List.{List, _++_, append-assoc}
 use mathlib.Core.Path.{_≡_, refl, _∙_}
 use native.Mathlib.Omega.{arith}
@@ -13,6 +13,7 @@ use Rattle.numbers.specs.Tests.{pick}
 use Rattle.numbers.specs.Result.{check, settled}
 use Rattle.numbers.specs.After.{OnBoth, onBoth, onTable}
 use Rattle.numbers.specs.Bytes.{laid}
+use Rattle.numbers.proofs.Truth.{and-both, or-either}
 use Rattle.table.specs.Learning.{learnt}
 use Rattle.table.specs.Record.{labelNumber}
 use Rattle.table.specs.declared.Entry.{Entry}
@@ -23,8 +24,10 @@ use Rattle.table_records.specs.Entries.{Fits}
 use Rattle.frame.specs.Fields.{nativeBytes}
 use Rattle.frame.specs.Front.{trillGroup}
 use Rattle.frame.specs.Labels.{tagBytes, fineBytes, isTag, low12, labelRead}
-use Rattle.frame.specs.Settings.{settingsGood, lifeOf, defaultLife}
+use Rattle.frame.specs.Header.{firstReserved, secondReserved}
+use Rattle.frame.specs.Settings.{settingsGood, firstBit, secondBit, lifeOf, defaultLife}
 use Rattle.frame.specs.declared.Settings.{Settings}
+use Rattle.receive.specs.Deciding.{isMarked}
 use Rattle.receive.specs.Receive.{learnedEntry, delivery}
 use Rattle.receive.specs.declared.ReadAnswer.{ReadAnswer}
 use Rattle.receive.specs.declared.ReadAnswer.the-variants.{Refused, Delivered}
@@ -70,6 +73,12 @@ module _ (f : List ℕ) (p : Parts) (w : PartsOf f p) where
   fine-read a c high low h =
       (rw (label-in-frame f p w, kind-fine (p .«label_length») (isTag (drop at f)) (w .label-kind) h .0, drop-drop 2 at f, drop-drop 6 at f, ← high, ← low), omega arith)
 
+-- ---- the mark
+
+pub mark-test : (s : Settings) (h : List ℕ) (x y : ℕ) → x ≡ firstReserved h → y ≡ secondReserved h → (eqb (s .multihomed) firstBit && eqb x 1) || (eqb (s .multihomed) secondBit && eqb y 1) ≡ isMarked s h
+unfolding isMarked
+mark-test s h x y ex ey = rw (ex, ey, ← and-both (eqb (s .multihomed) firstBit) (eqb (firstReserved h) 1), ← and-both (eqb (s .multihomed) secondBit) (eqb (secondReserved h) 1)) (or-either _ _)
+
 -- ---- the seconds
 
 pub life-default : (n : ℕ) → n ≡ 0 → defaultLife ≡ pick (eqb n 0) defaultLife n
@@ -81,10 +90,10 @@ unfolding pick
 life-given n h = rw (ne-eqb n 0 h)
 
 -- what is learned fits its bits
-pub learned-is : (s : Settings) (l : Label) (m n k : ℕ) → settingsGood s ≡ true → labelNumber l < 2 ^ 24 → m < 2 ^ 48 → k ≡ lifeOf defaultLife s
-    → (_≡_ {A = Entry} (record { label = l; mac = m; nickname = n; confidence = s .confidence; seconds = k }) (learnedOf s l m n))
-    × Fits (record { label = l; mac = m; nickname = n; confidence = s .confidence; seconds = k })
-learned-is s l m n k set a b e =
+pub learned-is : (s : Settings) (l : Label) (m n k : ℕ) (mark : Bool) → settingsGood s ≡ true → labelNumber l < 2 ^ 24 → m < 2 ^ 48 → k ≡ lifeOf defaultLife s
+    → (_≡_ {A = Entry} (record { label = l; mac = m; nickname = n; confidence = s .confidence; seconds = k; multihomed = mark }) (learnedOf s l m n mark))
+    × Fits (record { label = l; mac = m; nickname = n; confidence = s .confidence; seconds = k; multihomed = mark })
+learned-is s l m n k mark set a b e =
     (rw e, record { label = a; mac = b; seconds = rw e (settings-fit defaultLife s (omega arith) set .1) })
 
 -- ---- the native frame
@@ -139,10 +148,11 @@ module _ (f : List ℕ) (p : Parts) (i : PartsOf f p) where
 
       pub done : g ≡ false → nativeLength (length f) p ≤ length o
           → (label : Label) → label ≡ labelRead (fieldsIn f p .label)
-          → (e : Entry) → e ≡ learnedOf s label (v .src) (v .ingress)
+          → (mark : Bool) → mark ≡ isMarked s (fieldsIn f p .header)
+          → (e : Entry) → e ≡ learnedOf s label (v .src) (v .ingress) mark
           → (how : Learning) (u : List ℕ) → onTable how u ≡ learnt e t
           → (z : List ℕ) → z ≡ laid (nativeBytes (fieldsIn f p)) o
           → onBoth (Delivered how (nativeLength (length f) p) label) u z ≡ delivered
       unfolding delivery settled check learnedEntry
-      done h k label le e ee how u lu z lz =
-          rw (← w .dst, ← group, h, native-length, le-leb (nativeLength (length f) p) (length o) k, ← le, ← w .src, ← w .ingress, ← ee, ← lu, lz)
+      done h k label le mark em e ee how u lu z lz =
+          rw (← w .dst, ← group, h, native-length, le-leb (nativeLength (length f) p) (length o) k, ← le, ← w .src, ← w .ingress, ← em, ← ee, ← lu, lz)

@@ -13,6 +13,7 @@ ghost use Rattle.table_records.specs.Entries.{Fits};
 ghost use Rattle.frame.specs.Fields.{nativeBytes};
 ghost use Rattle.frame.specs.Labels.{labelRead};
 ghost use Rattle.frame.specs.Settings.{settingsGood, defaultLife};
+ghost use Rattle.receive.specs.Deciding.{isMarked};
 ghost use Rattle.receive.specs.Receive.{delivery};
 ghost use Rattle.receive.specs.declared.ReadAnswer.the-variants as answer;
 ghost use Rattle.frame_parse.specs.Meaning.{fieldsIn, PartsOf};
@@ -21,7 +22,9 @@ ghost use Rattle.receive_deliver.specs.Meaning.{learnedOf, nativeLength}
 use frame::ADDRESSES_BYTES;
 use frame::DEFAULT_LIFE_SECONDS;
 use frame::ETHERTYPE_BYTES;
+use frame::FIRST_BIT;
 use frame::LABEL_PART;
+use frame::SECOND_BIT;
 use frame::Settings;
 use frame::TAG_BYTES;
 use frame_parse::Parts;
@@ -61,10 +64,21 @@ fn life_of(seconds: u32) -> u32
     seconds
 }
 
-// The entry learned of a frame with this label, source and ingress nickname.
-fn learned_entry(s: Settings, label: Label, mac: u64, nickname: u64) -> Entry
+// Whether the frame has the R bit set that the settings name.
+fn is_marked(s: Settings, f: &[u8], p: Parts) -> bool
+    requires { ⌜ PartsOf (now f) p ⌝ }
+    ensures { λ r. ⌜ r ≡ isMarked s (fieldsIn (now (f .entry)) p .header) ⌝ }
+{
+    let h = p.header_offset;
+    let first = (s.multihomed == FIRST_BIT) & (frame_fields::first_reserved(f, h) == 1);
+    let second = (s.multihomed == SECOND_BIT) & (frame_fields::second_reserved(f, h) == 1);
+    first | second
+}
+
+// The entry learned of a frame with this label, source, ingress nickname and mark.
+fn learned_entry(s: Settings, label: Label, mac: u64, nickname: u64, mark: bool) -> Entry
     requires { ⌜ (settingsGood s ≡ true) × ((labelNumber label < 2 ^ 24) × ((mac < 2 ^ 48) × (nickname < 2 ^ 16))) ⌝ }
-    ensures { λ r. ⌜ (r ≡ learnedOf s label mac nickname) × Fits r ⌝ }
+    ensures { λ r. ⌜ (r ≡ learnedOf s label mac nickname mark) × Fits r ⌝ }
 {
     Entry {
         label: label,
@@ -72,6 +86,7 @@ fn learned_entry(s: Settings, label: Label, mac: u64, nickname: u64) -> Entry
         nickname: nickname as u16,
         confidence: s.confidence as u8,
         seconds: life_of(s.seconds) as u16,
+        multihomed: mark,
     }
 }
 
@@ -106,7 +121,8 @@ pub fn deliver(
     }
     let label = label_of(f, p);
     write_native(f, p, out);
-    let how = table_learning::learn(learned_entry(s, label, v.src, v.ingress), table);
+    let mark = is_marked(s, f, p);
+    let how = table_learning::learn(learned_entry(s, label, v.src, v.ingress, mark), table);
     ReadAnswer::Delivered {
         learning: how,
         length: n as u16,

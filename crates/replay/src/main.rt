@@ -276,6 +276,26 @@ fn replay_send(b: &[u8], table: &[u8], area: &mut [u8]) -> bool {
     true
 }
 
+// 12: the output area's length, the old table.
+fn widen_table(b: &[u8], table: &[u8], out: &mut [u8])
+    requires { ⌜ 2 ≤ length (now b) ⌝ }
+{
+    let word = shinglebar::shinglebar_widen(&b[2..], out);
+    print_call(word, table, out);
+}
+
+fn replay_widen(b: &[u8], table: &[u8], area: &mut [u8]) -> bool {
+    if b.len() < 2 {
+        return false;
+    }
+    let n = numbers::be2(b, 0) as usize;
+    if area.len() < n {
+        return false;
+    }
+    widen_table(b, table, &mut area[0..n]);
+    true
+}
+
 // Makes a call and writes what it gave; false where there is no such call.
 fn replay_call(kind: u64, b: &[u8], table: &mut [u8], area: &mut [u8]) -> bool {
     if kind == 1 {
@@ -301,6 +321,9 @@ fn replay_call(kind: u64, b: &[u8], table: &mut [u8], area: &mut [u8]) -> bool {
     }
     if kind == 8 {
         return replay_send(b, table, area);
+    }
+    if kind == 0x12 {
+        return replay_widen(b, table, area);
     }
     false
 }

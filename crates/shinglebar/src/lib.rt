@@ -5,7 +5,8 @@ ghost use mathlib.Core.Path.{_≡_};
 ghost use Rattle.numbers.specs.After.{onTable, tableAs, onArea, areaAs, onBoth, bothAs};
 ghost use Rattle.table.specs.Record.{labelNumber};
 ghost use Rattle.table.specs.Table.{lookedUp, aged, lowestSpoilt};
-ghost use Rattle.table.specs.Words.{lookupWord, ageWord, spoiltWord, learningNumber};
+ghost use Rattle.table.specs.Widening.{widened};
+ghost use Rattle.table.specs.Words.{lookupWord, ageWord, spoiltWord, widenWord, learningNumber};
 ghost use Rattle.flush.specs.Flush.{flushed};
 ghost use Rattle.flush.specs.Words.{flushWord};
 ghost use Rattle.receive.specs.Receive.{received};
@@ -15,7 +16,7 @@ ghost use Rattle.convert.specs.Compaction.{compacted};
 ghost use Rattle.convert.specs.Expansion.{expanded};
 ghost use Rattle.convert.specs.Sending.{sent};
 ghost use Rattle.convert.specs.Words.{convertWord, sendWord};
-ghost use Rattle.shinglebar.specs.Arguments.{settingsOf, outerOf};
+ghost use Rattle.shinglebar.specs.Arguments.{portSettingsOf, settingsOf, outerOf};
 use convert::ConvertAnswer;
 use convert::SendAnswer;
 use convert_expand::Outer;
@@ -27,6 +28,7 @@ use table::Label;
 use table::Learning;
 use table::LookupAnswer;
 use table::SpoiltAnswer;
+use table::WidenAnswer;
 
 fn lookup_word(a: LookupAnswer) -> u64
     ensures { λ r. ⌜ r ≡ lookupWord a ⌝ }
@@ -78,6 +80,22 @@ pub extern "C" fn shinglebar_spoilt(table: &[u8]) -> u64
     spoilt_word(table_search::lowest_spoilt(table))
 }
 
+fn widen_word(a: WidenAnswer) -> u64
+    ensures { λ r. ⌜ r ≡ widenWord a ⌝ }
+{
+    match a {
+        WidenAnswer::Refused(n) => n as u64,
+        WidenAnswer::Written(k) => 64 + k as u64 * 0x100,
+    }
+}
+
+#[no_mangle]
+pub extern "C" fn shinglebar_widen(old: &[u8], out: &mut [u8]) -> u64
+    ensures { λ r. ⌜ onArea r (now (out .exit)) ≡ areaAs widenWord (widened (now (old .entry)) (now (out .entry))) ⌝ }
+{
+    widen_word(table_widening::widen(old, out))
+}
+
 fn flush_word(a: FlushAnswer) -> u64
     ensures { λ r. ⌜ r ≡ flushWord a ⌝ }
 {
@@ -94,7 +112,36 @@ pub extern "C" fn shinglebar_flush(ingress: u32, payload: &[u8], table: &mut [u8
     flush_word(flush_call::flush(ingress, payload, table))
 }
 
-// The settings of a port, from the six numbers of every call that has them.
+// The settings of a port, from the eight numbers.
+pub fn port_settings(
+    port: u64,
+    inner: u64,
+    nickname: u32,
+    compact: u32,
+    confidence: u32,
+    seconds: u32,
+    multihomed: u32,
+    smart: u32,
+) -> Settings
+    ensures { λ r. ⌜ r ≡ portSettingsOf port inner nickname compact confidence seconds multihomed smart ⌝ }
+{
+    Settings {
+        port: port,
+        inner: inner,
+        nickname: nickname,
+        compact: compact,
+        confidence: confidence,
+        seconds: seconds,
+        multihomed: multihomed,
+        smart: smart,
+    }
+}
+
+// The same from the six numbers of document 01: no multihoming bit, and Smart Endnodes off.
+const NO_MULTIHOMING: u32 = 0;
+
+const SMART_OFF: u32 = 0;
+
 pub fn settings(
     port: u64,
     inner: u64,
@@ -105,14 +152,16 @@ pub fn settings(
 ) -> Settings
     ensures { λ r. ⌜ r ≡ settingsOf port inner nickname compact confidence seconds ⌝ }
 {
-    Settings {
-        port: port,
-        inner: inner,
-        nickname: nickname,
-        compact: compact,
-        confidence: confidence,
-        seconds: seconds,
-    }
+    port_settings(
+        port,
+        inner,
+        nickname,
+        compact,
+        confidence,
+        seconds,
+        NO_MULTIHOMING,
+        SMART_OFF,
+    )
 }
 
 fn learning_number(l: Learning) -> u64

@@ -1,24 +1,23 @@
 -- What a record holds, by its number: the laws by which code decides from some of the bits, and by which crates above speak of a slot
 -- without its layout.
 -- Assumes nothing.
-use Prim.Native.Nat.{ℕ, _-_, _%_, _^_, _<_, _≤_}
+use Prim.Native.Nat.{ℕ, _%_, _^_, _<_, _≤_}
 use mathlib.Core.Bool.{Bool, true, false, not, _&&_, _||_}
 use mathlib.Core.List.{List}
 use mathlib.Core.Path.{_≡_, refl, sym, ap, _∙_}
 use native.Mathlib.Decide.{ℕ-discrete, decLt}
 use native.Mathlib.Omega.{arith}
 use lib.Dec.{eqb}
-use lib.ListN.{take, drop}
-use lib.Seq.{take-take, take-at}
+use lib.ListN.{take}
+use lib.Seq.{take-take, getD-take}
 use borrow.Author.Tests.{le-leb, ne-eqb, eqb-true}
 use Rattle.numbers.specs.Tests.{pick, both, between}
 use Rattle.numbers.specs.Ranges.{individual, groupBit, vlanGood, lastAddress, lastFine}
 use Rattle.numbers.specs.Bytes.{num, bytesOf}
-use Rattle.numbers.proofs.Bytes.{length-bytesOf, num-bytesOf}
-use Rattle.numbers.proofs.Truth.{both-pass, and-both, not-true-false, both-true, both-left, both-right, pick-false, between-is, between-below, between-above}
-use Rattle.table.specs.Record.{recordBytes, recordOf, stateOf, kindOf, labelOf, macOf, secondsOf, learnedState, configuredState, labelFrom, labelGood, entryOf, entryGood, held, slotOf, unpacked, isFree, isSpoilt, isLearned, sameLabel, entryMatches, slotMatches}
+use Rattle.numbers.proofs.Truth.{and-both, not-true-false, both-true, both-left, both-right, pick-false, between-is, between-below, between-above}
+use Rattle.table.specs.Record.{recordBytes, recordOf, markOf, multihomedOf, emptyOf, withMark, markedSlot, stateOf, kindOf, labelOf, macOf, learnedState, configuredState, labelFrom, labelGood, entryOf, entryGood, held, slotOf, unpacked, isFree, isSpoilt, isLearned, sameLabel, entryMatches, slotMatches}
 use Rattle.table.specs.Slots.{slotBytes, freed}
-use Rattle.table.specs.Table.{holds, lessSeconds, spoiltSlot}
+use Rattle.table.specs.Table.{holds, spoiltSlot}
 use Rattle.table.specs.Learning.{freeSlot}
 use Rattle.table.specs.declared.Label.{Label}
 use Rattle.table.specs.declared.Label.the-variants.{Vlan, Fine}
@@ -26,15 +25,19 @@ use Rattle.table.specs.declared.Entry.{Entry}
 use Rattle.table.specs.declared.Slot.{Slot}
 use Rattle.table.specs.declared.Slot.the-variants.{Free, Spoilt, Learned, Configured}
 use Rattle.table.proofs.Slots.{Local}
+use Rattle.table.proofs.Marks.{marked-learned, marked-free, marked-matches, marked-entry}
 
 -- ---- a slot's own bytes are enough
 
 pub record-near : (x : List ℕ) → recordOf (take slotBytes x) ≡ recordOf x
 record-near x = ap num (take-take recordBytes slotBytes x (omega arith))
 
+pub mark-near : (x : List ℕ) → markOf (take slotBytes x) ≡ markOf x
+mark-near x = getD-take slotBytes x recordBytes 0 (omega arith)
+
 pub unpacked-near : (x : List ℕ) → unpacked (take slotBytes x) ≡ unpacked x
 unfolding unpacked
-unpacked-near x = ap slotOf (record-near x)
+unpacked-near x = rw (record-near x, mark-near x)
 
 pub holds-near : (l : Label) (m : ℕ) → Local (holds l m)
 unfolding holds
@@ -105,11 +108,15 @@ learned-state n h = eqb-true (stateOf n) 1 (both-true _ _ (sym (learned-is n) �
 -- the same of a slot, the other way round
 pub other-than-free : (r : List ℕ) → (stateOf (recordOf r) ≡ 0 → ⊥) → false ≡ freeSlot r
 unfolding freeSlot unpacked
-other-than-free r h = sym (not-true-false _ (λ e. h (free-state (recordOf r) e)))
+other-than-free r h =
+    sym (not-true-false _ (λ e.
+    h (free-state (recordOf r) (both-true _ _ (sym (marked-free (markOf r) (slotOf (recordOf r))) ∙ e) .0))))
 
 pub other-than-learned : (r : List ℕ) → (stateOf (recordOf r) ≡ learnedState → ⊥) → false ≡ isLearned (unpacked r)
 unfolding unpacked
-other-than-learned r h = sym (not-true-false _ (λ e. h (learned-state (recordOf r) e)))
+other-than-learned r h =
+    sym (not-true-false _ (λ e.
+    h (learned-state (recordOf r) (both-true _ _ (sym (marked-learned (markOf r) (slotOf (recordOf r))) ∙ e) .0))))
 
 -- ---- a record that is not free, by its state and its entry
 
@@ -150,14 +157,22 @@ module _ (n : ℕ) where
         go (yes l) = between-below 1 2 (stateOf n) l
         go (no l) = between-above 1 2 (stateOf n) (omega arith)
 
--- what a learned slot holds
-pub learned-entry : (r : List ℕ) → isLearned (unpacked r) ≡ true → unpacked r ≡ Learned (entryOf (recordOf r))
-unfolding unpacked
-learned-entry r h =
-    let n : ℕ = recordOf r in
+-- what a learned record holds: by its fields, and whole
+pub slot-learned : (n : ℕ) → isLearned (slotOf n) ≡ true → slotOf n ≡ Learned (entryOf n)
+slot-learned n h =
     let p = both-true _ _ (sym (learned-is n) ∙ h) in
     let some : isFree (slotOf n) ≡ false = not-true-false _ (λ z. let e = free-state n z in let f = learned-state n h in omega arith) in
     sym (slot-held n some) ∙ sym (state-learned n (p .1) (learned-state n h))
+
+pub learned-parts : (r : List ℕ) → isLearned (unpacked r) ≡ true → (isLearned (slotOf (recordOf r)) ≡ true) × (eqb (emptyOf (markOf r)) 0 ≡ true)
+unfolding unpacked
+learned-parts r h = both-true _ _ (sym (marked-learned (markOf r) (slotOf (recordOf r))) ∙ h)
+
+pub learned-entry : (r : List ℕ) → isLearned (unpacked r) ≡ true → unpacked r ≡ Learned (withMark (eqb (multihomedOf (markOf r)) 1) (entryOf (recordOf r)))
+unfolding unpacked
+learned-entry r h =
+    let p = learned-parts r h in
+    ap (markedSlot (markOf r)) (slot-learned (recordOf r) (p .0)) ∙ marked-entry (markOf r) (entryOf (recordOf r)) (p .1)
 
 -- ---- a good entry, as code tests it
 
@@ -224,9 +239,13 @@ match-fields k x m n hk h =
       mac = eqb-true m (macOf n) (b .1);
     }
 
-pub holds-fields : (k x m : ℕ) (r : List ℕ) → k ≤ 1 → holds (labelFrom k x) m r ≡ true → SameFields k x m (recordOf r)
+-- a record that holds them does so by its fields, and its 7 bits are 0
+pub holds-parts : (l : Label) (m : ℕ) (r : List ℕ) → holds l m r ≡ true → (slotMatches l m (slotOf (recordOf r)) ≡ true) × (eqb (emptyOf (markOf r)) 0 ≡ true)
 unfolding holds unpacked
-holds-fields k x m r hk h = match-fields k x m (recordOf r) hk h
+holds-parts l m r h = both-true _ _ (sym (marked-matches (markOf r) l m (slotOf (recordOf r))) ∙ h)
+
+pub holds-fields : (k x m : ℕ) (r : List ℕ) → k ≤ 1 → holds (labelFrom k x) m r ≡ true → SameFields k x m (recordOf r)
+holds-fields k x m r hk h = match-fields k x m (recordOf r) hk (holds-parts (labelFrom k x) m r h .0)
 
 pub holds-fits : (k x m : ℕ) (r : List ℕ) → k ≤ 1 → holds (labelFrom k x) m r ≡ true → (x < 2 ^ 24) × (m < 2 ^ 48)
 holds-fits k x m r hk h =
@@ -237,40 +256,5 @@ holds-fits k x m r hk h =
 
 -- a slot that is freed holds none
 pub unpacked-freed : unpacked freed ≡ Free
-unfolding unpacked slotOf num bytesOf pick
+unfolding unpacked slotOf markedSlot num bytesOf pick
 unpacked-freed = refl
-
-pub freed-holds : (l : Label) (m : ℕ) → holds l m freed ≡ false
-unfolding holds
-freed-holds l m = ap (slotMatches l m) unpacked-freed
-
--- ---- fewer seconds: the label and the MAC lie above them
-
-module _ (l : Label) (m : ℕ) where
-  matches-entry : (n : ℕ) → slotMatches l m (slotOf n) ≡ true → entryMatches l m (entryOf n) ≡ true
-  matches-entry n h = both-true _ _ (sym (matches-is l m n) ∙ h) .1
-
-  learned-matches : (n : ℕ) → isLearned (slotOf n) ≡ true → entryMatches l m (entryOf n) ≡ true → slotMatches l m (slotOf n) ≡ true
-  learned-matches n h k =
-      let p = both-true _ _ (sym (learned-is n) ∙ h) in
-      matches-is l m n ∙ both-pass _ _ (both-pass _ _ (state-decides n (p .0) .1) (p .1)) k
-
-  entry-less : (n s : ℕ) → s < secondsOf n → entryMatches l m (entryOf ((n - s) % 256 ^ recordBytes)) ≡ entryMatches l m (entryOf n)
-  unfolding entryMatches entryOf
-  entry-less n s h =
-      let w : ℕ = (n - s) % 256 ^ recordBytes in
-      let kind : kindOf w ≡ kindOf n = omega arith in
-      let label : labelOf w ≡ labelOf n = omega arith in
-      let mac : macOf w ≡ macOf n = omega arith in
-      rw (kind, label, mac)
-
-record-less : (s : ℕ) (r : List ℕ) → recordOf (lessSeconds s r) ≡ (recordOf r - s) % 256 ^ recordBytes
-record-less s r =
-    ap num (take-at (bytesOf recordBytes (recordOf r - s)) (drop recordBytes r) recordBytes (length-bytesOf recordBytes (recordOf r - s)))
-    ∙ num-bytesOf recordBytes (recordOf r - s)
-
-pub less-holds : (l : Label) (m s : ℕ) (r : List ℕ) → isLearned (unpacked r) ≡ true → s < secondsOf (recordOf r) → holds l m (lessSeconds s r) ≡ true → holds l m r ≡ true
-unfolding holds unpacked
-less-holds l m s r learned more h =
-    let e = matches-entry l m ((recordOf r - s) % 256 ^ recordBytes) (rw (record-less s r) at h) in
-    learned-matches l m (recordOf r) learned (sym (entry-less l m (recordOf r) s more) ∙ e)

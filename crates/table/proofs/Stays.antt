@@ -11,11 +11,10 @@ use lib.Dec.{ltb}
 use lib.ListN.{length}
 use Rattle.numbers.specs.Tests.{pick}
 use Rattle.numbers.specs.After.{onTable}
-use Rattle.numbers.proofs.Bytes.{length-bytesOf}
-use Rattle.table.specs.Record.{recordBytes, learnedState, unpacked, packed, isFree, isLearned}
-use Rattle.table.specs.Slots.{slotBytes, tableGood, slotsOf, slotAt, lowest}
-use Rattle.table.specs.Table.{holds, agedSlot, aged}
-use Rattle.table.specs.Learning.{putEntry, overMatch, freeSlot, intoFree, learnedAt, learnt}
+use Rattle.table.specs.Record.{recordOf, confidenceOf, learnedState, unpacked, packed, isFree, isLearned, entryMatches, learnedThat}
+use Rattle.table.specs.Slots.{tableGood, slotsOf, slotAt, onSlots, orElse, found, lowest}
+use Rattle.table.specs.Table.{holds, holdsConfigured, holdsLearned, holdsUnmarked, holdsMarked, agedSlot, aged}
+use Rattle.table.specs.Learning.{rivalOf, putEntry, clearedPair, roomFor, judgedAt, freeSlot, intoFree, judged, learnt}
 use Rattle.table.specs.Claims.{Stays, IsSpoilt, IsConfigured, LearningLeavesAlone, AgeingLeavesAlone}
 use Rattle.table.specs.declared.Entry.{Entry}
 use Rattle.table.specs.declared.Slot.{Slot}
@@ -23,8 +22,10 @@ use Rattle.table.specs.declared.Slot.the-variants.{Free, Spoilt, Learned
 use Rattle.table.specs.declared.Place.{Place}
 use Rattle.table.specs.declared.Place.the-variants.{At, Nowhere}
 use Rattle.table.specs.declared.Learning.the-variants as learning
-use Rattle.table.proofs.Slots.{slot-put-other, slot-allSlots, lowest-within, lowest-hit}
-use Rattle.table.proofs.Unique.{aged-keeps, checked}
+use Rattle.table.proofs.Slots.{slot-put-other, length-allSlots, slot-allSlots, lowest-within, lowest-hit, lowest-miss}
+use Rattle.table.proofs.Packing.{packed-length}
+use Rattle.table.proofs.Apart.{pair-learned, cleared-keeps}
+use Rattle.table.proofs.Ageing.{aged-keeps, checked}
 
 -- a kind of record that is neither free nor learned
 module _ (Such : Slot → Type 0) (not-free : Such Free → ⊥) (not-learned : (e : Entry) → Such (Learned e) → ⊥) where
@@ -57,42 +58,90 @@ module _ (Such : Slot → Type 0) (not-free : Such Free → ⊥) (not-learned : 
 
   -- ---- learning
 
+  such-passed : (p : Entry → Bool) (x : Slot) → Such x → learnedThat p x ≡ false
+  such-passed p Free h = refl
+  such-passed p Spoilt h = refl
+  such-passed p (Learned e) h = absurd (not-learned e h)
+  such-passed p (Configured e) h = refl
+
+  such-other : (p : Entry → Bool) (x : Slot) → learnedThat p x ≡ true → Such x → ⊥
+  such-other p x q h = let n = such-passed p x h in let z : _≡_ {A = ℕ} 0 1 = cc in omega arith
+
   module _ (e : Entry) (t : List ℕ) where
-    packed-whole : length (packed learnedState e) ≡ slotBytes
-    unfolding packed
-    packed-whole = length-bytesOf recordBytes _
+    -- the slot that a frame is judged against is learned
+    module _ (none : (j : ℕ) → j < slotsOf t → holdsConfigured (e .label) (e .mac) (slotAt j t) ≡ false) where
+      marked-other : (u v : Place) (j : ℕ) → lowest (holdsUnmarked (e .label) (e .mac)) t ≡ u → lowest (holdsMarked (e .label) (e .mac) (e .nickname)) t ≡ v → orElse u v ≡ At j → (j < slotsOf t) × (Such (unpacked (slotAt j t)) → ⊥)
+      unfolding holdsUnmarked holdsMarked
+      marked-other (At k) v j p q h =
+          let at : lowest (holdsUnmarked (e .label) (e .mac)) t ≡ At j = p ∙ h in
+          (lowest-within _ t j at, such-other _ (unpacked (slotAt j t)) (lowest-hit (holdsUnmarked (e .label) (e .mac)) t j at))
+      marked-other Nowhere v j p q h =
+          let at : lowest (holdsMarked (e .label) (e .mac) (e .nickname)) t ≡ At j = q ∙ h in
+          (lowest-within _ t j at, such-other _ (unpacked (slotAt j t)) (lowest-hit (holdsMarked (e .label) (e .mac) (e .nickname)) t j at))
 
-    put-stays : (j : ℕ) → j < slotsOf t → (Such (unpacked (slotAt j t)) → ⊥) → Stays Such t (putEntry j e t)
-    put-stays j within none k h p = go (ℕ-discrete k j)
+      pair-other : (j : ℕ) → lowest (holds (e .label) (e .mac)) t ≡ At j → (j < slotsOf t) × (Such (unpacked (slotAt j t)) → ⊥)
+      unfolding holds holdsConfigured
+      pair-other j q =
+          let within = lowest-within (holds (e .label) (e .mac)) t j q in
+          (within, such-other _ (unpacked (slotAt j t)) (pair-learned (e .label) (e .mac) (unpacked (slotAt j t)) (lowest-hit (holds (e .label) (e .mac)) t j q) (none j within)))
+
+      rival-other : (j : ℕ) → rivalOf e t ≡ At j → (j < slotsOf t) × (Such (unpacked (slotAt j t)) → ⊥)
+      unfolding rivalOf pick
+      rival-other j = go (e .multihomed)
+        where
+          go : (b : Bool) → pick b (orElse (lowest (holdsUnmarked (e .label) (e .mac)) t) (lowest (holdsMarked (e .label) (e .mac) (e .nickname)) t)) (lowest (holds (e .label) (e .mac)) t) ≡ At j → (j < slotsOf t) × (Such (unpacked (slotAt j t)) → ⊥)
+          go true q = marked-other _ _ j refl refl q
+          go false q = pair-other j q
+
+    cleared-such : (r : List ℕ) → Such (unpacked r) → clearedPair e r ≡ r
+    unfolding clearedPair holdsLearned pick
+    cleared-such r p = rw (such-passed (entryMatches (e .label) (e .mac)) (unpacked r) p)
+
+    -- the table as the frame's mark leaves it, then the entry
+    room-stays : (length (roomFor e t) ≡ length t) × Stays Such t (roomFor e t)
+    unfolding roomFor pick
+    room-stays = go (e .multihomed)
       where
-        go : Dec (k ≡ j) → slotAt k (putEntry j e t) ≡ slotAt k t
+        go : (b : Bool) → (length (pick b t (onSlots (clearedPair e) 0 (slotsOf t) t)) ≡ length t) × Stays Such t (pick b t (onSlots (clearedPair e) 0 (slotsOf t) t))
+        go true = (refl, stays-same t)
+        go false = (
+          length-allSlots (clearedPair e) (cleared-keeps e) t,
+          λ k h p. slot-allSlots (clearedPair e) (cleared-keeps e) t k h ∙ cleared-such (slotAt k t) p,
+        )
+
+    put-stays : (u : List ℕ) → length u ≡ length t → Stays Such t u → (j : ℕ) → j < slotsOf t → (Such (unpacked (slotAt j t)) → ⊥) → Stays Such t (putEntry j e u)
+    put-stays u long stays j within none k h p = go (ℕ-discrete k j)
+      where
+        go : Dec (k ≡ j) → slotAt k (putEntry j e u) ≡ slotAt k t
         go (yes same) = absurd (none (subst (λ (i : ℕ). Such (unpacked (slotAt i t))) same p))
-        go (no other) = slot-put-other k j (packed learnedState e) t other (omega arith) packed-whole
+        go (no other) = slot-put-other k j (packed learnedState e) u other (omega arith) (packed-length learnedState e) ∙ stays k h p
 
-    over-stays : (j : ℕ) → j < slotsOf t → (x : Slot) → unpacked (slotAt j t) ≡ x → Stays Such t (overMatch x j e t .table)
-    unfolding overMatch pick
-    over-stays j within Free q = stays-same t
-    over-stays j within Spoilt q = stays-same t
-    over-stays j within (Learned old) q = weighed (ltb (e .confidence) (old .confidence))
+    judged-stays : (j : ℕ) → j < slotsOf t → (Such (unpacked (slotAt j t)) → ⊥) → Stays Such t (judgedAt j e t .table)
+    unfolding judgedAt pick
+    judged-stays j within none = weighed (ltb (e .confidence) (confidenceOf (recordOf (slotAt j t))))
       where
-        weighed : (b : Bool) → Stays Such t (pick b (onTable learning.Kept t) (onTable learning.Refreshed (putEntry j e t)) .table)
+        weighed : (b : Bool) → Stays Such t (pick b (onTable learning.Kept t) (onTable learning.Refreshed (putEntry j e (roomFor e t))) .table)
         weighed true = stays-same t
-        weighed false = put-stays j within (λ p. not-learned old (subst Such q p))
-    over-stays j within (Configured old) q = stays-same t
+        weighed false = put-stays (roomFor e t) (room-stays .0) (room-stays .1) j within none
 
     free-stays : (p : Place) → lowest freeSlot t ≡ p → Stays Such t (intoFree p e t .table)
     unfolding intoFree freeSlot
-    free-stays (At j) q = put-stays j (lowest-within freeSlot t j q) (such-taken (unpacked (slotAt j t)) (lowest-hit freeSlot t j q))
+    free-stays (At j) q = put-stays t refl (stays-same t) j (lowest-within freeSlot t j q) (such-taken (unpacked (slotAt j t)) (lowest-hit freeSlot t j q))
     free-stays Nowhere q = stays-same t
 
-    at-stays : (p : Place) → lowest (holds (e .label) (e .mac)) t ≡ p → Stays Such t (learnedAt p e t .table)
-    unfolding learnedAt
-    at-stays (At j) q = over-stays j (lowest-within (holds (e .label) (e .mac)) t j q) (unpacked (slotAt j t)) refl
-    at-stays Nowhere q = free-stays (lowest freeSlot t) refl
+    at-stays : ((j : ℕ) → j < slotsOf t → holdsConfigured (e .label) (e .mac) (slotAt j t) ≡ false) → (p : Place) → rivalOf e t ≡ p → Stays Such t (judged p e t .table)
+    unfolding judged
+    at-stays none (At j) q = let o = rival-other none j q in judged-stays j (o .0) (o .1)
+    at-stays none Nowhere q = free-stays (lowest freeSlot t) refl
+
+    unless-stays : (p : Place) → lowest (holdsConfigured (e .label) (e .mac)) t ≡ p → Stays Such t (pick (found p) (onTable learning.Kept t) (judged (rivalOf e t) e t) .table)
+    unfolding pick
+    unless-stays (At j) q = stays-same t
+    unless-stays Nowhere q = at-stays (lowest-miss (holdsConfigured (e .label) (e .mac)) t q) (rivalOf e t) refl
 
     learning-stays : Stays Such t (learnt e t .table)
     unfolding learnt
-    learning-stays = at-stays (lowest (holds (e .label) (e .mac)) t) refl
+    learning-stays = unless-stays (lowest (holdsConfigured (e .label) (e .mac)) t) refl
 
 -- ---- the two kinds
 

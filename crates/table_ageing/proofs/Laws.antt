@@ -17,7 +17,7 @@ use Rattle.table.specs.Slots.{slotBytes, tableGood, slotsOf, slotAt, freed, onS
 use Rattle.table.specs.Table.{agedSlot, lessSeconds, aged}
 use Rattle.table.specs.declared.AgeAnswer.the-variants as age
 use Rattle.table.proofs.Slots.{on-step}
-use Rattle.table.proofs.Unique.{aged-keeps}
+use Rattle.table.proofs.Ageing.{aged-keeps}
 use Rattle.table_rounds.specs.Rounds.{InState, Passed}
 use Rattle.table.proofs.Contents.{record-near, unpacked-near, other-than-learned}
 

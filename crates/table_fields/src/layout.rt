@@ -1,5 +1,5 @@
 // How a record lies in its bytes, most significant bit first: state 2 bits, label kind 1, label 24, MAC 48, nickname 16, confidence 8,
-// seconds 13. An offset counts the bytes of the record before those that a field is read from; a unit is the weight of the field's
+// seconds 13, multihomed 1, then 7 bits that are 0. An offset counts the bytes of the record before those that a field is read from; a unit is the weight of the field's
 // lowest bit in the number of these.
 
 // How many values a field has.
@@ -84,3 +84,12 @@ pub const NEXT_KEY_OFFSET: usize = 7;
 pub const KEYS: u64 = 0x100;
 
 pub const NICKNAME_MIDDLE_OFFSET: usize = 10;
+
+// The confidence in three bytes; the byte of the mark, and the multihomed bit in it.
+pub const CONFIDENCE_OFFSET: usize = 11;
+
+pub const CONFIDENCE_UNIT: u64 = 0x2000;
+
+pub const MARK_OFFSET: usize = 14;
+
+pub const BYTE_MULTIHOMED: u64 = 0x80;

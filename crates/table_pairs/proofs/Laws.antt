@@ -12,10 +12,10 @@ use borrow.Author.Tests.{eq-eqb, eqb-true, eqb-false}
 use Rattle.numbers.specs.Tests.{both, between}
 use Rattle.numbers.specs.Ranges.{individual, nicknameGood, vlanGood}
 use Rattle.numbers.proofs.Truth.{and-both, not-true-false, both-true, both-pass, between-in, between-is}
-use Rattle.table.specs.Record.{recordOf, stateOf, kindOf, labelOf, macOf, nicknameOf, learnedState, configuredState, labelFrom, labelGood, entryOf, entryGood, slotOf, unpacked, sameLabel, entryMatches, slotMatches}
+use Rattle.table.specs.Record.{recordOf, stateOf, kindOf, labelOf, macOf, nicknameOf, learnedState, configuredState, labelFrom, labelGood, entryOf, entryGood, slotOf, sameLabel, entryMatches, slotMatches}
 use Rattle.table.specs.Table.{holds}
-use Rattle.table.proofs.Contents.{label-test, same-label-from, matches-is, SameFields, match-fields, holds-fields}
-use Rattle.table_fields.specs.Keys.{keyOf}
+use Rattle.table.proofs.Contents.{label-test, same-label-from, matches-is, SameFields, match-fields, holds-parts, holds-fields}
+use Rattle.table_fields.specs.Keys.{keyOf, roundKeyOf}
 use Rattle.table_pairs.specs.Pairs.{pairGood, Pair}
 
 either-false : (a b : Bool) → a || b ≡ false → (a ≡ false) × (b ≡ false)
@@ -31,20 +31,25 @@ both-only false = refl
 pub other-key : (k x m : ℕ) → k ≤ 1 → (r : List ℕ) → (keyOf (macOf (recordOf r)) ≡ keyOf m → ⊥) → false ≡ holds (labelFrom k x) m r
 other-key k x m hk r h = sym (not-true-false _ (λ e. h (ap (λ (a : ℕ). keyOf a) (sym (holds-fields k x m r hk e .mac)))))
 
+-- another key of a round: the slot does not hold the label and the address
+pub other-round-key : (k x m : ℕ) → k ≤ 1 → (r : List ℕ) → (roundKeyOf (macOf (recordOf r)) ≡ roundKeyOf m → ⊥) → false ≡ holds (labelFrom k x) m r
+other-round-key k x m hk r h = sym (not-true-false _ (λ e. h (ap (λ (a : ℕ). roundKeyOf a) (sym (holds-fields k x m r hk e .mac)))))
+
 pub pair-test : (k x m : ℕ) → k ≤ 1 → x < 2 ^ 24 → (v i : Bool) → v ≡ vlanGood x → i ≡ individual m → (eqb k 1 || v) && i ≡ pairGood (labelFrom k x) m
 unfolding pairGood
 pair-test k x m hk hx v i vlan one = rw (label-test k x (omega arith) hx v vlan, one) (and-both _ _)
 
 -- what a record holds can be held
 pub holds-good : (k x m : ℕ) (r : List ℕ) → k ≤ 1 → holds (labelFrom k x) m r ≡ true → pairGood (labelFrom k x) m ≡ true
-unfolding holds unpacked pairGood entryGood entryOf
+unfolding pairGood entryGood entryOf
 holds-good k x m r hk h =
     let n : ℕ = recordOf r in
-    let f = match-fields k x m n hk h in
-    let good = both-true _ _ (both-true _ _ (sym (matches-is (labelFrom k x) m n) ∙ h) .0) .1 in
+    let q = holds-parts (labelFrom k x) m r h .0 in
+    let f = match-fields k x m n hk q in
+    let good = both-true _ _ (both-true _ _ (sym (matches-is (labelFrom k x) m n) ∙ q) .0) .1 in
     let p = both-true (labelGood (labelFrom (kindOf n) (labelOf n))) _ good in
-    let q = both-true (individual (macOf n)) _ (p .1) in
-    rw (f .kind, f .label, f .mac) (both-pass _ _ (p .0) (q .0))
+    let one = both-true (individual (macOf n)) _ (p .1) in
+    rw (f .kind, f .label, f .mac) (both-pass _ _ (p .0) (one .0))
 
 -- the first eight bytes and the fields
 head-state : (n : ℕ) → n < 2 ^ 112 → stateOf n ≡ n / 2 ^ 48 / 2 ^ 62

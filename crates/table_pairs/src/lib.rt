@@ -2,7 +2,7 @@
 ghost use Prim.Native.Nat.{_+_, _^_, _<_, _≤_};
 ghost use mathlib.Core.Path.{_≡_};
 ghost use lib.ListN.{length, drop};
-ghost use Rattle.table.specs.Record.{recordOf, macOf, labelFrom};
+ghost use Rattle.table.specs.Record.{recordBytes, recordOf, macOf, labelFrom, slotOf, slotMatches};
 ghost use Rattle.table.specs.Slots.{slotBytes};
 ghost use Rattle.table.specs.Table.{holds};
 ghost use Rattle.table_fields.specs.Keys.{keyOf};
@@ -25,11 +25,11 @@ pub fn pair_good(kind: u64, label: u64, mac: u64) -> bool
     ((kind == FINE_KIND) | numbers::vlan_good(label)) & numbers::is_individual(mac)
 }
 
-// Whether the record at an offset of the table holds a label and an address, where their key is the record's: what is left to compare is
-// its first eight bytes, learned or configured, and three bits of the address.
-fn holds_keyed(t: &[u8], at: usize, kind: u64, label: u64, mac: u64) -> bool
-    requires { ⌜ (at + slotBytes ≤ length (now t)) × ((keyOf (macOf (recordOf (drop at (now t)))) ≡ keyOf mac) × Pair kind label mac) ⌝ }
-    ensures { λ r. ⌜ r ≡ holds (labelFrom kind label) mac (drop at (now (t .entry))) ⌝ }
+// Whether the fields of the record at an offset of the table hold a label and an address, where their key is the record's: what is left to
+// compare is its first eight bytes, learned or configured, and three bits of the address.
+fn fields_hold(t: &[u8], at: usize, kind: u64, label: u64, mac: u64) -> bool
+    requires { ⌜ (at + recordBytes ≤ length (now t)) × ((keyOf (macOf (recordOf (drop at (now t)))) ≡ keyOf mac) × Pair kind label mac) ⌝ }
+    ensures { λ r. ⌜ r ≡ slotMatches (labelFrom kind label) mac (slotOf (recordOf (drop at (now (t .entry))))) ⌝ }
 {
     let rest = (kind * layout::LABELS + label) * layout::HEAD_LABEL + mac / layout::TAIL_MACS;
     let head = table_fields::head_at(t, at);
@@ -41,6 +41,17 @@ fn holds_keyed(t: &[u8], at: usize, kind: u64, label: u64, mac: u64) -> bool
         return false;
     }
     numbers::nickname_good(table_fields::nickname_at(t, at))
+}
+
+// Whether the record does: by its fields, and by the 7 bits after the mark.
+fn holds_keyed(t: &[u8], at: usize, kind: u64, label: u64, mac: u64) -> bool
+    requires { ⌜ (at + slotBytes ≤ length (now t)) × ((keyOf (macOf (recordOf (drop at (now t)))) ≡ keyOf mac) × Pair kind label mac) ⌝ }
+    ensures { λ r. ⌜ r ≡ holds (labelFrom kind label) mac (drop at (now (t .entry))) ⌝ }
+{
+    if !fields_hold(t, at, kind, label, mac) {
+        return false;
+    }
+    table_fields::mark_at(t, at) % layout::BYTE_MULTIHOMED == 0
 }
 
 // Whether the record holds a label and an address, whose key is given.

@@ -2,21 +2,24 @@
 -- Assumes nothing.
 use Prim.Native.Nat.{ℕ, _+_, _*_, _/_, _%_, _^_, _≤_}
 use mathlib.Core.Bool.{Bool, true, false, _&&_, _||_}
-use mathlib.Core.List.{List}
+use mathlib.Core.List.{List, [], _∷_, _++_}
 use mathlib.Core.Path.{_≡_, refl, sym, ap, _∙_}
 use native.Mathlib.Omega.{arith}
 use lib.Dec.{eqb}
+use lib.ListN.{length, drop, set, length-append, length-drop, drop-of-length-le}
+use lib.Seq.{take-at, set-split}
 use borrow.Author.Tests.{eq-eqb, ne-eqb}
 use Rattle.numbers.specs.Tests.{pick, both, between}
 use Rattle.numbers.specs.Ranges.{groupBit, nicknameGood, vlanGood, lastVlan}
 use Rattle.numbers.proofs.Truth.{and-both, both-true, between-is}
-use Rattle.table.specs.Record.{recordOf, stateOf, kindOf, labelOf, macOf, nicknameOf, confidenceOf, secondsOf, learnedState, configuredState, labelFrom, labelGood, entryOf, entryGood, held, slotOf, unpacked, isFree, slotMatches}
+use Rattle.table.specs.Record.{recordBytes, recordOf, stateOf, kindOf, labelOf, macOf, nicknameOf, confidenceOf, secondsOf, learnedState, configuredState, labelFrom, labelGood, entryOf, entryGood, held, slotOf, isFree, slotMatches}
+use Rattle.table.specs.Slots.{slotBytes}
 use Rattle.table.specs.Table.{holds}
 use Rattle.table.specs.declared.Label.{Label}
 use Rattle.table.specs.declared.Label.the-variants.{Vlan, Fine}
 use Rattle.table.specs.declared.Entry.{Entry}
 use Rattle.table.specs.declared.Slot.the-variants.{Free, Spoilt, Learned, Configured}
-use Rattle.table.proofs.Contents.{free-is, label-test, individual-test}
+use Rattle.table.proofs.Contents.{free-is, label-test, individual-test, holds-parts}
 use Rattle.table_fields.proofs.Laws.{zero-parts}
 use Rattle.table_records.specs.RecordBits.{numberOf, BitsFit, HasNumber}
 use Rattle.table_records.specs.Entries.{IsHeld}
@@ -90,6 +93,7 @@ module _ (b : RecordBits) where
       nickname = b .low / 2 ^ 21 % 2 ^ 16;
       confidence = b .low / 2 ^ 13 % 2 ^ 8;
       seconds = b .low % 2 ^ 13;
+      multihomed = false;
     } ≡ entryOf (numberOf b)
     unfolding entryOf
     entry-bits l e =
@@ -100,7 +104,7 @@ module _ (b : RecordBits) where
         let nickname : b .low / 2 ^ 21 % 2 ^ 16 ≡ nicknameOf n = omega arith in
         let confidence : b .low / 2 ^ 13 % 2 ^ 8 ≡ confidenceOf n = omega arith in
         let seconds : b .low % 2 ^ 13 ≡ secondsOf n = omega arith in
-        λ i. record { label = e i; mac = mac i; nickname = nickname i; confidence = confidence i; seconds = seconds i }
+        λ i. record { label = e i; mac = mac i; nickname = nickname i; confidence = confidence i; seconds = seconds i; multihomed = false }
 
 -- a number from its fields, in two parts
 pub join-whole : (k l m n c t : ℕ) → 1 * 2 ^ 110 + k * 2 ^ 109 + l * 2 ^ 85 + m * 2 ^ 37 + n * 2 ^ 21 + c * 2 ^ 13 + t ≡ (((2 + k) * 2 ^ 24 + l) * 2 ^ 37 + m / 2 ^ 11) * 2 ^ 48 + (((m % 2 ^ 11 * 2 ^ 16 + n) * 2 ^ 8 + c) * 2 ^ 13 + t)
@@ -116,23 +120,30 @@ match-cases l m s x false false h = let n : _≡_ {A = Bool} false true = h in (
 match-cases l m s x false true h = (refl, refl)
 
 -- a record that holds a label and an address is learned or configured
-pub match-held : (l : Label) (m : ℕ) (r : List ℕ) → holds l m r ≡ true → IsHeld r
-unfolding holds unpacked slotOf
+pub match-held : (l : Label) (m : ℕ) (r : List ℕ) → holds l m r ≡ true → IsHeld (recordOf r)
+unfolding slotOf
 match-held l m r h =
     let n : ℕ = recordOf r in
     let state : Bool = between learnedState configuredState (stateOf n) in
-    let cases = match-cases l m (stateOf n) (entryOf n) (eqb n 0) (both state (entryGood (entryOf n))) h in
+    let cases = match-cases l m (stateOf n) (entryOf n) (eqb n 0) (both state (entryGood (entryOf n))) (holds-parts l m r h .0) in
     record { good = both-true state (entryGood (entryOf n)) (cases .0) .1; slot = cases .1 }
 
-module _ (r : List ℕ) (i : IsHeld r) (b : RecordBits) (eb : HasNumber (recordOf r) b) where
+module _ (n : ℕ) (i : IsHeld n) (b : RecordBits) (eb : HasNumber n b) where
   pub held-good : entryGood (entryOf (numberOf b)) ≡ true
   held-good = rw (← eb .number) (i .good)
 
   module _ (s : ℕ) (es : s ≡ stateOf (numberOf b)) (x : Entry) (ex : x ≡ entryOf (numberOf b)) where
-    pub held-learned : s ≡ 1 → Learned x ≡ unpacked r
+    pub held-learned : s ≡ 1 → Learned x ≡ slotOf n
     unfolding held pick
     held-learned p = rw (i .slot, eb .number, ← es, eq-eqb s 1 p, ex)
 
-    pub held-configured : (s ≡ 1 → ⊥) → Configured x ≡ unpacked r
+    pub held-configured : (s ≡ 1 → ⊥) → Configured x ≡ slotOf n
     unfolding held pick
     held-configured p = rw (i .slot, eb .number, ← es, ne-eqb s 1 p, ex)
+
+-- the fields written to a slot, and then the mark
+pub put-marked : (slot w : List ℕ) (m : ℕ) → length slot ≡ slotBytes → length w ≡ recordBytes → set (w ++ drop recordBytes slot) recordBytes m ≡ w ++ m ∷ []
+put-marked slot w m long front =
+    let all : length (w ++ drop recordBytes slot) ≡ slotBytes = simp (length-append, length-drop) (omega arith) in
+    set-split (w ++ drop recordBytes slot) recordBytes m (omega arith)
+    ∙ rw (take-at w (drop recordBytes slot) recordBytes front, drop-of-length-le (w ++ drop recordBytes slot) {i = slotBytes} (omega arith))

@@ -3,11 +3,13 @@ ghost use Prim.Native.Nat.{_+_, _≤_};
 ghost use mathlib.Core.Path.{_≡_};
 ghost use mathlib.Core.Bool.{true, false};
 ghost use lib.ListN.{length, drop};
-ghost use Rattle.table.specs.Record.{recordBytes, recordOf, stateOf, learnedState, entryOf, entryGood, slotOf, unpacked, kindNumber, labelNumber, packed, recordNumber, isFree};
+ghost use Rattle.table.specs.Record.{recordBytes, recordOf, withMark, markedSlot, markNumber, stateOf, learnedState, entryOf, entryGood, slotOf, unpacked, kindNumber, labelNumber, packed, recordNumber, isFree};
 ghost use Rattle.table.specs.Slots.{slotBytes, freed, tableGood};
 ghost use Rattle.table_records.specs.RecordBits.{numberOf, BitsFit, HasNumber};
 ghost use Rattle.table_records.specs.Entries.{IsHeld, Fits};
+ghost use Rattle.table.specs.declared.Slot.the-variants.{Spoilt};
 ghost use Rattle.numbers.specs.Bytes.{bytesOf};
+ghost use Rattle.numbers.specs.Tests.{pick};
 use table::CONFIGURED_STATE;
 use table::Entry;
 use table::FINE_KIND;
@@ -19,6 +21,9 @@ use table::SLOT_BYTES;
 use table::Slot;
 use table::VLAN_KIND;
 use table_fields::layout;
+
+// The byte of the mark of a multihomed record.
+const MULTIHOMED_MARK: u8 = 0x80;
 
 // A record's number in two parts: that of its first eight bytes and that of its last six.
 pub struct RecordBits {
@@ -76,7 +81,7 @@ fn label_of(b: RecordBits) -> Label
     }
 }
 
-// The entry of a good record.
+// The entry in the fields of a good record, without its mark.
 fn entry_of(b: RecordBits) -> Entry
     requires { ⌜ BitsFit b × (entryGood (entryOf (numberOf b)) ≡ true) ⌝ }
     ensures { λ r. ⌜ r ≡ entryOf (numberOf b) ⌝ }
@@ -87,6 +92,7 @@ fn entry_of(b: RecordBits) -> Entry
         nickname: (b.low / layout::TAIL_NICKNAME % layout::NICKNAMES) as u16,
         confidence: (b.low / layout::TAIL_CONFIDENCE % layout::CONFIDENCES) as u8,
         seconds: (b.low % layout::SECONDS) as u16,
+        multihomed: false,
     }
 }
 
@@ -108,10 +114,10 @@ fn held_or_spoilt(b: RecordBits) -> Slot
     Slot::Spoilt
 }
 
-// What the record at an offset of the table holds.
-pub fn unpack(t: &[u8], at: usize) -> Slot
-    requires { ⌜ at + slotBytes ≤ length (now t) ⌝ }
-    ensures { λ r. ⌜ r ≡ unpacked (drop at (now (t .entry))) ⌝ }
+// What the fields of the record at an offset of the table hold.
+fn fields_at(t: &[u8], at: usize) -> Slot
+    requires { ⌜ at + recordBytes ≤ length (now t) ⌝ }
+    ensures { λ r. ⌜ r ≡ slotOf (recordOf (drop at (now (t .entry)))) ⌝ }
 {
     let b = bits_at(t, at);
     if is_free(b) {
@@ -120,16 +126,71 @@ pub fn unpack(t: &[u8], at: usize) -> Slot
     held_or_spoilt(b)
 }
 
-// The same of a record that is known to be learned or configured: only its state is tested.
-pub fn unpack_held(t: &[u8], at: usize) -> Slot
-    requires { ⌜ (at + slotBytes ≤ length (now t)) × IsHeld (drop at (now t)) ⌝ }
-    ensures { λ r. ⌜ r ≡ unpacked (drop at (now (t .entry))) ⌝ }
+// The same of fields that are known to be learned or configured: only the state is tested.
+fn held_at(t: &[u8], at: usize) -> Slot
+    requires { ⌜ (at + recordBytes ≤ length (now t)) × IsHeld (recordOf (drop at (now t))) ⌝ }
+    ensures { λ r. ⌜ r ≡ slotOf (recordOf (drop at (now (t .entry)))) ⌝ }
 {
     let b = bits_at(t, at);
     if state_of(b) == LEARNED_STATE {
         return Slot::Learned(entry_of(b));
     }
     Slot::Configured(entry_of(b))
+}
+
+// An entry with this mark.
+fn with_mark(e: Entry, mark: bool) -> Entry
+    ensures { λ r. ⌜ r ≡ withMark mark e ⌝ }
+{
+    let l = e.label;
+    Entry {
+        label: l,
+        mac: e.mac,
+        nickname: e.nickname,
+        confidence: e.confidence,
+        seconds: e.seconds,
+        multihomed: mark,
+    }
+}
+
+// What is made where a test passes, else spoilt.
+fn else_spoilt(good: bool, s: Slot) -> Slot
+    ensures { λ r. ⌜ r ≡ pick good s Spoilt ⌝ }
+{
+    if good {
+        return s;
+    }
+    Slot::Spoilt
+}
+
+// What the fields and the byte of the mark hold together.
+fn marked_slot(b: u64, s: Slot) -> Slot
+    ensures { λ r. ⌜ r ≡ markedSlot b s ⌝ }
+{
+    let empty = b % layout::BYTE_MULTIHOMED == 0;
+    let mark = b / layout::BYTE_MULTIHOMED % 2 == 1;
+    match s {
+        Slot::Free => else_spoilt(b == 0, Slot::Free),
+        Slot::Spoilt => Slot::Spoilt,
+        Slot::Learned(e) => else_spoilt(empty, Slot::Learned(with_mark(e, mark))),
+        Slot::Configured(e) => else_spoilt(empty, Slot::Configured(with_mark(e, mark))),
+    }
+}
+
+// What the record at an offset of the table holds.
+pub fn unpack(t: &[u8], at: usize) -> Slot
+    requires { ⌜ at + slotBytes ≤ length (now t) ⌝ }
+    ensures { λ r. ⌜ r ≡ unpacked (drop at (now (t .entry))) ⌝ }
+{
+    marked_slot(table_fields::mark_at(t, at), fields_at(t, at))
+}
+
+// The same of a record whose fields are known to be learned or configured.
+pub fn unpack_held(t: &[u8], at: usize) -> Slot
+    requires { ⌜ (at + slotBytes ≤ length (now t)) × IsHeld (recordOf (drop at (now t))) ⌝ }
+    ensures { λ r. ⌜ r ≡ unpacked (drop at (now (t .entry))) ⌝ }
+{
+    marked_slot(table_fields::mark_at(t, at), held_at(t, at))
 }
 
 // 0 for a VLAN, 1 for a fine-grained label.
@@ -170,14 +231,22 @@ fn bits_of(e: Entry) -> RecordBits
     }
 }
 
-fn write(b: RecordBits, slot: &mut [u8])
-    requires { ⌜ (length (now slot) ≡ slotBytes) × BitsFit b ⌝ }
-    ensures { λ _. ⌜ now (slot .exit) ≡ bytesOf slotBytes (numberOf b) ⌝ }
+// Writes the fields.
+fn write(b: RecordBits, fields: &mut [u8])
+    requires { ⌜ (length (now fields) ≡ recordBytes) × BitsFit b ⌝ }
+    ensures { λ _. ⌜ now (fields .exit) ≡ bytesOf recordBytes (numberOf b) ⌝ }
 {
     let high = b.high;
     let low = b.low;
-    numbers::fill8(&mut slot[0..layout::TAIL_OFFSET], high);
-    numbers::fill6(&mut slot[layout::TAIL_OFFSET..RECORD_BYTES], low);
+    numbers::fill8(&mut fields[0..layout::TAIL_OFFSET], high);
+    numbers::fill6(&mut fields[layout::TAIL_OFFSET..RECORD_BYTES], low);
+}
+
+// The byte of the mark: the multihomed bit alone.
+fn mark_byte(mark: bool) -> u8
+    ensures { λ r. ⌜ r ≡ markNumber mark ⌝ }
+{
+    if mark { MULTIHOMED_MARK } else { 0 }
 }
 
 // Writes the record of a learned entry to a slot.
@@ -185,7 +254,8 @@ pub fn pack(e: Entry, slot: &mut [u8])
     requires { ⌜ (length (now slot) ≡ slotBytes) × Fits e ⌝ }
     ensures { λ _. ⌜ now (slot .exit) ≡ packed learnedState e ⌝ }
 {
-    write(bits_of(e), slot);
+    write(bits_of(e), &mut slot[0..RECORD_BYTES]);
+    slot[layout::MARK_OFFSET] = mark_byte(e.multihomed);
 }
 
 // Frees a slot.

@@ -15,7 +15,7 @@ use Rattle.numbers.specs.Tests.{pick, between}
 use Rattle.numbers.specs.Result.{check, settled}
 use Rattle.numbers.proofs.Truth.{not-true-false, both-true, between-is}
 use Rattle.table.specs.Learning.{freeSlot}
-use Rattle.table.specs.Record.{recordOf, macOf, nicknameOf, vlanKind, fineKind, labelFrom}
+use Rattle.table.specs.Record.{recordOf, nicknameOf, vlanKind, fineKind, labelFrom}
 use Rattle.table.specs.Slots.{slotBytes, mostSlots, tableGood, firstSlot, lowest}
 use Rattle.table.specs.Table.{holds, placeOf, nicknameAt, lookedUp, spoiltSlot, spoiltAt, lowestSpoilt}
 use Rattle.table.specs.declared.Label.the-variants.{Vlan, Fine}
@@ -24,15 +24,11 @@ use Rattle.table.specs.declared.Place.the-variants.{At, Nowhere}
 use Rattle.table.specs.declared.LookupAnswer.the-variants as lookup
 use Rattle.table.specs.declared.SpoiltAnswer.the-variants as spoilt
 use Rattle.table.proofs.Slots.{Local, search-next, lowest-none, lowest-within}
-use Rattle.table.proofs.Contents.{record-near, holds-near, free-near, other-than-free, holds-fields, holds-fits}
+use Rattle.table.proofs.Contents.{record-near, holds-near, free-near, other-than-free, holds-fits}
 use Rattle.table_fields.specs.Keys.{roundKeyOf}
 use Rattle.table_pairs.specs.Pairs.{pairGood}
-use Rattle.table_pairs.proofs.Laws.{holds-good}
+use Rattle.table_pairs.proofs.Laws.{other-round-key, holds-good}
 use Rattle.table_rounds.specs.Rounds.{Keyed, InState, Passed}
-
--- another key of a round: the slot does not hold the label and the address
-other-round-key : (k x m : ℕ) → k ≤ 1 → (r : List ℕ) → (roundKeyOf (macOf (recordOf r)) ≡ roundKeyOf m → ⊥) → false ≡ holds (labelFrom k x) m r
-other-round-key k x m hk r h = sym (not-true-false _ (λ e. h (ap (λ (a : ℕ). roundKeyOf a) (sym (holds-fields k x m r hk e .mac)))))
 
 -- slots that a round excludes are passed by
 past : (p : List ℕ → Bool) → Local p → (P : List ℕ → Type 0) → ((r : List ℕ) → (P r → ⊥) → false ≡ p r)

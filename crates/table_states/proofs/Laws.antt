@@ -223,3 +223,17 @@ module _ (n x : ℕ) (is : x ≡ n / 2 ^ 80) (small : x < 2 ^ 32) where
 
   pub spoilt-zero : x ≡ 0 → (z : Bool) → z ≡ eqb (n % 2 ^ 80) 0 → not z ≡ isSpoilt (slotOf n)
   spoilt-zero e z h = spoilt-0 n (omega arith) z (free-zero e z h)
+
+-- of a record that is not spoilt the state decides whether it is free
+pub state-free : (n : ℕ) → isSpoilt (slotOf n) ≡ false → eqb (stateOf n) 0 ≡ isFree (slotOf n)
+state-free n h = go (ℕ-discrete n 0)
+  where
+    held-state : (n ≡ 0 → ⊥) → stateOf n ≡ 0 → ⊥
+    held-state some s =
+        let z = spoilt-0 n s false (sym (free-is n ∙ ne-eqb n 0 some)) in
+        let q : _≡_ {A = ℕ} 0 1 = cc in
+        omega arith
+
+    go : Dec (n ≡ 0) → eqb (stateOf n) 0 ≡ isFree (slotOf n)
+    go (yes z) = eq-eqb (stateOf n) 0 (omega arith) ∙ sym (free-is n ∙ eq-eqb n 0 z)
+    go (no z) = ne-eqb (stateOf n) 0 (held-state z) ∙ sym (free-is n ∙ ne-eqb n 0 z)

@@ -4,13 +4,14 @@ ghost use mathlib.Core.Path.{_≡_};
 ghost use lib.ListN.{length, drop};
 ghost use Rattle.numbers.specs.Ranges.{nicknameGood};
 ghost use Rattle.table.specs.Learning.{freeSlot};
-ghost use Rattle.table.specs.Record.{recordBytes, recordOf, nicknameOf, entryOf, entryGood, unpacked, isLearned};
+ghost use Rattle.table.specs.Record.{recordBytes, recordOf, nicknameOf, entryOf, entryGood, slotOf, unpacked, isFree, isLearned, isSpoilt};
 ghost use Rattle.table.specs.Slots.{slotBytes};
 ghost use Rattle.table.specs.Table.{spoiltSlot};
 use numbers::FIRST_VLAN;
 use numbers::LAST_NICKNAME;
 use numbers::LAST_VLAN;
 use table::CONFIGURED_STATE;
+use table::FREE_STATE;
 use table::LEARNED_STATE;
 use table_fields::layout;
 
@@ -70,10 +71,10 @@ pub fn good_at(t: &[u8], at: usize) -> bool
     good_by_front(t, at, table_fields::front_at(t, at) % layout::FRONT_STATE)
 }
 
-// Whether the record is learned. The test of the state excludes VLAN 0 as well.
-pub fn learned_at(t: &[u8], at: usize) -> bool
-    requires { ⌜ at + slotBytes ≤ length (now t) ⌝ }
-    ensures { λ r. ⌜ r ≡ isLearned (unpacked (drop at (now (t .entry)))) ⌝ }
+// Whether the fields are those of a learned record. The test of the state excludes VLAN 0 as well.
+fn learned_fields_at(t: &[u8], at: usize) -> bool
+    requires { ⌜ at + recordBytes ≤ length (now t) ⌝ }
+    ensures { λ r. ⌜ r ≡ isLearned (slotOf (recordOf (drop at (now (t .entry))))) ⌝ }
 {
     let front = table_fields::front_at(t, at);
     if !((FIRST_LEARNED <= front) & (front <= LAST_LEARNED)) {
@@ -82,10 +83,21 @@ pub fn learned_at(t: &[u8], at: usize) -> bool
     good_by_front(t, at, front - layout::FRONT_STATE)
 }
 
-// Whether the record is spoilt. The same test excludes the learned VLAN 0, which is spoilt.
-pub fn spoilt_at(t: &[u8], at: usize) -> bool
+// Whether the record is learned: by its fields, and by the 7 bits after the mark.
+pub fn learned_at(t: &[u8], at: usize) -> bool
     requires { ⌜ at + slotBytes ≤ length (now t) ⌝ }
-    ensures { λ r. ⌜ r ≡ spoiltSlot (drop at (now (t .entry))) ⌝ }
+    ensures { λ r. ⌜ r ≡ isLearned (unpacked (drop at (now (t .entry)))) ⌝ }
+{
+    if !learned_fields_at(t, at) {
+        return false;
+    }
+    table_fields::mark_at(t, at) % layout::BYTE_MULTIHOMED == 0
+}
+
+// Whether the fields are those of a spoilt record. The same test excludes the learned VLAN 0, which is spoilt.
+fn spoilt_fields_at(t: &[u8], at: usize) -> bool
+    requires { ⌜ at + recordBytes ≤ length (now t) ⌝ }
+    ensures { λ r. ⌜ r ≡ isSpoilt (slotOf (recordOf (drop at (now (t .entry))))) ⌝ }
 {
     let front = table_fields::front_at(t, at);
     if (FIRST_LEARNED <= front) & (front <= LAST_CONFIGURED) {
@@ -97,13 +109,42 @@ pub fn spoilt_at(t: &[u8], at: usize) -> bool
     !table_fields::zero_after_front(t, at)
 }
 
-// Whether the record is free.
-pub fn free_at(t: &[u8], at: usize) -> bool
+// Whether the record is spoilt: by its fields, by the 7 bits after the mark, or by the mark of a record that is else free.
+pub fn spoilt_at(t: &[u8], at: usize) -> bool
     requires { ⌜ at + slotBytes ≤ length (now t) ⌝ }
-    ensures { λ r. ⌜ r ≡ freeSlot (drop at (now (t .entry))) ⌝ }
+    ensures { λ r. ⌜ r ≡ spoiltSlot (drop at (now (t .entry))) ⌝ }
+{
+    if spoilt_fields_at(t, at) {
+        return true;
+    }
+    let mark = table_fields::mark_at(t, at);
+    if mark == 0 {
+        return false;
+    }
+    if mark % layout::BYTE_MULTIHOMED != 0 {
+        return true;
+    }
+    table_fields::state_at(t, at) == FREE_STATE
+}
+
+// Whether the fields are those of a free record.
+fn free_fields_at(t: &[u8], at: usize) -> bool
+    requires { ⌜ at + recordBytes ≤ length (now t) ⌝ }
+    ensures { λ r. ⌜ r ≡ isFree (slotOf (recordOf (drop at (now (t .entry))))) ⌝ }
 {
     if table_fields::front_at(t, at) != 0 {
         return false;
     }
     table_fields::zero_after_front(t, at)
+}
+
+// Whether the record is free: its fields and the byte of the mark are all 0.
+pub fn free_at(t: &[u8], at: usize) -> bool
+    requires { ⌜ at + slotBytes ≤ length (now t) ⌝ }
+    ensures { λ r. ⌜ r ≡ freeSlot (drop at (now (t .entry))) ⌝ }
+{
+    if !free_fields_at(t, at) {
+        return false;
+    }
+    table_fields::mark_at(t, at) == 0
 }

@@ -2,11 +2,15 @@
 -- Assumes nothing.
 use Rattle.numbers.proofs.Widths.{blocks-hold, maps-hold}
 use Rattle.table.proofs.Packing.{unpack-packed, pack-unpacked}
-use Rattle.table.proofs.Unique.{learning-unique, ageing-unique}
+use Rattle.table.proofs.Apart.{learning-apart}
+use Rattle.table.proofs.Ageing.{ageing-apart}
 use Rattle.table.proofs.Stays.{learning-leaves-alone, ageing-leaves-alone}
 use Rattle.table.proofs.Refusals.{kept-writes-nothing, ageing-refusal}
+use Rattle.table.proofs.Widening.{widened-same, widening-refusal}
+use Rattle.table.proofs.Before.{unmarked-as-before}
+use Rattle.table.proofs.Examples.{homes-examples}
 use Rattle.flush.proofs.Validity.{validity}
-use Rattle.flush.proofs.Flushing.{flush-exact, flushing-keeps-unique, flush-refusal}
+use Rattle.flush.proofs.Flushing.{flush-exact, flushing-keeps-apart, flush-refusal}
 use Rattle.flush.proofs.Padding.{padded-flush}
 use Rattle.flush.proofs.Stays.{flushing-leaves-alone}
 use Rattle.frame.proofs.Local.{header-local, label-local, labels-good}
@@ -16,22 +20,23 @@ use Rattle.convert.proofs.Expanding.{expand-compacted, compact-expanded, contro
 use Rattle.convert.proofs.Room.{room-for-compaction, send-room}
 use Rattle.convert.proofs.Sending.{sends-exactly}
 use Rattle.convert.proofs.Shown.{chosen-sent}
-use Rattle.receive.proofs.Outcomes.{read-refusal, reading-unique, reads-parsed, reading-leaves-alone, read-flush-exact}
+use Rattle.receive.proofs.Outcomes.{read-refusal, reading-apart, reads-parsed, reading-leaves-alone, read-flush-exact}
 use Rattle.receive.proofs.Padded.{padded-read}
 use Rattle.receive.proofs.Order.{reads-exactly}
-use Rattle.promises.specs.Claims.{RefusalChangesNothing, PairsStayUnique, SpoiltStays, ConfiguredStays}
+use Rattle.promises.specs.Claims.{RefusalChangesNothing, HomesStayApart, SpoiltStays, ConfiguredStays}
 use Rattle.promises.proofs.Cases.{cases-hold, control-cases}
 use Rattle.promises.proofs.Example.{example-holds}
+use Rattle.promises.proofs.Homes.{none-as-before, marked-read}
 use Rattle.promises.proofs.Interchange.{interchange}
 use Rattle.promises.proofs.Lives.{life-as-before, other-lives-stay}
 use Rattle.promises.proofs.claims.Statement.{statement}
 use Rattle.promises.proofs.claims.Tie as tie
 
 refusals : RefusalChangesNothing
-refusals = record { reading = read-refusal; flushing = flush-refusal; ageing = ageing-refusal; converting = convert-refusals }
+refusals = record { reading = read-refusal; flushing = flush-refusal; ageing = ageing-refusal; widening = widening-refusal; converting = convert-refusals }
 
-pairs : PairsStayUnique
-pairs = record { reading = reading-unique; flushing = flushing-keeps-unique; ageing = ageing-unique }
+homes : HomesStayApart
+homes = record { reading = reading-apart; flushing = flushing-keeps-apart; ageing = ageing-apart }
 
 stays-spoilt : SpoiltStays
 stays-spoilt = record {
@@ -49,9 +54,9 @@ stays-configured = record {
 
 returns : tie.Need-returns
 returns c = (
-  (interchange, example-holds, expand-compacted, compact-expanded, refusals, validity, flush-exact, read-flush-exact, padded-flush, padded-read, reads-exactly, pairs, stays-spoilt, stays-configured, sends-exactly, room-for-compaction, send-room, chosen-sent, control-never-compact, life-as-before, other-lives-stay, cases-hold, control-cases),
+  (interchange, example-holds, expand-compacted, compact-expanded, refusals, validity, flush-exact, read-flush-exact, padded-flush, padded-read, reads-exactly, homes, widened-same, unmarked-as-before, none-as-before, homes-examples, marked-read, stays-spoilt, stays-configured, sends-exactly, room-for-compaction, send-room, chosen-sent, control-never-compact, life-as-before, other-lives-stay, cases-hold, control-cases),
   (
-    (read-refusal, flush-refusal, ageing-refusal, convert-refusals, reading-unique, flushing-keeps-unique, ageing-unique, learning-unique, reading-leaves-alone, flushing-leaves-alone, ageing-leaves-alone, learning-leaves-alone),
+    (read-refusal, flush-refusal, ageing-refusal, widening-refusal, convert-refusals, reading-apart, flushing-keeps-apart, ageing-apart, learning-apart, reading-leaves-alone, flushing-leaves-alone, ageing-leaves-alone, learning-leaves-alone),
     (blocks-hold, maps-hold, unpack-packed, pack-unpacked, kept-writes-nothing, header-local, label-local, labels-good, reads-same, reads-parsed),
   ),
 )

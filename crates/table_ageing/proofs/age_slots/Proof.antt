@@ -9,7 +9,7 @@ use Rattle.table.specs.Record.{isLearned, learnedState}
 use Rattle.table.specs.Slots.{slotBytes, onSlots}
 use Rattle.table.specs.Table.{agedSlot}
 use Rattle.table.proofs.Slots.{length-onSlots}
-use Rattle.table.proofs.Unique.{aged-keeps}
+use Rattle.table.proofs.Ageing.{aged-keeps}
 use Rattle.table_rounds.specs.Rounds.{InState, Passed}
 use Rattle.table_ageing.proofs.Laws.{length-at, learned-lent, aged-at, passed-by}
 use borrow.Author.Needs.{needs}

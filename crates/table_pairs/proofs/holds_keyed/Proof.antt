@@ -1,54 +1,21 @@
--- `table_pairs::holds_keyed` meets its contract: the first eight bytes, the key and three more bits are all of the label and the address.
+-- `table_pairs::holds_keyed` meets its contract: the fields decide, and then the 7 bits.
 -- Assumes nothing.
-use mathlib.Core.Path.{ap, _∙_}
+use mathlib.Core.Path.{sym, _∙_}
 use borrow.Author.Tests.{not-true, not-false}
-use Rattle.numbers.specs.Ranges.{nicknameGood}
 use Rattle.table.specs.Record.{unpacked}
 use Rattle.table.specs.Table.{holds}
-use Rattle.table_pairs.proofs.Laws.{pair-other, pair-bits, pair-rest}
+use Rattle.table.proofs.Marks.{match-none, match-bits}
 use borrow.Author.Needs.{needs}
 use Rattle.table_pairs.proofs.holds_keyed.Statement.{statement}
 use Rattle.table_pairs.proofs.holds_keyed.Tie as tie
 
 returns : tie.Need-returns
 unfolding holds unpacked
-returns c =
-    let start = c .before .before .before in
-    let a = start .args in
-    let head = c .before .head-at .ensures in
-    pair-other (a .kind) (a .label) (a .mac) _ (start .pre .1 .1) _ (head .0) (head .1) (not-true _ (c .if1 .taken))
+returns c = match-none _ _ _ _ (sym (c .before .fields-hold .ensures) ∙ not-true _ (c .if1 .taken))
 
 returns-2 : tie.Need-returns-2
 unfolding holds unpacked
-returns-2 c =
-    let start = c .before .before .before .before .before in
-    let a = start .args in
-    let head = c .before .before .before .head-at .ensures in
-    pair-bits (a .kind) (a .label) (a .mac) _ (start .pre .1 .1) _ (head .0) (head .1) _ (c .before .mac-low-at .ensures) (c .if2 .taken)
-
-returns-3 : tie.Need-returns-3
-unfolding holds unpacked
-returns-3 c =
-    let start = c .before .before .before .before .before .before .before in
-    let a = start .args in
-    let head = c .before .before .before .before .before .head-at .ensures in
-    pair-rest (a .kind) (a .label) (a .mac) _ (start .pre .1 .1) _ (head .0) (head .1) _ (c .before .before .before .mac-low-at .ensures) (start .pre .1 .0) (not-false _ (c .before .before .before .before .if1 .left)) (c .before .before .if2 .left) _
-    (c .nickname-good .ensures ∙ ap nicknameGood (c .before .nickname-at .ensures .0))
+returns-2 c = match-bits _ _ _ _ _ (sym (c .before .before .fields-hold .ensures) ∙ not-false _ (c .before .if1 .left)) (c .mark-at .ensures .0)
 
 pub holds-keyed-spec : {M : Type 1} → statement M
-holds-keyed-spec =
-    tie.close
-    (tie.spec
-    (λ c. search needs)
-    (λ c. search needs)
-    (λ c. search needs)
-    (λ c. search needs)
-    (λ c κs. search needs)
-    (λ c. search needs)
-    (λ c. search needs)
-    returns
-    (λ c κs. search needs)
-    returns-2
-    (λ c κs. search needs)
-    (λ c κs. search needs)
-    returns-3)
+holds-keyed-spec = tie.close (tie.spec (λ c κs. search needs) returns (λ c κs. search needs) returns-2)

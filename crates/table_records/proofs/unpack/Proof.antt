@@ -1,24 +1,13 @@
--- `table_records::unpack` meets its contract: free, or what the state and the entry decide.
+-- `table_records::unpack` meets its contract: the fields, and then the byte of the mark.
 -- Assumes nothing.
-use mathlib.Core.Path.{sym, ap, _∙_}
-use Rattle.table.specs.Record.{slotOf, unpacked}
-use Rattle.table.proofs.Contents.{slot-free}
+use Rattle.table.specs.Record.{unpacked}
 use borrow.Author.Needs.{needs}
 use Rattle.table_records.proofs.unpack.Statement.{statement}
 use Rattle.table_records.proofs.unpack.Tie as tie
 
 returns : tie.Need-returns
 unfolding unpacked
-returns c = slot-free _ (sym (c .before .is-free .ensures) ∙ c .if1 .taken) ∙ ap slotOf (sym (c .before .before .bits-at .ensures .number))
-
-held-or-spoilt-requires : tie.Need-held-or-spoilt-requires
-held-or-spoilt-requires c κs = (search needs, sym (c .before .is-free .ensures) ∙ c .if1 .left)
-
-returns-2 : tie.Need-returns-2
-unfolding unpacked
-returns-2 c =
-    c .held-or-spoilt .ensures ∙ ap slotOf (sym (c .before .before .before .bits-at .ensures .number))
+returns c = cc
 
 pub unpack-spec : {M : Type 1} → statement M
-unpack-spec =
-    tie.close (tie.spec (λ c κs. search needs) (λ c κs. search needs) returns held-or-spoilt-requires returns-2)
+unpack-spec = tie.close (tie.spec (λ c κs. search needs) (λ c κs. search needs) (λ c κs. search needs) returns)

@@ -20,7 +20,7 @@ returns c =
     let zs : List ℕ = c .before .before .fill6 .last .0 in
     let first : ys ≡ bytesOf 8 (b .high) = c .before .before .before .before .before .before .fill8 .ensures in
     let second : zs ≡ bytesOf 6 (b .low) = c .before .before .fill6 .ensures in
-    put-two (start .args .slot .now) ys zs 8 6 (start .pre .0) (ap length first ∙ length-bytesOf 8 (b .high)) (ap length second ∙ length-bytesOf 6 (b .low))
+    put-two (start .args .fields .now) ys zs 8 6 (start .pre .0) (ap length first ∙ length-bytesOf 8 (b .high)) (ap length second ∙ length-bytesOf 6 (b .low))
     ∙ rw (first, second) (sym (bytesOf-join 8 6 (b .high) (b .low) (omega arith)))
 
 pub write-spec : {M : Type 1} → statement M

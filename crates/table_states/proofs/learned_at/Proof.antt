@@ -1,28 +1,20 @@
--- `table_states::learned_at` meets its contract: state 1, and then the entry decides.
+-- `table_states::learned_at` meets its contract: the fields decide, and then the 7 bits.
 -- Assumes nothing.
+use mathlib.Core.Path.{sym, _∙_}
 use borrow.Author.Tests.{not-true, not-false}
 use Rattle.table.specs.Record.{unpacked}
-use Rattle.table_states.proofs.Laws.{unlearned, learned, learned-without}
+use Rattle.table.proofs.Marks.{learned-none, learned-bits}
 use borrow.Author.Needs.{needs}
 use Rattle.table_states.proofs.learned_at.Statement.{statement}
 use Rattle.table_states.proofs.learned_at.Tie as tie
 
 returns : tie.Need-returns
 unfolding unpacked
-returns c = unlearned _ _ (c .before .front-at .ensures .0) (c .before .front-at .ensures .1) (not-true _ (c .if1 .taken))
-
-sub-good-by-front : tie.Need-sub-good-by-front
-sub-good-by-front c =
-    learned-without _ _ (c .before .front-at .ensures .0) (c .before .front-at .ensures .1) (not-false _ (c .if1 .left)) .0
-
-good-by-front-requires : tie.Need-good-by-front-requires
-good-by-front-requires c κs =
-    (search needs, learned-without _ _ (c .before .front-at .ensures .0) (c .before .front-at .ensures .1) (not-false _ (c .if1 .left)) .1)
+returns c = learned-none _ _ (sym (c .before .learned-fields-at .ensures) ∙ not-true _ (c .if1 .taken))
 
 returns-2 : tie.Need-returns-2
 unfolding unpacked
-returns-2 c = learned _ _ (c .before .before .front-at .ensures .0) (c .before .before .front-at .ensures .1) (not-false _ (c .before .if1 .left)) _ (c .good-by-front .ensures)
+returns-2 c = learned-bits _ _ _ (sym (c .before .before .learned-fields-at .ensures) ∙ not-false _ (c .before .if1 .left)) (c .mark-at .ensures .0)
 
 pub learned-at-spec : {M : Type 1} → statement M
-learned-at-spec =
-    tie.close (tie.spec (λ c κs. search needs) returns sub-good-by-front good-by-front-requires returns-2)
+learned-at-spec = tie.close (tie.spec (λ c κs. search needs) returns (λ c κs. search needs) returns-2)

@@ -1,31 +1,45 @@
--- `table_states::spoilt_at` meets its contract: of state 1 or 2 the entry decides, else any bit.
+-- `table_states::spoilt_at` meets its contract: the fields decide, then the 7 bits, then the mark of a free record.
 -- Assumes nothing.
 use Prim.Native.Nat.{ℕ, _%_, _^_}
-use mathlib.Core.Path.{ap}
+use mathlib.Core.Path.{sym, ap, _∙_}
+use lib.Dec.{eqb}
 use Rattle.table.specs.Record.{unpacked}
 use Rattle.table.specs.Table.{spoiltSlot}
-use Rattle.table_states.proofs.Laws.{spoilt-entry, spoilt-front, spoilt-zero}
+use Rattle.table.proofs.Marks.{spoilt-fields, spoilt-none, spoilt-bits, spoilt-mark}
+use Rattle.table_states.proofs.Laws.{state-free}
 use borrow.Author.Needs.{needs}
 use Rattle.table_states.proofs.spoilt_at.Statement.{statement}
 use Rattle.table_states.proofs.spoilt_at.Tie as tie
 
-good-by-front-requires : tie.Need-good-by-front-requires
-good-by-front-requires c κs = (search needs, ap (λ (x : ℕ). x % 2 ^ 30) (c .before .front-at .ensures .0))
-
 returns : tie.Need-returns
 unfolding spoiltSlot unpacked
-returns c = spoilt-entry _ _ (c .before .before .front-at .ensures .0) (c .before .before .front-at .ensures .1) (c .before .if1 .taken) _ (c .good-by-front .ensures)
+returns c = spoilt-fields _ _ (sym (c .before .spoilt-fields-at .ensures) ∙ c .if1 .taken)
 
 returns-2 : tie.Need-returns-2
 unfolding spoiltSlot unpacked
-returns-2 c = spoilt-front _ _ (c .before .before .front-at .ensures .0) (c .before .before .front-at .ensures .1) (c .before .if1 .left) (c .if2 .taken)
+returns-2 c = spoilt-none _ _ (sym (c .before .before .before .spoilt-fields-at .ensures) ∙ c .before .before .if1 .left) (sym (c .before .mark-at .ensures .0) ∙ c .if2 .taken)
 
 returns-3 : tie.Need-returns-3
 unfolding spoiltSlot unpacked
-returns-3 c =
-    let front = c .before .before .before .front-at .ensures in
-    spoilt-zero _ _ (front .0) (front .1) (c .before .if2 .left) _ (c .zero-after-front .ensures)
+returns-3 c = spoilt-bits _ _ (λ z. c .if3 .taken (ap (λ (n : ℕ). n % 2 ^ 7) (c .before .before .mark-at .ensures .0) ∙ z))
+
+returns-4 : tie.Need-returns-4
+unfolding spoiltSlot unpacked
+returns-4 c =
+    let b = c .before .before .before .mark-at .ensures .0 in
+    let whole = sym (c .before .before .before .before .before .spoilt-fields-at .ensures) ∙ c .before .before .before .before .if1 .left in
+    ap (λ (n : ℕ). eqb n 0) (c .state-at .ensures)
+    ∙ state-free _ whole
+    ∙ spoilt-mark _ _ whole (λ z. c .before .before .if2 .left (b ∙ z)) (sym (ap (λ (n : ℕ). n % 2 ^ 7) b) ∙ c .before .if3 .left)
 
 pub spoilt-at-spec : {M : Type 1} → statement M
 spoilt-at-spec =
-    tie.close (tie.spec (λ c κs. search needs) good-by-front-requires returns returns-2 (λ c κs. search needs) returns-3)
+    tie.close
+    (tie.spec
+    (λ c κs. search needs)
+    returns
+    (λ c κs. search needs)
+    returns-2
+    returns-3
+    (λ c κs. search needs)
+    returns-4)
