@@ -87,4 +87,7 @@ extern "C" {
     pub fn shinglebar_age(seconds: u16, table: *mut u8, table_len: usize) -> u64;
 
     pub fn shinglebar_spoilt(table: *const u8, table_len: usize) -> u64;
+
+    /// The lowest free slot, and the number of records unpacked.
+    pub fn shinglebar_free_slot(table: *const u8, table_len: usize) -> u64;
 }

@@ -4,7 +4,7 @@
 //! word as it is. The package must know the word: it is decoded to the answer, and packed again.
 
 use shinglebar::{
-    decode, encode, raw, Aged, Answer, Compacted, Expanded, Flushed, Found, Received, Sent, Spoilt,
+    decode, encode, raw, Aged, Answer, Compacted, Expanded, Flushed, Found, FreeSlot, Received, Sent, Spoilt,
 };
 
 use crate::lend::Lend;
@@ -104,4 +104,8 @@ pub fn age(lender: &mut impl Lend, seconds: u16, table: &mut [u8]) -> u64 {
 
 pub fn spoilt(lender: &mut impl Lend, table: &[u8]) -> u64 {
     known::<Spoilt>(lender.lend(("table", table), [], |table, []| raw::spoilt(table)))
+}
+
+pub fn free_slot(lender: &mut impl Lend, table: &[u8]) -> u64 {
+    known::<FreeSlot>(lender.lend(("table", table), [], |table, []| raw::free_slot(table)))
 }

@@ -241,7 +241,7 @@ impl Raw {
 }
 
 /// A good record of the pool, learned or configured.
-fn good_record(random: &mut Random, pool: &Pool) -> Raw {
+pub fn good_record(random: &mut Random, pool: &Pool) -> Raw {
     let kind = random.below(2) as u8;
     Raw {
         state: if random.one_in(4) { 2 } else { 1 },

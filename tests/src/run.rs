@@ -17,6 +17,8 @@ pub const AGE: Answers = &[(2, "refusal 2: table length"), (64, "done")];
 
 pub const SPOILT: Answers = &[(2, "refusal 2: table length"), (64, "slot"), (65, "none")];
 
+pub const FREE_SLOT: Answers = &[(2, "refusal 2: table length"), (64, "slot"), (65, "none")];
+
 pub const FLUSH: Answers = &[
     (2, "refusal 2: table length"),
     (15, "refusal 15: flush payload corrupt"),
