@@ -97,7 +97,7 @@ static const struct {
     {LOOKUP, "lookup", "tells the nickname that an address is behind",
      "One of --vlan and --fgl is needed. Exit status 1 if the address is not known.\n"},
     {AGE, "age", "lets seconds pass for the learned records of a table", ""},
-    {CHECK, "check", "tells the lowest spoilt slot, and lists the records", "Exit status 1 if a slot is spoilt.\n"},
+    {CHECK, "check", "tells the lowest spoilt and the lowest free slot, and lists the records", "Exit status 1 if a slot is spoilt.\n"},
     {SET, "set", "makes a configured record in a table",
      "One of --vlan and --fgl is needed. The record takes the lowest slot with that label and address, whatever it holds,\n"
      "else the lowest free one. Exit status 1 if there is none, 2 if the library would call the record spoilt.\n"},
