@@ -89,6 +89,21 @@ int age_command(const struct options *options)
     return status;
 }
 
+/* The lowest free slot: the one that the next address learned is put into. */
+static void free_print(uint64_t answer)
+{
+    int found = shinglebar_kind(answer) == SHINGLEBAR_FREE_SLOT_SLOT;
+    if (found && line.json) {
+        json_number(&line, "lowest_free_slot", shinglebar_slot(answer));
+    } else if (found) {
+        text_put(&line, "lowest free slot: ");
+        text_number(&line, shinglebar_slot(answer));
+    } else {
+        text_put(&line, line.json ? "\"lowest_free_slot\":null" : "no slot is free");
+    }
+    line_out(&line);
+}
+
 int check_command(const struct options *options)
 {
     static struct table table;
@@ -106,6 +121,7 @@ int check_command(const struct options *options)
         text_put(&line, line.json ? "\"lowest_spoilt_slot\":null" : "no slot is spoilt");
     }
     line_out(&line);
+    free_print(shinglebar_free_slot(table.bytes, table.length));
     table_print(&line, &table, &options->audience);
     return output_ready() != 0 || spoilt;
 }

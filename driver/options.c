@@ -99,7 +99,7 @@ static const struct {
     {LOOKUP, "lookup", "tells the nickname that an address is behind",
      "One of --vlan and --fgl is needed. Exit status 1 if the address is not known.\n"},
     {AGE, "age", "lets seconds pass for the learned records of a table", ""},
-    {CHECK, "check", "tells the lowest spoilt slot, and lists the records", "Exit status 1 if a slot is spoilt.\n"},
+    {CHECK, "check", "tells the lowest spoilt and the lowest free slot, and lists the records", "Exit status 1 if a slot is spoilt.\n"},
     {SET, "set", "makes a configured record in a table",
      "One of --vlan and --fgl is needed. The record takes the configured slot with that label and address, else the lowest\n"
      "with them, else the lowest free one; other learned records of label and address become free. Exit status 1 if there\n"

@@ -24,7 +24,7 @@
  *
  * - An area that a call writes (output, working area, and the table of receive, flush and age) may not
  *   be used by another thread until the call has returned. A table that threads share needs a lock of
- *   theirs: shared for lookup, spoilt and widen, exclusive for receive, flush and age.
+ *   theirs: shared for lookup, spoilt, free slot and widen, exclusive for receive, flush and age.
  * - A thread needs SHINGLEBAR_STACK_MAX bytes of stack for a call, beside its own. There is no heap.
  *
  * Bridge messages. A frame with 01-80-C2-00-00-00 to 0F or 21 in front answers 5 in receive, with Compact
@@ -151,6 +151,13 @@ enum shinglebar_spoilt_kind {
     SHINGLEBAR_SPOILT_NONE = 65
 };
 
+enum shinglebar_free_slot_kind {
+    /* shinglebar_slot, shinglebar_unpacked */
+    SHINGLEBAR_FREE_SLOT_SLOT = 64,
+    /* shinglebar_unpacked */
+    SHINGLEBAR_FREE_SLOT_NONE = 65
+};
+
 enum shinglebar_widen_kind {
     /* shinglebar_written_length */
     SHINGLEBAR_WIDEN_WRITTEN = 64
@@ -232,6 +239,10 @@ uint64_t shinglebar_age(uint16_t seconds, uint8_t *table, size_t table_len);
 
 /* The lowest spoilt slot, counted from 0, or none. */
 uint64_t shinglebar_spoilt(const uint8_t *table, size_t table_len);
+
+/* The lowest free slot, counted from 0, or none; and how many records were unpacked to find it: those of
+ * state 0 up to the slot found, that one included, or all of them. */
+uint64_t shinglebar_free_slot(const uint8_t *table, size_t table_len);
 
 /* Writes an older table, of records of 14 bytes, to the output area as one of records of 15: each record
  * with a zero byte after it. Answers 2 where the older table's length is 0, not a multiple of 14, or over
@@ -340,11 +351,18 @@ static inline uint16_t shinglebar_nickname(uint64_t result)
     return (uint16_t)((result >> 8) & 0xFFFFu);
 }
 
-/* Of SHINGLEBAR_SPOILT_SLOT: the slot, counted from 0. */
+/* Of SHINGLEBAR_SPOILT_SLOT and SHINGLEBAR_FREE_SLOT_SLOT: the slot, counted from 0. */
 static inline unsigned shinglebar_slot(uint64_t result)
 {
     return (unsigned)((result >> 8) & 0xFFFFu);
 }
+
+/* Of SHINGLEBAR_FREE_SLOT_SLOT and SHINGLEBAR_FREE_SLOT_NONE: the number of records unpacked. */
+static inline unsigned shinglebar_unpacked(uint64_t result)
+{
+    return (unsigned)((result >> 32) & 0xFFFFu);
+}
+
 
 /* What a refusal means, in words, or "no refusal". Takes a result or a refusal number. */
 static inline const char *shinglebar_refusal_string(uint64_t result)
@@ -441,7 +459,7 @@ static inline int shinglebar_pack_record(const struct shinglebar_record *record,
  *
  * A wrapper that a program does not use is not emitted and asks nothing of the archive. Where the
  * compiler is told to emit unused inline functions (-fkeep-inline-functions), a program that uses only
- * lookup, age and spoilt can define SHINGLEBAR_TABLE_ONLY to leave the other calls out.
+ * lookup, age, spoilt and free slot can define SHINGLEBAR_TABLE_ONLY to leave the other calls out.
  */
 
 static inline uint8_t *shinglebar_area(uint8_t *area, size_t length)
@@ -470,6 +488,11 @@ static inline uint64_t shinglebar_age_any(uint16_t seconds, uint8_t *table, size
 static inline uint64_t shinglebar_spoilt_any(const uint8_t *table, size_t table_len)
 {
     return shinglebar_spoilt(shinglebar_const_area(table, table_len), table_len);
+}
+
+static inline uint64_t shinglebar_free_slot_any(const uint8_t *table, size_t table_len)
+{
+    return shinglebar_free_slot(shinglebar_const_area(table, table_len), table_len);
 }
 
 static inline uint64_t shinglebar_widen_any(const uint8_t *old, size_t old_len, uint8_t *out, size_t out_len)

@@ -111,6 +111,16 @@ pub fn table(entries: &[Entry]) -> Vec<u8> {
     entries.iter().flat_map(Entry::bytes).collect()
 }
 
+/// A full table but for its last slot, which is free; the records before it, so many from slot 0 on, spoilt by state 0.
+pub fn last_free(entries: &[Entry], spoilt: usize) -> Vec<u8> {
+    let mut table = table(entries);
+    table[(SLOTS - 1) * RECORD..].fill(0);
+    for slot in table.chunks_exact_mut(RECORD).take(spoilt) {
+        slot[0] &= 0x3F;
+    }
+    table
+}
+
 /// The settings of the port, in the order of the calls.
 #[derive(Clone, Copy)]
 pub struct Settings {

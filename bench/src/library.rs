@@ -4,8 +4,8 @@
 //! A declaration that no row uses asks nothing of the archive.
 
 pub use shinglebar::exports::{
-    shinglebar_age, shinglebar_compact, shinglebar_expand, shinglebar_flush, shinglebar_lookup,
-    shinglebar_receive, shinglebar_send, shinglebar_spoilt,
+    shinglebar_age, shinglebar_compact, shinglebar_expand, shinglebar_flush, shinglebar_free_slot,
+    shinglebar_lookup, shinglebar_receive, shinglebar_send, shinglebar_spoilt,
 };
 
 pub type Lookup = unsafe extern "C" fn(
@@ -18,6 +18,7 @@ pub type Lookup = unsafe extern "C" fn(
 
 pub type Age = unsafe extern "C" fn(seconds: u16, table: *mut u8, table_len: usize) -> u64;
 
+/// Of spoilt and free slot.
 pub type Spoilt = unsafe extern "C" fn(table: *const u8, table_len: usize) -> u64;
 
 pub type Flush = unsafe extern "C" fn(

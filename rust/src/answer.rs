@@ -12,6 +12,8 @@
 //! | lookup | 64 found | 8..23 nickname |
 //! | spoilt | 64 slot | 8..23 slot |
 //! | lookup, spoilt | 65 none | |
+//! | free slot | 64 slot | 8..23 slot; 32..47 unpacked |
+//! | free slot | 65 none | 32..47 unpacked |
 //! | age | 64 done | |
 //!
 //! All other bits are 0. A refusal is its number alone.
@@ -142,6 +144,24 @@ pub enum Spoilt {
 pub struct Widened {
     /// The bytes written.
     pub length: usize,
+}
+
+/// The lowest free slot, with the number of records that the search unpacked: those whose state bits are 0, up to
+/// the slot that it found.
+#[derive(Clone, Copy, Debug, PartialEq, Eq, Hash)]
+pub enum FreeSlot {
+    /// Counted from 0.
+    Slot {
+        /// The lowest free slot.
+        slot: u16,
+        /// At least 1: the slot itself.
+        unpacked: u16,
+    },
+    /// No slot is free.
+    None {
+        /// All records whose state bits are 0.
+        unpacked: u16,
+    },
 }
 
 /// The answers of a call, without its refusals.
@@ -462,6 +482,29 @@ impl Answer for Spoilt {
         match *self {
             Spoilt::Slot(slot) => with_value(64, slot),
             Spoilt::None => 65,
+        }
+    }
+}
+
+impl Answer for FreeSlot {
+    const REFUSALS: &'static [Refusal] = &[Refusal::TableLength];
+
+    fn from_word(word: u64) -> Option<FreeSlot> {
+        let unpacked = (word >> 32) as u16;
+        match kind(word) {
+            64 => Some(FreeSlot::Slot {
+                slot: value(word, SLOTS)?,
+                unpacked,
+            }),
+            65 => Some(FreeSlot::None { unpacked }),
+            _ => None,
+        }
+    }
+
+    fn word(&self) -> u64 {
+        match *self {
+            FreeSlot::Slot { slot, unpacked } => with_value(64, slot) | u64::from(unpacked) << 32,
+            FreeSlot::None { unpacked } => 65 | u64::from(unpacked) << 32,
         }
     }
 }

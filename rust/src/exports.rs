@@ -88,5 +88,8 @@ extern "C" {
 
     pub fn shinglebar_spoilt(table: *const u8, table_len: usize) -> u64;
 
+    /// The lowest free slot, and the number of records unpacked.
+    pub fn shinglebar_free_slot(table: *const u8, table_len: usize) -> u64;
+
     pub fn shinglebar_widen(old: *const u8, old_len: usize, out: *mut u8, out_len: usize) -> u64;
 }

@@ -11,7 +11,7 @@
 //! | [`flush`] | carries out the payload of an Address Flush |
 //! | [`compact`], [`expand`] | convert between General and Compact Format |
 //! | [`send`] | chooses what to send to a far port |
-//! | [`lookup`], [`age`], [`spoilt`] | the address table |
+//! | [`lookup`], [`age`], [`spoilt`], [`free_slot`] | the address table |
 //! | [`widen`] | makes an older table, of records of 14 bytes, one of 15 |
 //!
 //! Each takes any bytes. A [`Refusal`] has changed nothing; an area keeps its bytes behind what a
@@ -62,8 +62,8 @@ mod refusal;
 mod values;
 
 pub use answer::{
-    decode, encode, Aged, Answer, Compacted, Expanded, Flushed, Found, Learning, Received, Sent,
-    Spoilt, UnknownWord, Widened,
+    decode, encode, Aged, Answer, Compacted, Expanded, Flushed, Found, FreeSlot, Learning, Received,
+    Sent, Spoilt, UnknownWord, Widened,
 };
 pub use refusal::Refusal;
 pub use values::{Label, Mac, Outer, Settings};
@@ -234,6 +234,24 @@ pub fn age(seconds: u16, table: &mut [u8]) -> Result<Aged, Refusal> {
 #[inline]
 pub fn spoilt(table: &[u8]) -> Result<Spoilt, Refusal> {
     answered(raw::spoilt(table))
+}
+
+/// The lowest free slot, with the number of records that the search unpacked: those of state 0 up to it.
+///
+/// ```
+/// use shinglebar::{FreeSlot, Refusal, RECORD_LENGTH};
+///
+/// // Slot 0 has state 0 with another bit set, slot 1 is free.
+/// let mut table = [0; 2 * RECORD_LENGTH];
+/// table[1] = 1;
+/// assert_eq!(shinglebar::free_slot(&table), Ok(FreeSlot::Slot { slot: 1, unpacked: 2 }));
+/// let full = &table[..RECORD_LENGTH];
+/// assert_eq!(shinglebar::free_slot(full), Ok(FreeSlot::None { unpacked: 1 }));
+/// assert_eq!(shinglebar::free_slot(&table[1..]), Err(Refusal::TableLength));
+/// ```
+#[inline]
+pub fn free_slot(table: &[u8]) -> Result<FreeSlot, Refusal> {
+    answered(raw::free_slot(table))
 }
 
 /// Writes an older table, of records of 14 bytes, as one of records of 15: each record with a zero byte after it.

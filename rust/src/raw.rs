@@ -169,3 +169,10 @@ pub fn spoilt(table: &[u8]) -> u64 {
     // SAFETY: a slice: not null, as long as said, and only read.
     unsafe { exports::shinglebar_spoilt(table.as_ptr(), table.len()) }
 }
+
+/// Names the lowest free slot.
+#[inline]
+pub fn free_slot(table: &[u8]) -> u64 {
+    // SAFETY: a slice: not null, as long as said, and only read.
+    unsafe { exports::shinglebar_free_slot(table.as_ptr(), table.len()) }
+}

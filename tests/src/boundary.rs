@@ -4,8 +4,8 @@
 //! word as it is. The package must know the word: it is decoded to the answer, and packed again.
 
 use shinglebar::{
-    decode, encode, raw, Aged, Answer, Compacted, Expanded, Flushed, Found, Received, Sent, Spoilt,
-    Widened,
+    decode, encode, raw, Aged, Answer, Compacted, Expanded, Flushed, Found, FreeSlot, Received, Sent,
+    Spoilt, Widened,
 };
 
 use crate::lend::Lend;
@@ -113,4 +113,8 @@ pub fn widen(lender: &mut impl Lend, old: &[u8], out: &mut [u8]) -> u64 {
         [("output area", out)],
         |old, [out]| raw::widen(old, out),
     ))
+}
+
+pub fn free_slot(lender: &mut impl Lend, table: &[u8]) -> u64 {
+    known::<FreeSlot>(lender.lend(("table", table), [], |table, []| raw::free_slot(table)))
 }

@@ -69,6 +69,18 @@ pub fn spoilt(lender: &mut impl Lend, table: &[u8]) -> u64 {
     paper
 }
 
+pub fn free_slot(lender: &mut impl Lend, table: &[u8]) -> u64 {
+    let library = boundary::free_slot(lender, table);
+    let paper = reference::free_slot(table);
+    assert!(
+        library == paper,
+        "free slot: {}table {}",
+        words(library, paper),
+        hex(table)
+    );
+    paper
+}
+
 pub fn flush(lender: &mut impl Lend, ingress: u32, payload: &[u8], table: &mut [u8]) -> u64 {
     let given = table.to_vec();
     let mut after = table.to_vec();

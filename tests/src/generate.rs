@@ -251,7 +251,7 @@ impl Raw {
 const UNUSED: usize = 16 - RECORD;
 
 /// A good record of the pool, learned or configured.
-fn good_record(random: &mut Random, pool: &Pool) -> Raw {
+pub fn good_record(random: &mut Random, pool: &Pool) -> Raw {
     let kind = random.below(2) as u8;
     Raw {
         state: if random.one_in(4) { 2 } else { 1 },

@@ -1723,7 +1723,7 @@ fn lookup_age_and_check_answer_of_a_table_file() {
     assert!(bytes(&folder.join("table")) == table);
 
     let good_check = good(&run_in(&folder, &["check", "--table", "table"]));
-    assert!(good_check.starts_with("no slot is spoilt\n"));
+    assert!(good_check.starts_with("no slot is spoilt\nlowest free slot: 0\n"));
     // state 3; and a learned record with a group address
     table[2 * RECORD] = 0xC0;
     table.extend(record(true, vlan(1), 0x0300_0000_0001, 0, 9));
@@ -1733,6 +1733,7 @@ fn lookup_age_and_check_answer_of_a_table_file() {
     assert_eq!(
         text(&output.stdout),
         "lowest spoilt slot: 2\n\
+         lowest free slot: 0\n\
          table: 5 slots, 1 learned, 1 configured, 2 spoilt, 1 free\n  \
          slot 1: configured FGL 70000 02-00-00-00-00-02 behind 1234, confidence 7, 0 s\n  \
          slot 2: spoilt C0 00 00 00 00 00 00 00 00 00 00 00 00 00 00\n  \

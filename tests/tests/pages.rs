@@ -179,10 +179,10 @@ fn send_touches_only_what_it_is_lent() {
 }
 
 #[test]
-fn lookup_age_and_spoilt_touch_only_what_they_are_lent() {
+fn calls_on_the_table_alone_touch_only_what_they_are_lent() {
     let mut both = Pages::both();
     run::cases(
-        "lookup_age_and_spoilt_touch_only_what_they_are_lent",
+        "calls_on_the_table_alone_touch_only_what_they_are_lent",
         4,
         run::LOOKUP,
         &[],
@@ -195,6 +195,7 @@ fn lookup_age_and_spoilt_touch_only_what_they_are_lent() {
                 tally.word(compare::lookup(pages, kind, label, mac, &table));
                 tally.word(compare::age(pages, seconds, &mut table.clone()));
                 tally.word(compare::spoilt(pages, &table));
+                tally.word(compare::free_slot(pages, &table));
             }
         },
     );

@@ -22,4 +22,4 @@ mod table;
 pub use convert::{compact, expand, send};
 pub use flush::flush;
 pub use receive::receive;
-pub use table::{age, lookup, spoilt};
+pub use table::{age, free_slot, lookup, spoilt};

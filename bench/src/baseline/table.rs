@@ -144,3 +144,27 @@ pub unsafe extern "C" fn spoilt(table: *const u8, table_len: usize) -> u64 {
         None => NONE,
     }
 }
+
+/// The lowest free slot, and how many of state 0 were unpacked up to it.
+#[inline(never)]
+pub unsafe extern "C" fn free_slot(table: *const u8, table_len: usize) -> u64 {
+    let Some(slots) = slots(table, table_len) else {
+        return refusal::TABLE_LENGTH;
+    };
+    let state_0 = |slot: &Slot| slot[0] < 0x40;
+    let mut unpacked = 0;
+    for (number, round) in slots.chunks(ROUND).enumerate() {
+        if !round.iter().any(state_0) {
+            continue;
+        }
+        for (place, slot) in round.iter().enumerate() {
+            if state_0(slot) {
+                unpacked += 1;
+                if is_free(slot) {
+                    return SLOT | ((number * ROUND + place) as u64) << 8 | unpacked << 32;
+                }
+            }
+        }
+    }
+    NONE | unpacked << 32
+}

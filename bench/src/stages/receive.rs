@@ -3,7 +3,7 @@
 use crate::baseline;
 use crate::buffer::Buffer;
 use crate::inputs::{
-    entries, mac, table, Entry, Format, Frame, Label, Settings, DEFAULT_SECONDS, LEARNED, RECORD,
+    entries, last_free, mac, table, Entry, Format, Frame, Label, Settings, DEFAULT_SECONDS, LEARNED, RECORD,
     SETTINGS, SIZES, SLOTS,
 };
 use crate::library::{self, Receive};
@@ -33,7 +33,7 @@ struct Rows<'a> {
     first: Vec<u8>,
     last: Vec<u8>,
     full: Vec<u8>,
-    last_free: Vec<u8>,
+    last_free: [Vec<u8>; 3],
 }
 
 const FORMATS: [(&str, Format); 2] = [("General", Format::General), ("Compact", Format::Compact)];
@@ -69,8 +69,7 @@ impl Rows<'_> {
             table(&entries)
         };
         let full = table(&others);
-        let mut last_free = full.clone();
-        last_free[(SLOTS - 1) * RECORD..].fill(0);
+        let last_free = [0, 1, SLOTS - 1].map(|spoilt| last_free(&others, spoilt));
         Rows {
             report,
             frame: Frame::from(&source),
@@ -93,7 +92,17 @@ impl Rows<'_> {
         );
         deliver(
             "learning: learn into the last free of 4,096",
-            &self.last_free,
+            &self.last_free[0],
+            Learning::Learned,
+        );
+        deliver(
+            "learning: learn into the last free of 4,096, one spoilt of state 0",
+            &self.last_free[1],
+            Learning::Learned,
+        );
+        deliver(
+            "learning: learn into the last free of 4,096, 4,095 spoilt of state 0",
+            &self.last_free[2],
             Learning::Learned,
         );
         deliver("learning: full", &self.full, Learning::Full);

@@ -1,7 +1,7 @@
 //! Lookup, ageing, the lowest spoilt slot.
 
 use crate::baseline;
-use crate::inputs::{entries, mac, table, Entry, CONFIGURED, SIZES, SLOTS};
+use crate::inputs::{entries, last_free, mac, table, Entry, CONFIGURED, SIZES, SLOTS};
 use crate::library::{self, Age, Lookup, Spoilt};
 use crate::measure::{Areas, Pair};
 use crate::random::Random;
@@ -22,6 +22,18 @@ const SPOILT: Pair<Spoilt> = Pair {
     baseline: baseline::spoilt,
 };
 
+const FREE_SLOT: Pair<Spoilt> = Pair {
+    ours: library::shinglebar_free_slot,
+    baseline: baseline::free_slot,
+};
+
+/// How many spoilt records of state 0 stand before the free slot.
+const FREE_ROWS: [(&str, usize); 3] = [
+    ("free slot: the last of 4,096", 0),
+    ("free slot: the last of 4,096, one spoilt of state 0 before it", 1),
+    ("free slot: the last of 4,096, 4,095 spoilt of state 0 before it", SLOTS - 1),
+];
+
 const DONE: u64 = 64;
 const NONE: u64 = 65;
 
@@ -37,9 +49,29 @@ pub fn run(report: &Report) {
         // SAFETY: the area is as long as said.
         |spoilt, lent| unsafe { spoilt(lent.table.as_ptr(), lent.table.len()) },
     );
+    free_rows(report, &entries);
     for slots in SIZES {
         growth(report, &entries[..slots]);
     }
+}
+
+/// The last slot free, with some spoilt records of state 0 before it; and none free.
+fn free_rows(report: &Report, entries: &[Entry]) {
+    let row = |name: &str, table: &[u8], expected: u64| {
+        report.row(
+            name,
+            FREE_SLOT,
+            Areas::new(table, &[]),
+            |word| word == expected,
+            // SAFETY: the area is as long as said.
+            |free_slot, lent| unsafe { free_slot(lent.table.as_ptr(), lent.table.len()) },
+        );
+    };
+    let last = (SLOTS as u64 - 1) << 8 | 64;
+    for (name, spoilt) in FREE_ROWS {
+        row(name, &last_free(entries, spoilt), last | (spoilt as u64 + 1) << 32);
+    }
+    row("free slot: none in 4,096", &table(entries), NONE);
 }
 
 fn lookup_rows(report: &Report, entries: &[Entry]) {

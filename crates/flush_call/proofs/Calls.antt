@@ -14,7 +14,8 @@ use Rattle.numbers.specs.Refusals.{payload-corrupt, table-length-bad}
 use Rattle.numbers.specs.After.{OnTable, onTable}
 use Rattle.numbers.proofs.Truth.{both-true, between-is}
 use Rattle.numbers.proofs.Answers.{got-got, then-got}
-use Rattle.table.specs.Slots.{slotBytes, mostSlots, tableGood, slotsOf, slotAt, countSlots}
+use Rattle.table.specs.Slots.{slotBytes, mostSlots, tableGood, slotsOf, countSlots}
+use Rattle.table.proofs.Slots.{count-few}
 use Rattle.flush.specs.Payload.{everyType, nickBytes, blockCount, behind, blockBytes, piecesOf, made, payloadOf}
 use Rattle.flush.specs.Flush.{slotMeant, clearedBy, clearing, flushed}
 use Rattle.flush.specs.Validity.{Valid}
@@ -105,26 +106,13 @@ module _ (t u : List ℕ) (r : Cleared) where
 
 -- ---- the count
 
-pick-few : (b : Bool) → pick b 1 0 ≤ 1
-unfolding pick
-pick-few true = omega arith
-pick-few false = omega arith
-
-count-few : (meant : List ℕ → Bool) (t : List ℕ) (n : ℕ) → countSlots meant 0 n t ≤ n
-unfolding countSlots
-count-few meant t zero = omega arith
-count-few meant t (suc n) =
-    let a = count-few meant t n in
-    let b = pick-few (meant (slotAt (0 + n) t)) in
-    omega arith
-
 -- no more are cleared than there are slots
 pub clearing-few : (ingress : ℕ) (l t : List ℕ) (c : OnTable ℕ) → clearing everyType ingress l t ≡ got c → c .answer ≤ slotsOf t
 unfolding clearing clearedBy
 clearing-few ingress l t c h =
     let (p, q, e) = then-got _ _ _ h in
     let same : countSlots (slotMeant everyType p ingress) 0 (slotsOf t) t ≡ c .answer = ap (λ (x : OnTable ℕ). x .answer) (got-got _ _ e) in
-    let few = count-few (slotMeant everyType p ingress) t (slotsOf t) in
+    let few = count-few (slotMeant everyType p ingress) t 0 (slotsOf t) in
     omega arith
 
 pub good-slots : (t : List ℕ) → tableGood t ≡ true → slotsOf t ≤ mostSlots

@@ -3,10 +3,11 @@
 ghost use Prim.Native.Nat.{_^_, _<_, _≤_};
 ghost use mathlib.Core.Path.{_≡_};
 ghost use Rattle.numbers.specs.After.{onTable, tableAs, onArea, areaAs, onBoth, bothAs};
+ghost use Rattle.table.specs.FreeSlot.{freeAnswered};
 ghost use Rattle.table.specs.Record.{labelNumber};
 ghost use Rattle.table.specs.Table.{lookedUp, aged, lowestSpoilt};
 ghost use Rattle.table.specs.Widening.{widened};
-ghost use Rattle.table.specs.Words.{lookupWord, ageWord, spoiltWord, widenWord, learningNumber};
+ghost use Rattle.table.specs.Words.{lookupWord, ageWord, spoiltWord, freeWord, widenWord, learningNumber};
 ghost use Rattle.flush.specs.Flush.{flushed};
 ghost use Rattle.flush.specs.Words.{flushWord};
 ghost use Rattle.receive.specs.Receive.{received};
@@ -24,6 +25,7 @@ use flush::FlushAnswer;
 use frame::Settings;
 use receive::ReadAnswer;
 use table::AgeAnswer;
+use table::FreeAnswer;
 use table::Label;
 use table::Learning;
 use table::LookupAnswer;
@@ -78,6 +80,26 @@ pub extern "C" fn shinglebar_spoilt(table: &[u8]) -> u64
     ensures { λ r. ⌜ r ≡ spoiltWord (lowestSpoilt (now (table .entry))) ⌝ }
 {
     spoilt_word(table_search::lowest_spoilt(table))
+}
+
+fn free_word(a: FreeAnswer) -> u64
+    ensures { λ r. ⌜ r ≡ freeWord a ⌝ }
+{
+    match a {
+        FreeAnswer::Refused(n) => n as u64,
+        FreeAnswer::Lowest {
+            slot,
+            unpacked,
+        } => 64 + slot as u64 * 0x100 + unpacked as u64 * 0x1_0000_0000,
+        FreeAnswer::Full(unpacked) => 65 + unpacked as u64 * 0x1_0000_0000,
+    }
+}
+
+#[no_mangle]
+pub extern "C" fn shinglebar_free_slot(table: &[u8]) -> u64
+    ensures { λ r. ⌜ r ≡ freeWord (freeAnswered (now (table .entry))) ⌝ }
+{
+    free_word(table_search::free_slot(table))
 }
 
 fn widen_word(a: WidenAnswer) -> u64

@@ -20,6 +20,8 @@ use Rattle.table.specs.declared.Label.the-variants.{Vlan, Fine}
 use Rattle.table.specs.declared.Entry.{Entry}
 use Rattle.table.specs.declared.Slot.{Slot}
 use Rattle.table.specs.declared.Slot.the-variants.{Free, Spoilt, Learned, Configured}
+use Rattle.table.specs.FreeSlot.{freeSearch}
+use Rattle.table.specs.declared.FreeSearch.{FreeSearch}
 use Rattle.table.specs.declared.Place.{Place}
 use Rattle.table.specs.declared.Place.the-variants.{At, Nowhere}
 use Rattle.table.specs.declared.Learning.{Learning}
@@ -38,16 +40,20 @@ use Rattle.table_learning.specs.Judging.{roomIf, Judges}
 
 -- ---- filling a free slot
 
-module _ (t : List ℕ) (e : Entry) (p : Place) (place : p ≡ lowest freeSlot t) where
-  pub free-filled : (k : ℕ) → p ≡ At k → (u : List ℕ) → u ≡ putEntry k e t → onTable learning.Learned u ≡ intoFree (lowest freeSlot t) e t
+module _ (t : List ℕ) (e : Entry) (s : FreeSearch) (found : s ≡ freeSearch t) where
+  place : s .place ≡ lowest freeSlot t
+  unfolding freeSearch
+  place = ap (λ (x : FreeSearch). x .place) found
+
+  pub free-filled : (k : ℕ) → s .place ≡ At k → (u : List ℕ) → u ≡ putEntry k e t → onTable learning.Learned u ≡ intoFree (lowest freeSlot t) e t
   unfolding intoFree
   free-filled k h u q = rw (← place, h, q)
 
-  pub free-full : p ≡ Nowhere → onTable learning.Full t ≡ intoFree (lowest freeSlot t) e t
+  pub free-full : s .place ≡ Nowhere → onTable learning.Full t ≡ intoFree (lowest freeSlot t) e t
   unfolding intoFree
   free-full h = rw (← place, h)
 
-  pub free-within : (k : ℕ) → p ≡ At k → slotBytes * k + slotBytes ≤ length t
+  pub free-within : (k : ℕ) → s .place ≡ At k → slotBytes * k + slotBytes ≤ length t
   free-within k h = let w = lowest-within freeSlot t k (sym place ∙ h) in omega arith
 
 -- ---- clearing

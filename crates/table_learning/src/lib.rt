@@ -66,7 +66,9 @@ fn into_free(e: Entry, table: &mut [u8]) -> Learning
     requires { ⌜ Fits e ⌝ }
     ensures { λ r. ⌜ onTable r (now (table .exit)) ≡ intoFree (lowest freeSlot (now (table .entry))) e (now (table .entry)) ⌝ }
 {
-    match table_search::find_free(table) {
+    let search = table_search::find_free(table);
+    let place = search.place;
+    match place {
         Place::At(k) => {
             put(e, k, table);
             Learning::Learned

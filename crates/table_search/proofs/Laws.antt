@@ -5,7 +5,8 @@ use Prim.Native.Nat.{ℕ, zero, suc, _+_, _-_, _*_, _%_, _^_, _<_, _≤_}
 use mathlib.Core.Bool.{Bool, true, false, not}
 use mathlib.Core.List.{List}
 use mathlib.Core.Path.{_≡_, refl, sym, ap, _∙_}
-use native.Mathlib.Nat.{zero-add}
+use native.Mathlib.Nat.{zero-add, add-zero}
+use native.Mathlib.Numerals.{add-one}
 use native.Mathlib.Decide.{ℕ-discrete}
 use native.Mathlib.Omega.{arith}
 use lib.Dec.{eqb}
@@ -13,17 +14,21 @@ use lib.ListN.{drop, length}
 use borrow.Author.Tests.{ne-eqb}
 use Rattle.numbers.specs.Tests.{pick, between}
 use Rattle.numbers.specs.Result.{check, settled}
-use Rattle.numbers.proofs.Truth.{not-true-false, both-true, between-is}
+use Rattle.numbers.proofs.Truth.{not-true-false, both-true, between-is, pick-false}
+use Rattle.table.specs.FreeSlot.{stateFree, slotsSearched, slotsUnpacked, freeSearch, freeFound, freeAnswered}
 use Rattle.table.specs.Learning.{freeSlot}
-use Rattle.table.specs.Record.{recordOf, nicknameOf, vlanKind, fineKind, labelFrom}
-use Rattle.table.specs.Slots.{slotBytes, mostSlots, tableGood, firstSlot, lowest}
+use Rattle.table.specs.Record.{recordOf, stateOf, nicknameOf, vlanKind, fineKind, labelFrom}
+use Rattle.table.specs.Slots.{slotBytes, mostSlots, tableGood, slotsOf, countSlots, firstSlot, lowest}
 use Rattle.table.specs.Table.{holds, placeOf, nicknameAt, lookedUp, spoiltSlot, spoiltAt, lowestSpoilt}
 use Rattle.table.specs.declared.Label.the-variants.{Vlan, Fine}
 use Rattle.table.specs.declared.Place.{Place}
 use Rattle.table.specs.declared.Place.the-variants.{At, Nowhere}
+use Rattle.table.specs.declared.FreeSearch.{FreeSearch}
+use Rattle.table.specs.declared.FreeAnswer.the-variants as free
 use Rattle.table.specs.declared.LookupAnswer.the-variants as lookup
 use Rattle.table.specs.declared.SpoiltAnswer.the-variants as spoilt
-use Rattle.table.proofs.Slots.{Local, search-next, lowest-none, lowest-within}
+use Rattle.table.proofs.Slots.{Local, search-next, search-hit, search-end, lowest-none, lowest-within, count-few, count-next}
+use Rattle.table.proofs.FreeSlot.{state-free-near, state-other}
 use Rattle.table.proofs.Contents.{record-near, holds-near, free-near, other-than-free, holds-fits}
 use Rattle.table_fields.specs.Keys.{roundKeyOf}
 use Rattle.table_pairs.specs.Pairs.{pairGood}
@@ -53,8 +58,62 @@ pair-nowhere k x m t hk g e h =
     true-not-false : _≡_ {A = Bool} true false → ⊥
     true-not-false p = let z : _≡_ {A = ℕ} 0 1 = cc in omega arith
 
-pub free-past : (t : List ℕ) (i j : ℕ) → i ≤ j → Passed (InState 0) i j t → firstSlot freeSlot i t ≡ Nowhere → firstSlot freeSlot j t ≡ Nowhere
+free-past : (t : List ℕ) (i j : ℕ) → i ≤ j → Passed (InState 0) i j t → firstSlot freeSlot i t ≡ Nowhere → firstSlot freeSlot j t ≡ Nowhere
 free-past = past freeSlot free-near (InState 0) other-than-free
+
+-- slots that a round excludes are not counted
+count-past : (p : List ℕ → Bool) → Local p → (P : List ℕ → Type 0) → ((r : List ℕ) → (P r → ⊥) → p r ≡ false)
+    → (t : List ℕ) (i j : ℕ) → i ≤ j → Passed P i j t → countSlots p 0 j t ≡ countSlots p 0 i t
+count-past p near P other t i j h passed = let far : j - i + i ≡ j = omega arith in rw far at (go (j - i) (omega arith))
+  where
+    go : (d : ℕ) → d + i ≤ j → countSlots p 0 (d + i) t ≡ countSlots p 0 i t
+    go zero b = rw (zero-add i)
+    go (suc d) b =
+        let next : suc d + i ≡ d + i + 1 = omega arith in
+        let skips : _≡_ {A = ℕ} (pick (p (drop (slotBytes * (d + i)) t)) 1 0) 0 = pick-false _ 1 0 (other (drop (slotBytes * (d + i)) t) (passed (d + i) (omega arith) (omega arith))) in
+        let ih = go d (omega arith) in
+        rw next (count-next p near t (d + i) ∙ ap (λ (n : ℕ). countSlots p 0 (d + i) t + n) skips ∙ add-zero _ ∙ ih)
+
+-- ---- the search for a free slot
+
+-- one slot, by its state: in another state it is neither free nor unpacked, and one of state 0 is unpacked
+module _ (r : List ℕ) (s : ℕ) (state : s ≡ stateOf (recordOf r)) (n : ℕ) where
+  pub step-other : (s ≡ 0 → ⊥) → (false ≡ freeSlot r) × (n ≡ n + pick (stateFree r) 1 0)
+  unfolding pick
+  step-other h =
+      let differs : stateOf (recordOf r) ≡ 0 → ⊥ = λ e. h (state ∙ e) in
+      (other-than-free r differs, rw (state-other r differs) (omega arith))
+
+  pub step-counted : s ≡ 0 → n + 1 ≡ n + pick (stateFree r) 1 0
+  unfolding stateFree pick
+  step-counted h = rw (sym state ∙ h)
+
+module _ (t : List ℕ) (i u : ℕ) (counted : u ≡ countSlots stateFree 0 i t) (so-far : firstSlot freeSlot i t ≡ Nowhere)
+    (free : Bool) (here : free ≡ freeSlot (drop (slotBytes * i) t)) (v : ℕ) (more : v ≡ u + pick (stateFree (drop (slotBytes * i) t)) 1 0) where
+  -- the slots up to this one
+  count-here : v ≡ countSlots stateFree 0 (i + 1) t
+  count-here = more ∙ ap (λ (n : ℕ). n + pick (stateFree (drop (slotBytes * i) t)) 1 0) counted ∙ sym (count-next stateFree state-free-near t i)
+
+  -- found
+  pub free-hit : i < slotsOf t → free ≡ true → record { place = At i; unpacked = v } ≡ freeSearch t
+  unfolding freeSearch slotsUnpacked slotsSearched
+  free-hit h hit =
+      let found = search-hit freeSlot free-near t i so-far free here h hit in
+      rw (← found, ← add-one i, ← count-here)
+
+  -- not found: the rounds pass to slot j
+  pub free-on : free ≡ false → (j : ℕ) → i + 1 ≤ j → Passed (InState 0) (i + 1) j t → (firstSlot freeSlot j t ≡ Nowhere) × (v ≡ countSlots stateFree 0 j t)
+  free-on miss j h passed =
+      (free-past t (i + 1) j h passed (search-next freeSlot free-near t i so-far free here miss)
+      , count-here ∙ sym (count-past stateFree state-free-near (InState 0) state-other t (i + 1) j h passed))
+
+-- at the end
+pub free-end : (t : List ℕ) (i u : ℕ) → u ≡ countSlots stateFree 0 i t → firstSlot freeSlot i t ≡ Nowhere → i ≤ slotsOf t → slotsOf t ≤ i → record { place = Nowhere; unpacked = u } ≡ freeSearch t
+unfolding freeSearch slotsUnpacked slotsSearched
+free-end t i u counted so-far a b =
+    let none = search-end freeSlot free-near t i a b so-far in
+    let done : i ≡ slotsOf t = omega arith in
+    rw (← none, ← done, ← counted)
 
 -- ---- a lookup of any numbers
 
@@ -74,6 +133,14 @@ pub too-large : (k x m : ℕ) (t : List ℕ) → k ≤ 1 → ((x < 2 ^ 24) × (m
 too-large k x m t hk h =
     lowest-none (holds (labelFrom k x) m) t (λ r. not-true-false _ (λ e. h (holds-fits k x m r hk e)))
     ∙ place-from k x m t hk
+
+-- the slots of a good table are few
+good-few : (t : List ℕ) → tableGood t ≡ true → slotsOf t ≤ mostSlots
+unfolding tableGood
+good-few t ok =
+    let b = both-true (between 1 (slotBytes * mostSlots) (length t)) (eqb (length t % slotBytes) 0) ok in
+    let c = between-is 1 (slotBytes * mostSlots) (length t) (b .0) in
+    omega arith
 
 -- ---- the outcomes of a lookup
 
@@ -103,6 +170,42 @@ module _ (k x m : ℕ) (t : List ℕ) (g : Bool) (good : g ≡ tableGood t) wher
     unfolding lookedUp settled check nicknameAt
     lookup-none e = rw (← good, ok, ← place, e)
 
+-- ---- the outcomes of the search for a free slot, as a call
+
+module _ (t : List ℕ) (g : Bool) (good : g ≡ tableGood t) where
+  pub free-refused : g ≡ false → free.Refused 2 ≡ freeAnswered t
+  unfolding freeAnswered settled check
+  free-refused h = rw (← good, h)
+
+  module _ (ok : g ≡ true) (s : FreeSearch) (search : s ≡ freeSearch t) where
+    pub free-found : (k : ℕ) → s .place ≡ At k → free.Lowest k (s .unpacked) ≡ freeAnswered t
+    unfolding freeAnswered settled check freeFound
+    free-found k e = rw (← good, ok, ← search, e)
+
+    pub free-full : s .place ≡ Nowhere → free.Full (s .unpacked) ≡ freeAnswered t
+    unfolding freeAnswered settled check freeFound
+    free-full e = rw (← good, ok, ← search, e)
+
+    -- the slots of a good table are few
+    pub unpacked-fits : s .unpacked ≤ mostSlots
+    unfolding freeSearch slotsUnpacked slotsSearched
+    unpacked-fits =
+        let few = good-few t (sym good ∙ ok) in
+        let n = count-few stateFree t 0 (slotsSearched (lowest freeSlot t) (slotsOf t)) in
+        let m = searched-few (lowest freeSlot t) (lowest-within freeSlot t) in
+        rw search (omega arith)
+      where
+        searched-few : (p : Place) → ((k : ℕ) → p ≡ At k → k < slotsOf t) → slotsSearched p (slotsOf t) ≤ slotsOf t
+        searched-few (At k) h = let l = h k refl in omega arith
+        searched-few Nowhere h = omega arith
+
+    pub slot-fits : (k : ℕ) → s .place ≡ At k → k < mostSlots
+    unfolding freeSearch
+    slot-fits k e =
+        let few = good-few t (sym good ∙ ok) in
+        let l = lowest-within freeSlot t k (ap (λ (x : FreeSearch). x .place) (sym search) ∙ e) in
+        omega arith
+
 -- ---- the outcomes of the search for a spoilt slot
 
 module _ (t : List ℕ) (g : Bool) (good : g ≡ tableGood t) where
@@ -119,11 +222,8 @@ module _ (t : List ℕ) (g : Bool) (good : g ≡ tableGood t) where
     unfolding lowestSpoilt settled check spoiltAt
     spoilt-none e = rw (← good, ok, ← place, e)
 
-    -- the slots of a good table are few
     pub spoilt-fits : (j : ℕ) → p ≡ At j → j < mostSlots
-    unfolding tableGood
     spoilt-fits j e =
         let w = lowest-within spoiltSlot t j (sym place ∙ e) in
-        let b = both-true (between 1 (slotBytes * mostSlots) (length t)) (eqb (length t % slotBytes) 0) (sym good ∙ ok) in
-        let c = between-is 1 (slotBytes * mostSlots) (length t) (b .0) in
+        let few = good-few t (sym good ∙ ok) in
         omega arith

@@ -44,6 +44,12 @@ pub struct Aged;
 /// The lowest spoilt slot, if any.
 pub struct SpoiltSlot(pub Option<usize>);
 
+/// The lowest free slot, if any, and the number of records unpacked.
+pub struct FreeSlot {
+    pub slot: Option<usize>,
+    pub unpacked: usize,
+}
+
 /// "Otherwise the low byte is the kind, the other bits the values, unused bits 0."
 pub trait Pack {
     fn pack(&self) -> u64;
@@ -129,5 +135,15 @@ impl Pack for SpoiltSlot {
             Some(slot) => kind_and_value(64, slot as u64),
             None => 65,
         }
+    }
+}
+
+impl Pack for FreeSlot {
+    fn pack(&self) -> u64 {
+        let found = match self.slot {
+            Some(slot) => kind_and_value(64, slot as u64),
+            None => 65,
+        };
+        found | (self.unpacked as u64) << 32
     }
 }

@@ -23,7 +23,7 @@ pub use receive::{receive, receive_homes, receive_with};
 pub use record::{read, write, Entry, Label, Record, OLD_RECORD, RECORD, SLOTS, TABLE};
 pub use refusal::Refusal;
 pub use settings::{Settings, DEFAULT_LIFE, OLD_LIFE};
-pub use table::{age, lookup, spoilt};
+pub use table::{age, free_slot, lookup, spoilt};
 
 /// "Numbers are most significant byte first."
 fn number(bytes: &[u8]) -> u64 {

@@ -1,6 +1,6 @@
 //! The address table: lookup, ageing, the lowest spoilt slot. Learning stands in homes.rs.
 
-use super::answer::{word, Aged, Found, SpoiltSlot};
+use super::answer::{word, Aged, Found, FreeSlot, SpoiltSlot};
 use super::record::{read, write, Entry, Label, Record, RECORD, TABLE};
 use super::refusal::Refusal;
 
@@ -60,6 +60,21 @@ pub fn age(seconds: u16, table: &mut [u8]) -> u64 {
             }
         }
         Aged
+    }))
+}
+
+/// 2026-04: "gives the lowest free slot, or none exactly if none is free, and the number unpacked: the
+/// slots with state 0 up to the one found, or all such". The state is the record's first two bits.
+pub fn free_slot(table: &[u8]) -> u64 {
+    word(check_length(table).map(|()| {
+        let slot = slots(table).position(|record| record == Record::Free);
+        let looked_at = slot.map_or(table.len() / RECORD, |slot| slot + 1);
+        let unpacked = table
+            .chunks_exact(RECORD)
+            .take(looked_at)
+            .filter(|bytes| bytes[0] >> 6 == 0)
+            .count();
+        FreeSlot { slot, unpacked }
     }))
 }
 

@@ -1,44 +1,51 @@
--- `table_search::find_free` meets its contract. The invariant: none of the first `j` slots is free.
+-- `table_search::find_free` meets its contract. The invariant: none of the first `j` slots is free, and those of state 0 are counted.
 -- Assumes nothing.
 use Prim.Native.Nat.{_≤_, _-_, _+_}
 use mathlib.Core.Path.{_≡_, refl}
 use native.Mathlib.Omega.{arith}
-use Rattle.table.specs.Slots.{firstSlot}
-use Rattle.table.specs.declared.Place.the-variants.{Nowhere}
-use Rattle.table.proofs.Slots.{search-next, search-hit, search-end}
+use Rattle.table.specs.Slots.{firstSlot, countSlots}
+use Rattle.table.specs.FreeSlot.{stateFree}
 use Rattle.table.specs.Learning.{freeSlot}
-use Rattle.table.proofs.Contents.{free-near}
-use Rattle.table_search.proofs.Laws.{free-past}
+use Rattle.table.specs.declared.Place.the-variants.{Nowhere}
+use Rattle.table.proofs.Slots.{count-few}
+use Rattle.table_search.proofs.Laws.{free-hit, free-on, free-end}
 use borrow.Author.Needs.{needs}
 use Rattle.table_search.proofs.find_free.Statement.{statement}
 use Rattle.table_search.proofs.find_free.Tie as tie
 
 abbrev Inv-loop : tie.InvT-loop
-Inv-loop t n j₀ j = (j ≤ n) × (firstSlot (freeSlot) j t ≡ Nowhere)
+Inv-loop t n j₀ unpacked₀ j unpacked = (j ≤ n) × ((unpacked ≡ countSlots stateFree 0 j t) × (firstSlot freeSlot j t ≡ Nowhere))
 
 abbrev μ-loop : tie.MeasureT-loop
-μ-loop t n j₀ j = n - j
+μ-loop t n j₀ unpacked₀ j unpacked = n - j
 
 loop-holds : tie.Need-loop-holds Inv-loop μ-loop
-unfolding firstSlot
-loop-holds c = (search needs, refl)
+unfolding firstSlot countSlots
+loop-holds c = (search needs, (refl, refl))
+
+free-step-requires : tie.Need-free-step-requires Inv-loop μ-loop
+free-step-requires c κs =
+    let few = count-few stateFree (c .before .before .before .args .t .now) 0 (c .before .loop .j) in
+    (search needs, omega (arith, few))
 
 returns : tie.Need-returns Inv-loop μ-loop
 returns c =
-    let a = c .before .before .before .before .before .args in
-    search-hit freeSlot free-near (a .t .now) (c .before .before .before .loop .j) (c .before .before .before .loop .inv .1) _ (c .before .free-at .ensures) (omega arith) (c .if1 .taken)
+    let t = c .before .before .before .before .before .args .t .now in
+    let at = c .before .before .before .loop in
+    free-hit t (at .j) (at .unpacked) (at .inv .1 .0) (at .inv .1 .1) _ (c .before .free-step .ensures .0) _ (c .before .free-step .ensures .1) (omega arith) (c .if1 .taken)
 
 loop-again : tie.Need-loop-again Inv-loop μ-loop
 loop-again c =
-    let a = c .before .before .before .before .before .before .args in
+    let t = c .before .before .before .before .before .before .args .t .now in
     let at = c .before .before .before .before .loop in
-    let here = search-next freeSlot free-near (a .t .now) (at .j) (at .inv .1) _ (c .before .before .free-at .ensures) (c .before .if1 .left) in
-    (search needs, free-past (a .t .now) (at .j + 1) _ (c .next-in-state .ensures .0) (c .next-in-state .ensures .1 .1) here)
+    let on = free-on t (at .j) (at .unpacked) (at .inv .1 .0) (at .inv .1 .1) _ (c .before .before .free-step .ensures .0) _ (c .before .before .free-step .ensures .1) (c .before .if1 .left) _ (c .next-in-state .ensures .0) (c .next-in-state .ensures .1 .1) in
+    (search needs, (on .1, on .0))
 
 returns-2 : tie.Need-returns-2 Inv-loop μ-loop
 returns-2 c =
-    let a = c .before .before .before .args in
-    search-end freeSlot free-near (a .t .now) (c .before .loop .j) (c .before .loop .inv .0) (omega arith) (c .before .loop .inv .1)
+    let t = c .before .before .before .args .t .now in
+    let at = c .before .loop in
+    free-end t (at .j) (at .unpacked) (at .inv .1 .0) (at .inv .1 .1) (at .inv .0) (omega arith)
 
 pub find-free-spec : {M : Type 1} → statement M
 find-free-spec =
@@ -48,7 +55,7 @@ find-free-spec =
     μ-loop
     loop-holds
     (λ c. search needs)
-    (λ c κs. search needs)
+    free-step-requires
     returns
     (λ c. search needs)
     (λ c κs. search needs)
