@@ -40,6 +40,7 @@ enum Call {
         mac: u64,
     },
     Spoilt,
+    FreeSlot,
     Compact {
         settings: Settings,
         room: usize,
@@ -64,6 +65,9 @@ enum Call {
     },
 }
 
+/// The number of the search for a free slot (2026-04).
+const FREE_SLOT: u8 = 0x24;
+
 /// The number of widening, which is that of its request.
 const WIDEN: u8 = 0x12;
 
@@ -77,6 +81,7 @@ pub const ANSWERS: &[(u8, Answers)] = &[
     (6, run::COMPACT),
     (7, run::EXPAND),
     (8, run::SEND),
+    (FREE_SLOT, run::FREE_SLOT),
     (WIDEN, run::WIDEN),
 ];
 
@@ -117,6 +122,7 @@ impl Call {
                 let (kind, label, mac) = generate::key(random, pool, table);
                 Call::Lookup { kind, label, mac }
             }
+            4 if random.one_in(2) => Call::FreeSlot,
             4 => Call::Spoilt,
             5..=6 => {
                 let (settings, frame, room) = conversion(random, pool);
@@ -167,6 +173,7 @@ impl Call {
             Call::Age { .. } => 3,
             Call::Lookup { .. } => 4,
             Call::Spoilt => 5,
+            Call::FreeSlot => FREE_SLOT,
             Call::Compact { .. } => 6,
             Call::Expand { .. } => 7,
             Call::Send { .. } => 8,
@@ -182,7 +189,7 @@ impl Call {
             | Call::Expand { room, .. }
             | Call::Send { room, .. }
             | Call::Widen { room, .. } => *room,
-            Call::Flush { .. } | Call::Age { .. } | Call::Lookup { .. } | Call::Spoilt => 0,
+            Call::Flush { .. } | Call::Age { .. } | Call::Lookup { .. } | Call::Spoilt | Call::FreeSlot => 0,
         }
     }
 
@@ -227,7 +234,7 @@ impl Call {
                 &mac.to_be_bytes(),
             ]
             .concat(),
-            Call::Spoilt => Vec::new(),
+            Call::Spoilt | Call::FreeSlot => Vec::new(),
             Call::Widen { room, old } => [&length(*room)[..], old].concat(),
         }
     }
@@ -244,6 +251,7 @@ impl Call {
             Call::Age { seconds } => reference::age(*seconds, table),
             Call::Lookup { kind, label, mac } => reference::lookup(*kind, *label, *mac, table),
             Call::Spoilt => reference::spoilt(table),
+            Call::FreeSlot => reference::free_slot(table),
             Call::Compact {
                 settings,
                 room,

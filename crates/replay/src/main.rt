@@ -276,6 +276,13 @@ fn replay_send(b: &[u8], table: &[u8], area: &mut [u8]) -> bool {
     true
 }
 
+// 24.
+fn replay_free_slot(b: &[u8], table: &[u8]) -> bool {
+    let word = shinglebar::shinglebar_free_slot(table);
+    print_call(word, table, &b[..0]);
+    true
+}
+
 // 12: the output area's length, the old table.
 fn widen_table(b: &[u8], table: &[u8], out: &mut [u8])
     requires { ⌜ 2 ≤ length (now b) ⌝ }
@@ -321,6 +328,9 @@ fn replay_call(kind: u64, b: &[u8], table: &mut [u8], area: &mut [u8]) -> bool {
     }
     if kind == 8 {
         return replay_send(b, table, area);
+    }
+    if kind == 0x24 {
+        return replay_free_slot(b, table);
     }
     if kind == 0x12 {
         return replay_widen(b, table, area);
