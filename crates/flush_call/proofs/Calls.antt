@@ -110,12 +110,12 @@ unfolding pick
 pick-few true = omega arith
 pick-few false = omega arith
 
-count-few : (meant : List ℕ → Bool) (t : List ℕ) (n : ℕ) → countSlots meant 0 n t ≤ n
+pub count-few : (meant : List ℕ → Bool) (from : ℕ) (t : List ℕ) (n : ℕ) → countSlots meant from n t ≤ n
 unfolding countSlots
-count-few meant t zero = omega arith
-count-few meant t (suc n) =
-    let a = count-few meant t n in
-    let b = pick-few (meant (slotAt (0 + n) t)) in
+count-few meant from t zero = omega arith
+count-few meant from t (suc n) =
+    let a = count-few meant from t n in
+    let b = pick-few (meant (slotAt (from + n) t)) in
     omega arith
 
 -- no more are cleared than there are slots
@@ -124,7 +124,7 @@ unfolding clearing clearedBy
 clearing-few ingress l t c h =
     let (p, q, e) = then-got _ _ _ h in
     let same : countSlots (slotMeant everyType p ingress) 0 (slotsOf t) t ≡ c .answer = ap (λ (x : OnTable ℕ). x .answer) (got-got _ _ e) in
-    let few = count-few (slotMeant everyType p ingress) t (slotsOf t) in
+    let few = count-few (slotMeant everyType p ingress) 0 t (slotsOf t) in
     omega arith
 
 pub good-slots : (t : List ℕ) → tableGood t ≡ true → slotsOf t ≤ mostSlots
