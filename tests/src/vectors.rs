@@ -58,6 +58,12 @@ enum Call {
         room: usize,
         frame: Vec<u8>,
     },
+    Portion {
+        ingress: u32,
+        payload: Vec<u8>,
+        slot: u64,
+        k: u64,
+    },
 }
 
 /// The calls' numbers, and the answers that each must give in some vector.
@@ -70,6 +76,7 @@ pub const ANSWERS: &[(u8, Answers)] = &[
     (6, run::COMPACT),
     (7, run::EXPAND),
     (8, run::SEND),
+    (0x25, run::PORTION),
 ];
 
 fn settings_bytes(settings: &Settings) -> Vec<u8> {
@@ -162,6 +169,7 @@ impl Call {
             Call::Compact { .. } => 6,
             Call::Expand { .. } => 7,
             Call::Send { .. } => 8,
+            Call::Portion { .. } => 0x25,
         }
     }
 
@@ -172,7 +180,11 @@ impl Call {
             | Call::Compact { room, .. }
             | Call::Expand { room, .. }
             | Call::Send { room, .. } => *room,
-            Call::Flush { .. } | Call::Age { .. } | Call::Lookup { .. } | Call::Spoilt => 0,
+            Call::Flush { .. }
+            | Call::Age { .. }
+            | Call::Lookup { .. }
+            | Call::Spoilt
+            | Call::Portion { .. } => 0,
         }
     }
 
@@ -218,6 +230,18 @@ impl Call {
             ]
             .concat(),
             Call::Spoilt => Vec::new(),
+            Call::Portion {
+                ingress,
+                payload,
+                slot,
+                k,
+            } => [
+                &ingress.to_be_bytes()[..],
+                &slot.to_be_bytes(),
+                &k.to_be_bytes(),
+                payload,
+            ]
+            .concat(),
         }
     }
 
@@ -233,6 +257,12 @@ impl Call {
             Call::Age { seconds } => reference::age(*seconds, table),
             Call::Lookup { kind, label, mac } => reference::lookup(*kind, *label, *mac, table),
             Call::Spoilt => reference::spoilt(table),
+            Call::Portion {
+                ingress,
+                payload,
+                slot,
+                k,
+            } => reference::flush_portion(*ingress, payload, *slot, *k, table),
             Call::Compact {
                 settings,
                 room,
@@ -379,6 +409,29 @@ fn control_calls(room: usize) -> Vec<Call> {
     captures::control().into_iter().flat_map(calls).collect()
 }
 
+/// Portions (2026-05): one random flush from slot 0 to the end of a small table, and any portions, until each answer was kept as often
+/// as may be.
+fn offer_portions(replay: &mut Replay) {
+    for case in 0..2000 {
+        let random = &mut Random::for_case(2605, case);
+        let pool = Pool::new(random);
+        let table = small_table(random, &pool);
+        let (slot, k) = generate::portion(random, table.len());
+        let call = |slot, k, payload| Call::Portion {
+            ingress: u32::from(pool.nicknames[0]),
+            payload,
+            slot,
+            k,
+        };
+        let payload = generate::payload(random, &pool);
+        replay.offer(table, &call(slot, k, payload.clone()));
+        let slots = (replay.table.len() / RECORD) as u64;
+        for next in 0..slots {
+            replay.offer(replay.table.clone(), &call(next, 1, payload.clone()));
+        }
+    }
+}
+
 /// The input and the output of the program; always the same ones.
 pub fn files() -> (String, String) {
     let mut replay = Replay {
@@ -409,6 +462,7 @@ pub fn files() -> (String, String) {
     for call in control_calls(128) {
         replay.offer(replay.table.clone(), &call);
     }
+    offer_portions(&mut replay);
     let mut case = 0;
     while !replay.is_whole() {
         assert!(
