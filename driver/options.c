@@ -74,6 +74,8 @@ static const struct option OPTIONS[] = {
     {"--dry-run", NULL, "the table file is read and not written", FLAG,
      RECEIVE | AGE | LIVE | SET | UNSET | WIDEN, 0, AT(dry_run), 0, 0},
     {"--json", NULL, "a JSON object for each line, with the same facts", FLAG, WITH_ANY, 0, AT(json), 0, 0},
+    {"--portion", "K", "flushes in portions of K slots, one after each frame, 1 to 4096", NUMBER, RECEIVE | LIVE, 0,
+     AT(portion), 1, TABLE_SLOTS_MAX},
     {"--quiet", NULL, "no line for each frame", FLAG, WITH_CAPTURE | LIVE, 0, AT(quiet), 0, 0},
 };
 #define OPTION_COUNT (sizeof OPTIONS / sizeof OPTIONS[0])

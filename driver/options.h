@@ -45,6 +45,8 @@ struct options {
     int no_ageing;
     int dry_run;
     uint32_t save;
+    /* The slots of a portion; 0 flushes whole. */
+    uint32_t portion;
 };
 
 /* Reads the command line: -1 if the command is to be carried out, else the exit status (help, or bad usage, which is said). */

@@ -3,6 +3,7 @@
 #include <string.h>
 
 #include "answer.h"
+#include "flush.h"
 #include "frame.h"
 #include "path.h"
 #include "process.h"
@@ -149,8 +150,100 @@ void receiver_age(struct receiver *receiver, uint64_t second)
         receiver_pass(receiver, second - aged->second, second);
 }
 
+static void portion_print(struct receiver *receiver, uint64_t answer)
+{
+    struct text *line = &receiver->line;
+    const struct portion *portion = &receiver->portion;
+    struct changes changes;
+    changes.count = changes.concerning = 0;
+    if (shinglebar_count(answer) > 0)
+        shadow_all(&receiver->shadow, &receiver->store.table, &receiver->options->audience, &changes);
+    if (receiver->options->audience.is_one && changes.concerning == 0)
+        return;
+    if (line->json) {
+        json_words(line, "portion", portion->is_open ? "done" : "last");
+        json_number(line, "next_slot", shinglebar_next_slot(answer));
+        json_number(line, "examined", shinglebar_examined(answer));
+        json_number(line, "cleared", shinglebar_count(answer));
+    } else {
+        text_put(line, portion->is_open ? "portion: " : "last portion: ");
+        text_number(line, shinglebar_examined(answer));
+        text_put(line, " slots examined, next ");
+        text_number(line, shinglebar_next_slot(answer));
+        text_put(line, ", ");
+        text_number(line, shinglebar_count(answer));
+        text_put(line, " cleared | ");
+    }
+    if (changes.count > 0 || line->json)
+        changes_put(line, &changes);
+    else
+        text_put(line, "table unchanged");
+    line_out(line);
+}
+
+/* One portion of an open flush. */
+static void step(struct receiver *receiver)
+{
+    uint64_t answer;
+    if (!receiver->portion.is_open)
+        return;
+    answer = portion_step(&receiver->portion, receiver->options, &receiver->store.table);
+    if (shinglebar_is_refusal(answer)) {
+        receiver->refused[shinglebar_refusal(answer)]++;
+        return;
+    }
+    receiver->cleared += shinglebar_count(answer);
+    if (!receiver->options->quiet)
+        portion_print(receiver, answer);
+}
+
+void receiver_finish(struct receiver *receiver)
+{
+    while (receiver->portion.is_open)
+        step(receiver);
+}
+
+/* The line of a frame whose flush is carried out in portions: what it means. */
+static void opened_print(struct receiver *receiver, const struct captured *captured)
+{
+    struct text *line = &receiver->line;
+    const struct audience *audience = &receiver->options->audience;
+    const struct portion *portion = &receiver->portion;
+    struct frame frame = frame_read(captured->bytes, captured->length, receiver->options->settings.port);
+    if (audience->is_one && frame.source != audience->mac && frame.destination != audience->mac)
+        return;
+    frame_put(line, receiver->frames, captured, &frame);
+    if (line->json) {
+        json_words(line, "answer", "flush in portions");
+        json_number(line, "slots", receiver->options->portion);
+    } else {
+        text_put(line, " | flush in portions of ");
+        text_number(line, receiver->options->portion);
+    }
+    flush_put(line, portion->ingress, portion->payload, portion->length);
+    line_out(line);
+}
+
+/* A frame that brings a flush opens it; one that is open is carried out to its end first. 1 if it was such a frame. */
+static int take_flush(struct receiver *receiver, const struct captured *frame)
+{
+    static struct portion next;
+    if (receiver->options->portion == 0 || !portion_open(&next, receiver->options, frame->bytes, frame->length))
+        return 0;
+    receiver_finish(receiver);
+    receiver->portion = next;
+    count(receiver, SHINGLEBAR_RECEIVE_FLUSHED);
+    if (!receiver->options->quiet)
+        opened_print(receiver, frame);
+    step(receiver);
+    return 1;
+}
+
 int receiver_take(struct receiver *receiver, const struct captured *frame)
 {
+    if (take_flush(receiver, frame))
+        return 0;
+    step(receiver);
     static uint8_t native[SHINGLEBAR_FRAME_LENGTH_MAX];
     struct table *table = &receiver->store.table;
     uint64_t answer = shinglebar_receive(SETTINGS(&receiver->options->settings), frame->bytes, frame->length,
@@ -218,6 +311,7 @@ static void totals_put(struct text *to, const struct receiver *receiver)
 void receiver_report(struct receiver *receiver)
 {
     struct text *line = &receiver->line;
+    receiver_finish(receiver);
     totals_put(line, receiver);
     line_out(line);
     for (unsigned i = 1; i < REFUSALS; i++) {
@@ -247,6 +341,7 @@ int receiver_flush(struct receiver *receiver)
 
 int receiver_keep(struct receiver *receiver)
 {
+    receiver_finish(receiver);
     return whole_ready(&receiver->out) != 0 || store_ready(&receiver->store) != 0 || whole_replace(&receiver->out) != 0
            || store_replace(&receiver->store) != 0;
 }

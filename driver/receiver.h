@@ -4,6 +4,7 @@
 
 #include "capture.h"
 #include "options.h"
+#include "portion.h"
 #include "shadow.h"
 #include "store.h"
 
@@ -17,6 +18,7 @@ struct receiver {
     struct store store;
     struct shadow shadow;
     struct text line;
+    struct portion portion;
     /* Only `live` can lose frames. */
     int is_live;
     unsigned long lost;
@@ -34,6 +36,9 @@ void receiver_age(struct receiver *receiver, uint64_t second);
 
 /* Passes a frame to the library, prints its line, and adds a delivered native frame to the output. 0, or 1 and said. */
 int receiver_take(struct receiver *receiver, const struct captured *frame);
+
+/* Carries out what is left of a flush in portions. */
+void receiver_finish(struct receiver *receiver);
 
 /* Brings out what has been printed, and a capture on standard output, for whoever waits for it. 0, or 1 and said. */
 int receiver_flush(struct receiver *receiver);

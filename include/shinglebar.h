@@ -22,9 +22,10 @@
  * Threads. The archive has no state of its own, takes no lock and never waits: any number of threads
  * may call it at once.
  *
- * - An area that a call writes (output, working area, and the table of receive, flush and age) may not
- *   be used by another thread until the call has returned. A table that threads share needs a lock of
- *   theirs: shared for lookup, spoilt, free slot and widen, exclusive for receive, flush and age.
+ * - An area that a call writes (output, working area, and the table of receive, flush, flush_portion and
+ *   age) may not be used by another thread until the call has returned. A table that threads share needs
+ *   a lock of theirs: shared for lookup, spoilt, free slot and widen, exclusive for receive, flush,
+ *   flush_portion and age.
  * - A thread needs SHINGLEBAR_STACK_MAX bytes of stack for a call, beside its own. There is no heap.
  *
  * Bridge messages. A frame with 01-80-C2-00-00-00 to 0F or 21 in front answers 5 in receive, with Compact
@@ -56,7 +57,8 @@
 #define SHINGLEBAR_COMPACT_LENGTH_MAX 9204
 
 /* The bytes of stack that a call takes at most: any call (a long flush takes most, so a frame that
- * brings one does), and a call that carries out no flush, which is every call but receive and flush.
+ * brings one does), and a call that carries out no flush, which is every call but receive, flush and
+ * flush_portion.
  * Measured on x86-64: tests/c/stack.c paints the stack of a thread, makes the calls that take most, and
  * fails where one takes more. What the dynamic loader takes when it binds memmove and memset, about
  * 3,000 bytes, is counted. */
@@ -100,7 +102,9 @@ enum shinglebar_refusal_number {
     /* frame may not be compacted */
     SHINGLEBAR_REFUSAL_NOT_COMPACTABLE = 17,
     /* a General frame given where Compact is required */
-    SHINGLEBAR_REFUSAL_GENERAL = 18
+    SHINGLEBAR_REFUSAL_GENERAL = 18,
+    /* k is 0, or the slot number is n or more */
+    SHINGLEBAR_REFUSAL_PORTION = 24
 };
 
 /* The kinds of results that are no refusals, by call. */
@@ -116,6 +120,11 @@ enum shinglebar_receive_kind {
 enum shinglebar_flush_kind {
     /* shinglebar_count */
     SHINGLEBAR_FLUSH_FLUSHED = 67
+};
+
+enum shinglebar_flush_portion_kind {
+    /* shinglebar_count, _next_slot, _examined */
+    SHINGLEBAR_FLUSH_PORTION_DONE = 64
 };
 
 enum shinglebar_compact_kind {
@@ -256,6 +265,15 @@ uint64_t shinglebar_widen(const uint8_t *old, size_t old_len, uint8_t *out, size
 uint64_t shinglebar_flush(uint32_t ingress, const uint8_t *payload, size_t payload_len,
                           uint8_t *table, size_t table_len);
 
+/* Carries out a portion of such a flush: examines the slots from `slot` on, the smaller of k and those
+ * left, clears those that the whole flush would clear in this table, and answers the slot to go on from,
+ * which is the number of slots where the flush is done. k may differ from call to call. The payload is
+ * judged whole each time. From slot 0 to the end, with nothing else touching the table, the portions are
+ * the whole flush; frames may be received in between: a passed slot stays, a later one is judged when
+ * reached. */
+uint64_t shinglebar_flush_portion(uint32_t ingress, const uint8_t *payload, size_t payload_len,
+                                  uint64_t slot, uint64_t k, uint8_t *table, size_t table_len);
+
 /* Reads one Ethernet frame without FCS: delivers a native frame and learns its source, or carries out
  * a flush. */
 uint64_t shinglebar_receive(uint64_t port, uint64_t inner, uint32_t nickname, uint32_t compact,
@@ -332,10 +350,23 @@ static inline uint32_t shinglebar_label(uint64_t result)
     return (uint32_t)((result >> 40) & 0xFFFFFFu);
 }
 
-/* Of SHINGLEBAR_RECEIVE_FLUSHED and SHINGLEBAR_FLUSH_FLUSHED: the records cleared. */
+/* Of SHINGLEBAR_RECEIVE_FLUSHED, SHINGLEBAR_FLUSH_FLUSHED and SHINGLEBAR_FLUSH_PORTION_DONE: the records
+ * cleared. */
 static inline unsigned shinglebar_count(uint64_t result)
 {
     return (unsigned)((result >> 8) & 0xFFFFu);
+}
+
+/* Of SHINGLEBAR_FLUSH_PORTION_DONE: the slot to go on from. */
+static inline unsigned shinglebar_next_slot(uint64_t result)
+{
+    return (unsigned)((result >> 24) & 0xFFFFu);
+}
+
+/* Of SHINGLEBAR_FLUSH_PORTION_DONE: the slots examined. */
+static inline unsigned shinglebar_examined(uint64_t result)
+{
+    return (unsigned)((result >> 40) & 0xFFFFu);
 }
 
 /* Of SHINGLEBAR_COMPACT_WRITTEN, SHINGLEBAR_EXPAND_WRITTEN, SHINGLEBAR_WIDEN_WRITTEN and
@@ -386,9 +417,16 @@ static inline const char *shinglebar_refusal_string(uint64_t result)
         "flush payload corrupt",
         "output area shorter than the result",
         "frame may not be compacted",
-        "a General frame given where Compact is required"
+        "a General frame given where Compact is required",
+        NULL, /* 19 to 23 are no refusals */
+        NULL,
+        NULL,
+        NULL,
+        NULL,
+        "k is 0, or the slot number is n or more"
     };
-    return words[result < sizeof words / sizeof words[0] ? (size_t)result : 0];
+    size_t number = result < sizeof words / sizeof words[0] ? (size_t)result : 0;
+    return words[number] == NULL ? words[0] : words[number];
 }
 
 /* Records. These three do not call the archive. */
@@ -507,6 +545,14 @@ static inline uint64_t shinglebar_flush_any(uint32_t ingress, const uint8_t *pay
 {
     return shinglebar_flush(ingress, shinglebar_const_area(payload, payload_len), payload_len,
                             shinglebar_area(table, table_len), table_len);
+}
+
+static inline uint64_t shinglebar_flush_portion_any(uint32_t ingress, const uint8_t *payload,
+                                                    size_t payload_len, uint64_t slot, uint64_t k,
+                                                    uint8_t *table, size_t table_len)
+{
+    return shinglebar_flush_portion(ingress, shinglebar_const_area(payload, payload_len), payload_len,
+                                    slot, k, shinglebar_area(table, table_len), table_len);
 }
 
 static inline uint64_t shinglebar_receive_any(uint64_t port, uint64_t inner, uint32_t nickname,

@@ -4,8 +4,9 @@
 //! A declaration that no row uses asks nothing of the archive.
 
 pub use shinglebar::exports::{
-    shinglebar_age, shinglebar_compact, shinglebar_expand, shinglebar_flush, shinglebar_free_slot,
-    shinglebar_lookup, shinglebar_receive, shinglebar_send, shinglebar_spoilt,
+    shinglebar_age, shinglebar_compact, shinglebar_expand, shinglebar_flush,
+    shinglebar_flush_portion, shinglebar_free_slot, shinglebar_lookup, shinglebar_receive,
+    shinglebar_send, shinglebar_spoilt,
 };
 
 pub type Lookup = unsafe extern "C" fn(
@@ -25,6 +26,16 @@ pub type Flush = unsafe extern "C" fn(
     ingress: u32,
     payload: *const u8,
     payload_len: usize,
+    table: *mut u8,
+    table_len: usize,
+) -> u64;
+
+pub type Portion = unsafe extern "C" fn(
+    ingress: u32,
+    payload: *const u8,
+    payload_len: usize,
+    slot: u64,
+    k: u64,
     table: *mut u8,
     table_len: usize,
 ) -> u64;

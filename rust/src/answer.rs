@@ -6,6 +6,7 @@
 //! | receive | 65 delivered | 8..23 length, 24..25 learning, 32 label kind, 40..63 label |
 //! | receive | 66 other channel | |
 //! | receive, flush | 67 flushed | 8..23 records cleared |
+//! | flush_portion | 64 portion done | 8..23 cleared, 24..39 next slot, 40..55 examined |
 //! | compact, expand, widen | 64 written | 8..23 length |
 //! | send | 64 compacted | 8..23 length |
 //! | send | 65 the frame itself | |
@@ -75,6 +76,17 @@ pub enum Received {
 pub struct Flushed {
     /// The records cleared.
     pub count: u16,
+}
+
+/// A portion of an Address Flush was carried out.
+#[derive(Clone, Copy, Debug, PartialEq, Eq, Hash)]
+pub struct Portioned {
+    /// The records cleared.
+    pub cleared: u16,
+    /// The slot to go on from; the number of slots where the flush is done.
+    pub next: u16,
+    /// The slots examined: the smaller of k and those left.
+    pub examined: u16,
 }
 
 /// The result of a compaction starts the output area.
@@ -357,6 +369,25 @@ impl Answer for Flushed {
 
     fn word(&self) -> u64 {
         with_value(67, self.count)
+    }
+}
+
+impl Answer for Portioned {
+    const REFUSALS: &'static [Refusal] =
+        &[Refusal::TableLength, Refusal::Payload, Refusal::Portion];
+
+    fn from_word(word: u64) -> Option<Portioned> {
+        let portion = Portioned {
+            cleared: value(word, COUNTS)?,
+            next: value(word >> 16, COUNTS)?,
+            examined: value(word >> 32, COUNTS)?,
+        };
+        let whole = portion.cleared <= portion.examined && portion.examined <= portion.next;
+        (kind(word) == 64 && whole && portion.examined > 0).then_some(portion)
+    }
+
+    fn word(&self) -> u64 {
+        with_value(64, self.cleared) | u64::from(self.next) << 24 | u64::from(self.examined) << 40
     }
 }
 

@@ -34,6 +34,16 @@ extern "C" {
         table_len: usize,
     ) -> u64;
 
+    pub fn shinglebar_flush_portion(
+        ingress: u32,
+        payload: *const u8,
+        payload_len: usize,
+        slot: u64,
+        k: u64,
+        table: *mut u8,
+        table_len: usize,
+    ) -> u64;
+
     pub fn shinglebar_compact(
         port: u64,
         inner: u64,

@@ -9,6 +9,7 @@
 //! |---|---|
 //! | [`receive`] | reads a frame: delivers a native frame and learns its source, or carries out a flush |
 //! | [`flush`] | carries out the payload of an Address Flush |
+//! | [`flush_portion`] | carries out a portion of it, at most so many slots |
 //! | [`compact`], [`expand`] | convert between General and Compact Format |
 //! | [`send`] | chooses what to send to a far port |
 //! | [`lookup`], [`age`], [`spoilt`], [`free_slot`] | the address table |
@@ -62,8 +63,8 @@ mod refusal;
 mod values;
 
 pub use answer::{
-    decode, encode, Aged, Answer, Compacted, Expanded, Flushed, Found, FreeSlot, Learning, Received,
-    Sent, Spoilt, UnknownWord, Widened,
+    decode, encode, Aged, Answer, Compacted, Expanded, Flushed, Found, FreeSlot, Learning,
+    Portioned, Received, Sent, Spoilt, UnknownWord, Widened,
 };
 pub use refusal::Refusal;
 pub use values::{Label, Mac, Outer, Settings};
@@ -142,6 +143,46 @@ pub fn receive(
 #[inline]
 pub fn flush(ingress: u16, payload: &[u8], table: &mut [u8]) -> Result<Flushed, Refusal> {
     answered(raw::flush(u32::from(ingress), payload, table))
+}
+
+/// Carries out a portion of an Address Flush: examines at most `k` slots from `slot` on, and says
+/// where to go on. From slot 0 to the last, with the same message and nothing else touching the
+/// table, the portions clear what [`flush`] clears. Frames may be read in between.
+///
+/// ```
+/// use shinglebar::{Portioned, Refusal};
+///
+/// // The VLANs 10 to 12 of the sender, in a table of five slots.
+/// let payload = [0x00, 0x01, 0x00, 0x0A, 0x00, 0x0C];
+/// let mut table = [0; 5 * shinglebar::RECORD_LENGTH];
+/// let mut slot = 0;
+/// let mut examined = 0;
+/// while usize::from(slot) < table.len() / shinglebar::RECORD_LENGTH {
+///     let portion = shinglebar::flush_portion(0x1234, &payload, slot, 2, &mut table)?;
+///     slot = portion.next;
+///     examined += portion.examined;
+///     // frames are read here
+/// }
+/// assert_eq!(examined, 5);
+/// let past = shinglebar::flush_portion(0x1234, &payload, slot, 2, &mut table);
+/// assert_eq!(past, Err(Refusal::Portion));
+/// # Ok::<(), Refusal>(())
+/// ```
+#[inline]
+pub fn flush_portion(
+    ingress: u16,
+    payload: &[u8],
+    slot: u16,
+    k: u16,
+    table: &mut [u8],
+) -> Result<Portioned, Refusal> {
+    answered(raw::flush_portion(
+        u32::from(ingress),
+        payload,
+        u64::from(slot),
+        u64::from(k),
+        table,
+    ))
 }
 
 /// Compacts a General frame for a far port with these settings.

@@ -75,6 +75,24 @@ pub fn flush(ingress: u32, payload: &[u8], table: &mut [u8]) -> u64 {
     }
 }
 
+/// Carries out a portion of a flush: at most `k` slots from the slot on.
+#[inline]
+pub fn flush_portion(ingress: u32, payload: &[u8], slot: u64, k: u64, table: &mut [u8]) -> u64 {
+    // SAFETY: two slices: neither is null, each is as long as said, and the one that is lent for
+    // writing overlaps nothing, being `&mut`.
+    unsafe {
+        exports::shinglebar_flush_portion(
+            ingress,
+            payload.as_ptr(),
+            payload.len(),
+            slot,
+            k,
+            table.as_mut_ptr(),
+            table.len(),
+        )
+    }
+}
+
 /// Compacts a General frame for a far port.
 #[inline]
 pub fn compact(far: &Settings, frame: &[u8], out: &mut [u8]) -> u64 {

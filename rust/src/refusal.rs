@@ -57,18 +57,19 @@ refusals! {
     OutputLength = 16, "output area shorter than the result";
     NotCompactable = 17, "frame may not be compacted";
     General = 18, "a General frame given where Compact is required";
+    Portion = 24, "k is 0, or the slot number is n or more";
 }
 
 impl Refusal {
-    /// Its number, 1 to 18.
+    /// Its number.
     pub const fn number(self) -> u8 {
         self as u8
     }
 
     /// The refusal with a number.
     pub fn from_number(number: u64) -> Option<Refusal> {
-        let at = usize::try_from(number.checked_sub(1)?).ok()?;
-        Refusal::ALL.get(at).copied()
+        let with_number = |refusal: &&Refusal| u64::from(refusal.number()) == number;
+        Refusal::ALL.iter().find(with_number).copied()
     }
 }
 

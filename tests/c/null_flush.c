@@ -24,5 +24,15 @@ int main(void)
     for (at = 0; at < sizeof table; at++) {
         expect("byte", table[at], 0);
     }
+    expect("portion, both NULL", shinglebar_flush_portion_any(0x1234, NULL, 0, 0, 1, NULL, 0), 2);
+    expect("portion, payload NULL",
+           shinglebar_flush_portion_any(0x1234, NULL, 0, 0, 1, table, sizeof table), 15);
+    expect("portion, k 0", shinglebar_flush_portion_any(0x1234, NULL, 0, 0, 0, table, sizeof table),
+           SHINGLEBAR_REFUSAL_PORTION);
+    flushed = shinglebar_flush_portion_any(0x1234, payload, sizeof payload, 0, 9, table, sizeof table);
+    expect("portion", shinglebar_kind(flushed), SHINGLEBAR_FLUSH_PORTION_DONE);
+    expect("portion, cleared", shinglebar_count(flushed), 0);
+    expect("portion, next slot", shinglebar_next_slot(flushed), 1);
+    expect("portion, examined", shinglebar_examined(flushed), 1);
     return failures == 0 ? 0 : 1;
 }

@@ -4,8 +4,8 @@
 //! word as it is. The package must know the word: it is decoded to the answer, and packed again.
 
 use shinglebar::{
-    decode, encode, raw, Aged, Answer, Compacted, Expanded, Flushed, Found, FreeSlot, Received, Sent,
-    Spoilt, Widened,
+    decode, encode, raw, Aged, Answer, Compacted, Expanded, Flushed, Found, FreeSlot, Portioned,
+    Received, Sent, Spoilt, Widened,
 };
 
 use crate::lend::Lend;
@@ -49,6 +49,21 @@ pub fn flush(lender: &mut impl Lend, ingress: u32, payload: &[u8], table: &mut [
         ("payload", payload),
         [("table", table)],
         |payload, [table]| raw::flush(ingress, payload, table),
+    ))
+}
+
+pub fn flush_portion(
+    lender: &mut impl Lend,
+    ingress: u32,
+    payload: &[u8],
+    slot: u64,
+    k: u64,
+    table: &mut [u8],
+) -> u64 {
+    known::<Portioned>(lender.lend(
+        ("payload", payload),
+        [("table", table)],
+        |payload, [table]| raw::flush_portion(ingress, payload, slot, k, table),
     ))
 }
 

@@ -97,6 +97,29 @@ pub fn flush(lender: &mut impl Lend, ingress: u32, payload: &[u8], table: &mut [
     paper
 }
 
+pub fn flush_portion(
+    lender: &mut impl Lend,
+    ingress: u32,
+    payload: &[u8],
+    slot: u64,
+    k: u64,
+    table: &mut [u8],
+) -> u64 {
+    let given = table.to_vec();
+    let mut after = table.to_vec();
+    let library = boundary::flush_portion(lender, ingress, payload, slot, k, &mut after);
+    let paper = reference::flush_portion(ingress, payload, slot, k, table);
+    assert!(
+        library == paper && after == table,
+        "flush_portion: {}{}ingress {ingress:#x}\nslot {slot}\nk {k}\npayload {}\ntable {}",
+        words(library, paper),
+        difference("table", &after, table),
+        hex(payload),
+        hex(&given)
+    );
+    paper
+}
+
 pub fn receive(
     lender: &mut impl Lend,
     settings: &Settings,

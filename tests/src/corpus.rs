@@ -63,7 +63,12 @@ pub fn files(stdin: &str, stdout: &str) -> BTreeMap<String, Vec<u8>> {
         }
         let result = results.next().expect("a line of stdout for each call");
         let answer = bytes(part(result, 0))[7];
-        let name = format!("{}-{answer:02}", NAMES[usize::from(call)]);
+        // Document 02's calls have targets of their own.
+        let Some(name) = NAMES.get(usize::from(call)) else {
+            table = bytes(part(result, 1));
+            continue;
+        };
+        let name = format!("{name}-{answer:02}");
         let input = input(call, answer, &body, &table);
         let kept = files.entry(name).or_insert_with(|| input.clone());
         if input.len() < kept.len() {

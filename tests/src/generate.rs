@@ -551,6 +551,31 @@ pub fn seconds(random: &mut Random, table: &[u8]) -> u16 {
 
 // Flush payloads
 
+/// The slot and k of a portion of a table with so many bytes: at and beside the ends, and any.
+pub fn portion(random: &mut Random, table: usize) -> (u64, u64) {
+    let n = (table / RECORD) as u64;
+    let slot = match random.below(16) {
+        0 => n,
+        1 => n + 1,
+        2 => random.pick(&[u64::MAX, 1 << 32, 1 << 16, n.wrapping_neg()]),
+        3 => n.saturating_sub(1),
+        4..=6 => 0,
+        _ => random.below(n.max(1)),
+    };
+    let k = match random.below(16) {
+        0 => 0,
+        1..=2 => 1,
+        3 => n.saturating_sub(1),
+        4 => n,
+        5 => n + 1,
+        6 => random.pick(&[u64::MAX, 1 << 32, 1 << 16, u64::MAX - slot]),
+        7 => n.saturating_sub(slot),
+        8..=11 => random.below(8),
+        _ => random.below(n + 2),
+    };
+    (slot, k)
+}
+
 /// The ingress number given to the flush call.
 pub fn ingress(random: &mut Random, pool: &Pool) -> u32 {
     let nickname = u32::from(pool.nickname(random));

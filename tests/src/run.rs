@@ -31,6 +31,13 @@ pub const FLUSH: Answers = &[
     (67, "flushed"),
 ];
 
+pub const PORTION: Answers = &[
+    (2, "refusal 2: table length"),
+    (15, "refusal 15: flush payload corrupt"),
+    (24, "refusal 24: k or slot"),
+    (64, "portion done"),
+];
+
 pub const RECEIVE: Answers = &[
     (1, "refusal 1: settings"),
     (2, "refusal 2: table length"),

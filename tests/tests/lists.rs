@@ -9,10 +9,36 @@ use shinglebar_tests::run::{self, Tally};
 
 /// A call of the list of demand 3.
 enum Call {
-    Receive { frame: Vec<u8>, out: Vec<u8> },
-    Age { seconds: u16 },
-    Lookup { kind: u32, label: u32, mac: u64 },
+    Receive {
+        frame: Vec<u8>,
+        out: Vec<u8>,
+    },
+    Age {
+        seconds: u16,
+    },
+    Lookup {
+        kind: u32,
+        label: u32,
+        mac: u64,
+    },
     Spoilt,
+    Portion {
+        ingress: u32,
+        payload: Vec<u8>,
+        slot: u64,
+        k: u64,
+    },
+}
+
+/// A portion; document 02, 2026-05: "Demand 3 then speaks of runs with the same portions at the same places".
+fn portion(random: &mut Random, pool: &Pool, table: &[u8]) -> Call {
+    let (slot, k) = generate::portion(random, table.len());
+    Call::Portion {
+        ingress: generate::ingress(random, pool),
+        payload: generate::payload(random, pool),
+        slot,
+        k,
+    }
 }
 
 fn call(random: &mut Random, pool: &Pool, settings: &Settings, table: &[u8]) -> Call {
@@ -25,6 +51,7 @@ fn call(random: &mut Random, pool: &Pool, settings: &Settings, table: &[u8]) -> 
             Call::Lookup { kind, label, mac }
         }
         3 => Call::Spoilt,
+        4 => portion(random, pool, table),
         _ => {
             let mut frame = generate::frame(random, pool, settings);
             if !random.one_in(6) {
@@ -64,6 +91,15 @@ fn make(
             Vec::new(),
         ),
         Call::Spoilt => (boundary::spoilt(random, table), Vec::new()),
+        Call::Portion {
+            ingress,
+            payload,
+            slot,
+            k,
+        } => (
+            boundary::flush_portion(random, *ingress, payload, *slot, *k, table),
+            Vec::new(),
+        ),
     }
 }
 
@@ -86,6 +122,15 @@ fn make_by_paper(
             (reference::lookup(*kind, *label, *mac, table), Vec::new())
         }
         Call::Spoilt => (reference::spoilt(table), Vec::new()),
+        Call::Portion {
+            ingress,
+            payload,
+            slot,
+            k,
+        } => (
+            reference::flush_portion(*ingress, payload, *slot, *k, table),
+            Vec::new(),
+        ),
     }
 }
 
@@ -156,6 +201,10 @@ fn call_lists_give_the_same_with_frames_compacted() {
             "age",
             "lookup",
             "spoilt",
+            "portion",
+            "portion: none cleared",
+            "portion: some cleared",
+            "portion: refused",
         ],
         |random, tally| {
             let pool = Pool::new(random);
@@ -185,6 +234,7 @@ fn call_lists_give_the_same_with_frames_compacted() {
                     Call::Age { .. } => tally.situation("age"),
                     Call::Lookup { .. } => tally.situation("lookup"),
                     Call::Spoilt => tally.situation("spoilt"),
+                    Call::Portion { .. } => tally.situation("portion"),
                 }
                 let replaced = compacted.as_deref().unwrap_or(given);
                 let first = make(random, &settings, &call, given, &mut plain);
@@ -216,6 +266,13 @@ fn call_lists_give_the_same_with_frames_compacted() {
                 count_control(tally, given, first.0);
                 if compacted.is_some() {
                     count_replaced(tally, first.0);
+                }
+                if let Call::Portion { .. } = &call {
+                    tally.situation(match (first.0 & 0xFF, first.0 >> 8 & 0xFFFF) {
+                        (64, 0) => "portion: none cleared",
+                        (64, _) => "portion: some cleared",
+                        _ => "portion: refused",
+                    });
                 }
             }
         },
@@ -286,6 +343,7 @@ fn call_lists_at_a_port_that_passes_300_give_what_one_passing_0_gave_before() {
                     (Call::Age { .. }, _) => tally.situation("age"),
                     (Call::Lookup { .. }, _) => tally.situation("lookup"),
                     (Call::Spoilt, _) => tally.situation("spoilt"),
+                    (Call::Portion { .. }, _) => tally.situation("portion"),
                 }
             }
         },

@@ -4,7 +4,7 @@
 
 use shinglebar::{
     decode, encode, raw, Aged, Answer, Compacted, Expanded, Flushed, Found, Label, Learning, Mac,
-    Outer, Received, Refusal, Sent, Settings, Spoilt, Widened,
+    Outer, Portioned, Received, Refusal, Sent, Settings, Spoilt, Widened,
 };
 use shinglebar_tests::generate::{self, Pool};
 use shinglebar_tests::random::Random;
@@ -51,6 +51,14 @@ impl Packed for Received {
 impl Packed for Flushed {
     fn packed(&self) -> u64 {
         value(67, usize::from(self.count))
+    }
+}
+
+impl Packed for Portioned {
+    fn packed(&self) -> u64 {
+        value(64, usize::from(self.cleared))
+            + 0x100_0000 * u64::from(self.next)
+            + 0x100_0000_0000 * u64::from(self.examined)
     }
 }
 
@@ -176,6 +184,36 @@ fn typed_flush_gives_what_the_paper_says() {
             let mut paper_table = table.clone();
             let outcome = shinglebar::flush(ingress, &payload, &mut table);
             let paper = reference::flush(u32::from(ingress), &payload, &mut paper_table);
+            assert_eq!(packed(outcome), paper, "{outcome:?}");
+            assert!(table == paper_table);
+            tally.word(paper);
+        },
+    );
+}
+
+#[test]
+fn typed_portions_give_what_the_paper_says() {
+    run::cases(
+        "typed_portions_give_what_the_paper_says",
+        1,
+        run::PORTION,
+        &[],
+        |random, tally| {
+            let pool = Pool::new(random);
+            let ingress = generate::ingress(random, &pool) as u16;
+            let payload = generate::payload(random, &pool);
+            let mut table = generate::table(random, &pool);
+            let (slot, k) = generate::portion(random, table.len());
+            let (slot, k) = (slot as u16, k as u16);
+            let mut paper_table = table.clone();
+            let outcome = shinglebar::flush_portion(ingress, &payload, slot, k, &mut table);
+            let paper = reference::flush_portion(
+                u32::from(ingress),
+                &payload,
+                u64::from(slot),
+                u64::from(k),
+                &mut paper_table,
+            );
             assert_eq!(packed(outcome), paper, "{outcome:?}");
             assert!(table == paper_table);
             tally.word(paper);
@@ -380,6 +418,11 @@ fn a_word_that_is_no_answer_is_not_taken_for_one() {
         ],
     );
     check_words::<Flushed>("flush", run::FLUSH, &[bits(67, ONE_VALUE, 67)]);
+    check_words::<Portioned>(
+        "flush_portion",
+        run::PORTION,
+        &[bits(64, 0xFF_FFFF_FFFF_FF00, 0x0000_0100_0100_0040)],
+    );
     check_words::<Compacted>("compact", run::COMPACT, &[bits(64, ONE_VALUE, 0x1040)]);
     check_words::<Expanded>("expand", run::EXPAND, &[bits(64, ONE_VALUE, 0x1040)]);
     check_words::<Sent>(
@@ -427,10 +470,11 @@ fn values_that_no_answer_has_are_not_taken_for_one() {
 #[test]
 fn the_refusals_are_those_of_the_header() {
     let header = include_str!("../../include/shinglebar.h");
-    assert_eq!(Refusal::ALL.len(), 18);
-    for (at, refusal) in Refusal::ALL.iter().enumerate() {
-        let number = at as u64 + 1;
-        assert_eq!(u64::from(refusal.number()), number);
+    assert!(Refusal::ALL
+        .windows(2)
+        .all(|two| two[0].number() < two[1].number()));
+    for refusal in Refusal::ALL {
+        let number = u64::from(refusal.number());
         assert_eq!(Refusal::from_number(number), Some(*refusal));
         let comment = format!("/* {refusal} */\n    SHINGLEBAR_REFUSAL_");
         let (_, behind) = header
@@ -463,6 +507,7 @@ fn empty_slices_are_areas_too() {
     assert_eq!(raw::send(&settings, &[], &mut []), 16);
     assert_eq!(raw::flush(1, &[], &mut []), 2);
     assert_eq!(raw::flush(1, &[], &mut [0; RECORD]), 15);
+    assert_eq!(raw::flush_portion(1, &[], 0, 1, &mut []), 2);
     assert_eq!(raw::lookup(0, 1, 0, &[]), 2);
     assert_eq!(raw::age(0, &mut []), 2);
     assert_eq!(raw::spoilt(&[]), 2);

@@ -20,6 +20,6 @@ mod settings;
 mod table;
 
 pub use convert::{compact, expand, send};
-pub use flush::flush;
+pub use flush::{flush, flush_portion};
 pub use receive::receive;
 pub use table::{age, free_slot, lookup, spoilt};

@@ -36,3 +36,5 @@ pub const OUTPUT_LENGTH: u64 = 16;
 pub const NOT_COMPACTABLE: u64 = 17;
 /// a General frame given where Compact is required
 pub const GENERAL: u64 = 18;
+/// k is 0, or the slot number is n or more
+pub const PORTION: u64 = 24;

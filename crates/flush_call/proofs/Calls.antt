@@ -112,7 +112,7 @@ unfolding clearing clearedBy
 clearing-few ingress l t c h =
     let (p, q, e) = then-got _ _ _ h in
     let same : countSlots (slotMeant everyType p ingress) 0 (slotsOf t) t ≡ c .answer = ap (λ (x : OnTable ℕ). x .answer) (got-got _ _ e) in
-    let few = count-few (slotMeant everyType p ingress) t 0 (slotsOf t) in
+    let few = count-few (slotMeant everyType p ingress) 0 t 0 (slotsOf t) in
     omega arith
 
 pub good-slots : (t : List ℕ) → tableGood t ≡ true → slotsOf t ≤ mostSlots

@@ -32,7 +32,7 @@ use Rattle.flush_call.specs.Clearing.{payloadFrom, fineLeft}
 
 -- ---- tests of some piece
 
-either-neither : (a b : Bool) → either a b ≡ false → (a ≡ false) × (b ≡ false)
+pub either-neither : (a b : Bool) → either a b ≡ false → (a ≡ false) × (b ≡ false)
 unfolding either
 either-neither true b e = (cc, cc)
 either-neither false b e = (refl, e)
@@ -50,7 +50,7 @@ module _ (p q : Piece → Bool) where
   any-same e [] = refl
   any-same e (x ∷ ps) = rw (e x, any-same e ps)
 
-  any-passes : ((x : Piece) → p x ≡ true → q x ≡ true) → (ps : List Piece) → anyOf p ps ≡ true → anyOf q ps ≡ true
+  pub any-passes : ((x : Piece) → p x ≡ true → q x ≡ true) → (ps : List Piece) → anyOf p ps ≡ true → anyOf q ps ≡ true
   unfolding anyOf
   any-passes e [] h = h
   any-passes e (x ∷ ps) h = either-passes (p x) (anyOf p ps) (q x) (anyOf q ps) (e x) (any-passes e ps) h
@@ -72,7 +72,7 @@ not-fine x (tlv k v) a b c =
 not-fine x (block b) e f g = refl
 not-fine x stump e f g = refl
 
-none-fine : (x : ℕ) (ps : List Piece) → anyOf (ofKind everyType everyKind) ps ≡ false → anyOf (ofKind everyType listKind) ps ≡ false → anyOf (ofKind everyType mapKind) ps ≡ false → anyOf (bringsLabel everyType (Fine x)) ps ≡ false
+pub none-fine : (x : ℕ) (ps : List Piece) → anyOf (ofKind everyType everyKind) ps ≡ false → anyOf (ofKind everyType listKind) ps ≡ false → anyOf (ofKind everyType mapKind) ps ≡ false → anyOf (bringsLabel everyType (Fine x)) ps ≡ false
 unfolding anyOf either
 none-fine x [] a b c = refl
 none-fine x (p ∷ ps) a b c =
@@ -82,7 +82,7 @@ none-fine x (p ∷ ps) a b c =
     rw (not-fine x p (e .0) (l .0) (m .0)) (none-fine x ps (e .1) (l .1) (m .1))
 
 -- a piece of all labels brings every one
-every-fine : (x : ℕ) (p : Piece) → ofKind everyType everyKind p ≡ true → bringsLabel everyType (Fine x) p ≡ true
+pub every-fine : (x : ℕ) (p : Piece) → ofKind everyType everyKind p ≡ true → bringsLabel everyType (Fine x) p ≡ true
 unfolding ofKind bringsLabel fineIn both pick
 every-fine x (tlv k v) e = rw e
 every-fine x (block b) e = e
@@ -95,7 +95,7 @@ not-gathers (tlv k v) e = let m = either-neither (eqb k 7) (eqb k 8) e in rw (m 
 not-gathers (block b) e = refl
 not-gathers stump e = refl
 
-none-gathers : (ps : List Piece) → anyOf (ofKind everyType macKind) ps ≡ false → anyOf (gathersMac everyType) ps ≡ false
+pub none-gathers : (ps : List Piece) → anyOf (ofKind everyType macKind) ps ≡ false → anyOf (gathersMac everyType) ps ≡ false
 unfolding anyOf either
 none-gathers [] e = refl
 none-gathers (p ∷ ps) e =
@@ -130,7 +130,7 @@ module _ (p : Payload) (ingress : ℕ) where
   not-learned (Learned x) e = false-true (sym e)
   not-learned (Configured x) e = refl
 
-  by-learned : (r : List ℕ) (b : Bool) → isLearned (unpacked r) ≡ b → slotMeant everyType p ingress r ≡ both b (entryMeant everyType p ingress (entryOf (recordOf r)))
+  pub by-learned : (r : List ℕ) (b : Bool) → isLearned (unpacked r) ≡ b → slotMeant everyType p ingress r ≡ both b (entryMeant everyType p ingress (entryOf (recordOf r)))
   unfolding slotMeant entryMeant both
   by-learned r true e = ap (heldMeant everyType p ingress) (learned-entry r e)
   by-learned r false e = not-learned (unpacked r) e

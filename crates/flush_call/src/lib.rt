@@ -21,6 +21,13 @@ use numbers::refusals::PAYLOAD_CORRUPT;
 use numbers::refusals::TABLE_LENGTH_BAD;
 use table::SLOT_BYTES;
 
+// So many slots are judged by a walk over the message, whatever its length; and so many where it has no more than so many bytes.
+const FEW_SLOTS: usize = 4;
+
+const SOME_SLOTS: usize = 64;
+
+const SHORT_BYTES: usize = 32;
+
 // Of the marked slots with a fine-grained label those stay marked whose label is meant. Where every label is meant, or none is named,
 // the first pass has decided.
 fn keep_labels(table: &[u8], rest: &[u8], f: Kinds, marks: &mut [u8])
@@ -69,8 +76,8 @@ fn mark_meant(
     keep_macs(table, rest, f, marks);
 }
 
-// Clears the slots of a range that a good payload means.
-fn clear_range(
+// Clears the slots of a range that a good payload means, by marks: for many slots.
+fn clear_by_marks(
     ingress: u32,
     nicks: &[u8],
     rest: &[u8],
@@ -85,6 +92,26 @@ fn clear_range(
     let mut marks = [0u8; MARK_BYTES];
     mark_meant(ingress, nicks, rest, f, table, from, count, &mut marks);
     flush_marks::clear_marked(table, &marks)
+}
+
+// Clears the slots of a range that a good payload means. Where they are few, a walk over the message for each costs less than to prepare
+// marks.
+fn clear_range(
+    ingress: u32,
+    nicks: &[u8],
+    rest: &[u8],
+    f: Kinds,
+    from: usize,
+    count: usize,
+    table: &mut [u8],
+) -> usize
+    requires { ⌜ Within from count (now table) × ((blockBytes * f .blocks ≤ length (now rest)) × Noted everyType (f .blocks) (piecesOf (f .blocks) (now rest)) f) ⌝ }
+    ensures { λ n. ⌜ onTable n (now (table .exit)) ≡ clearedIn (slotMeant everyType (payloadFrom (now (nicks .entry)) (f .blocks) (now (rest .entry))) ingress) from count (now (table .entry)) ⌝ }
+{
+    if (count <= FEW_SLOTS) | ((count <= SOME_SLOTS) & (rest.len() <= SHORT_BYTES)) {
+        return flush_walk::clear_walked(ingress, nicks, rest, f, from, count, table);
+    }
+    clear_by_marks(ingress, nicks, rest, f, from, count, table)
 }
 
 // What clearing came to: a refusal number, or how many records were cleared.

@@ -26,7 +26,7 @@ use Rattle.convert.proofs.Areas.{writes}
 use Rattle.receive.specs.Deciding.{isMarked, ingressAllowed, nicknamesGood, isOnward}
 use Rattle.receive.specs.Receive.{learnedEntry, delivery, acted, reading, receivedWith}
 use Rattle.promises.specs.Cases.{farPort, p10Compact}
-use Rattle.promises.specs.Interchange.{Call, read, age, lookup, spoilt, calledWith, runWith, run, workingArea, frameOr, compactedCall, compactedWhere}
+use Rattle.promises.specs.Interchange.{Call, read, age, lookup, spoilt, portion, calledWith, runWith, run, workingArea, frameOr, compactedCall, compactedWhere}
 use Rattle.promises.specs.Example.{p10Frame, outBefore, later, generalCalls, compactCalls, seen, InterchangeExample}
 
 area-length : length workingArea ≡ 9204
@@ -56,6 +56,7 @@ firstLength (read f o ∷ cs) = length f
 firstLength (age n ∷ cs) = 0
 firstLength (lookup kind x m ∷ cs) = 0
 firstLength (spoilt ∷ cs) = 0
+firstLength (portion ingress l slot k ∷ cs) = 0
 
 pub example-holds : InterchangeExample
 example-holds = record {

@@ -15,7 +15,7 @@ use Rattle.convert.specs.Expansion.{Outer, outerDestination, generalBytes, expa
 use Rattle.convert.specs.Sending.{sentFields, sending, sent}
 use Rattle.receive.specs.Deciding.{isMarked, ingressAllowed, nicknamesGood, isOnward, channelGood}
 use Rattle.receive.specs.Receive.{learnedEntry, delivery, channel, acted, reading, receivedWith, received}
-use Rattle.promises.specs.Interchange.{Call, read, age, lookup, spoilt, Seen, seenReading, calledWith, runWith, run}
+use Rattle.promises.specs.Interchange.{Call, read, age, lookup, spoilt, portion, Seen, seenReading, calledWith, runWith, run}
 use Rattle.promises.specs.Lives.{oldLife, passing, LifeAsBefore, OtherLivesStay}
 
 -- ---- a port that passes 300
@@ -31,6 +31,7 @@ module _ (s : Settings) where
   call-as-before t (age n) = refl
   call-as-before t (lookup kind x m) = refl
   call-as-before t spoilt = refl
+  call-as-before t (portion ingress l slot k) = refl
 
   calls-as-before : (t : List ℕ) (cs : List Call) → runWith defaultLife (passing 300 s) t cs ≡ runWith oldLife (passing 0 s) t cs
   unfolding runWith
@@ -76,6 +77,7 @@ module _ (s : Settings) (some : s .seconds ≡ 0 → ⊥) where
   call-stays t (age n) = refl
   call-stays t (lookup kind x m) = refl
   call-stays t spoilt = refl
+  call-stays t (portion ingress l slot k) = refl
 
   calls-stay : (t : List ℕ) (cs : List Call) → runWith defaultLife s t cs ≡ runWith oldLife s t cs
   unfolding runWith

@@ -6,6 +6,8 @@ use Rattle.table.specs.Table.{aged}
 use Rattle.table.specs.Claims.{AgeingRefusal, WideningRefusal, AgeingKeepsApart, Stays, IsSpoilt, IsConfigured}
 use Rattle.table.specs.declared.Slot.{Slot}
 use Rattle.flush.specs.Flush.{flushed}
+use Rattle.portions.specs.Portion.{portioned}
+use Rattle.portions.specs.Claims.{PortionRefusal, PortionKeepsApart}
 use Rattle.frame.specs.declared.Settings.{Settings}
 use Rattle.receive.specs.Receive.{received}
 use Rattle.flush.specs.Claims.{FlushRefusal, FlushingKeepsApart}
@@ -13,11 +15,12 @@ use Rattle.convert.specs.Claims.{ConvertRefusals}
 use Rattle.receive.specs.Claims.{ReadRefusal, ReadingKeepsApart}
 
 -- Demand 1: "A refusal returns its number and changes nothing: every lent area keeps its bytes." For every public call that is lent
--- an area to change: reading, flushing, ageing, widening, compacting, expanding, sending. Lookup and the naming of the lowest spoilt slot are
+-- an area to change: reading, flushing, whole or a portion, ageing, widening, compacting, expanding, sending. Lookup and the naming of the lowest spoilt slot are
 -- lent the table for reading only.
 pub record RefusalChangesNothing : Type 0 where
   pub reading : ReadRefusal
   pub flushing : FlushRefusal
+  pub portion : PortionRefusal
   pub ageing : AgeingRefusal
   pub widening : WideningRefusal
   pub converting : ConvertRefusals
@@ -27,12 +30,14 @@ pub record RefusalChangesNothing : Type 0 where
 pub record HomesStayApart : Type 0 where
   pub reading : ReadingKeepsApart
   pub flushing : FlushingKeepsApart
+  pub portion : PortionKeepsApart
   pub ageing : AgeingKeepsApart
 
 -- slot by slot, a record of such a kind keeps its bytes under every call that is lent the table to change
 pub record StaysUnderCalls (Such : Slot → Type 0) : Type 0 where
   pub reading : (s : Settings) (f t o : List ℕ) → Stays Such t (received s f t o .table)
   pub flushing : (ingress : ℕ) (l t : List ℕ) → Stays Such t (flushed ingress l t .table)
+  pub portion : (ingress : ℕ) (l : List ℕ) (slot k : ℕ) (t : List ℕ) → Stays Such t (portioned ingress l slot k t .table)
   pub ageing : (s : ℕ) (t : List ℕ) → Stays Such t (aged s t .table)
 
 -- "Spoilt records are neither free, learned nor configured, match nothing, and are never changed"

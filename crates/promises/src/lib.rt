@@ -6,6 +6,8 @@ ghost use Rattle.table.specs.Examples.{HomesExamples};
 ghost use Rattle.flush.specs.Claims.{FlushExact, FlushingKeepsApart, FlushRefusal, FlushingLeavesAlone};
 ghost use Rattle.flush.specs.Padding.{PaddedFlush};
 ghost use Rattle.flush.specs.Validity.{Validity};
+ghost use Rattle.portions.specs.Claims.{PortionExact, PortionsWhole, PortionsReach, PortionsEnd, PortionRefusal, PortionKeepsApart, PortionLeavesAlone};
+ghost use Rattle.portions.specs.Between.{Later, Passed};
 ghost use Rattle.frame.specs.Claims.{HeaderLocal, LabelLocal, LabelsGood};
 ghost use Rattle.convert.specs.Claims.{ReadsSame, ExpandCompacted, CompactExpanded, ConvertRefusals, SendsExactly, RoomForCompaction, SendRoom, ControlNeverCompact};
 ghost use Rattle.convert.specs.Chosen.{ChosenSent};
@@ -21,5 +23,6 @@ ghost use Rattle.promises.specs.Lives.{LifeAsBefore, OtherLivesStay};
 pub fn claims()
     ensures demands { λ _. ⌜ Interchange × InterchangeExample × ExpandCompacted × CompactExpanded × RefusalChangesNothing × Validity × FlushExact × ReadFlushExact × PaddedFlush × PaddedRead × ReadsExactly × HomesStayApart × WidenedSame × UnmarkedAsBefore × NoneAsBefore × HomesExamples × MarkedRead × SpoiltStays × ConfiguredStays × SendsExactly × RoomForCompaction × SendRoom × ChosenSent × ControlNeverCompact × LifeAsBefore × OtherLivesStay × Cases × ControlCases ⌝ }
     ensures calls { λ _. ⌜ ReadRefusal × FlushRefusal × AgeingRefusal × WideningRefusal × ConvertRefusals × ReadingKeepsApart × FlushingKeepsApart × AgeingKeepsApart × LearningKeepsApart × ReadingLeavesAlone × FlushingLeavesAlone × AgeingLeavesAlone × LearningLeavesAlone ⌝ }
+    ensures portions { λ _. ⌜ PortionExact × PortionsWhole × PortionsReach × PortionsEnd × Later × Passed × PortionRefusal × PortionKeepsApart × PortionLeavesAlone ⌝ }
     ensures laws { λ _. ⌜ Blocks × Maps × UnpackPacked × PackUnpacked × KeptWritesNothing × HeaderLocal × LabelLocal × LabelsGood × ReadsSame × ReadsParsed ⌝ }
 {}

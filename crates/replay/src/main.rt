@@ -303,6 +303,22 @@ fn replay_widen(b: &[u8], table: &[u8], area: &mut [u8]) -> bool {
     true
 }
 
+// 25: the ingress nickname, the slot, k, the payload.
+fn replay_portion(b: &[u8], table: &mut [u8]) -> bool {
+    if b.len() < 20 {
+        return false;
+    }
+    let word = shinglebar::shinglebar_flush_portion(
+        numbers::be4(b, 0) as u32,
+        &b[20..],
+        numbers::be8(b, 4),
+        numbers::be8(b, 12),
+        table,
+    );
+    print_call(word, table, &b[..0]);
+    true
+}
+
 // Makes a call and writes what it gave; false where there is no such call.
 fn replay_call(kind: u64, b: &[u8], table: &mut [u8], area: &mut [u8]) -> bool {
     if kind == 1 {
@@ -334,6 +350,9 @@ fn replay_call(kind: u64, b: &[u8], table: &mut [u8], area: &mut [u8]) -> bool {
     }
     if kind == 0x12 {
         return replay_widen(b, table, area);
+    }
+    if kind == 0x25 {
+        return replay_portion(b, table);
     }
     false
 }

@@ -10,6 +10,8 @@ ghost use Rattle.table.specs.Widening.{widened};
 ghost use Rattle.table.specs.Words.{lookupWord, ageWord, spoiltWord, freeWord, widenWord, learningNumber};
 ghost use Rattle.flush.specs.Flush.{flushed};
 ghost use Rattle.flush.specs.Words.{flushWord};
+ghost use Rattle.portions.specs.Portion.{portioned};
+ghost use Rattle.portions.specs.Words.{portionWord};
 ghost use Rattle.receive.specs.Receive.{received};
 ghost use Rattle.receive.specs.Words.{readWord, LabelFits};
 ghost use Rattle.receive.specs.declared.ReadAnswer.the-variants.{Delivered};
@@ -23,6 +25,7 @@ use convert::SendAnswer;
 use convert_expand::Outer;
 use flush::FlushAnswer;
 use frame::Settings;
+use portions::PortionAnswer;
 use receive::ReadAnswer;
 use table::AgeAnswer;
 use table::FreeAnswer;
@@ -132,6 +135,33 @@ pub extern "C" fn shinglebar_flush(ingress: u32, payload: &[u8], table: &mut [u8
     ensures { λ r. ⌜ onTable r (now (table .exit)) ≡ tableAs flushWord (flushed ingress (now (payload .entry)) (now (table .entry))) ⌝ }
 {
     flush_word(flush_call::flush(ingress, payload, table))
+}
+
+fn portion_word(a: PortionAnswer) -> u64
+    ensures { λ r. ⌜ r ≡ portionWord a ⌝ }
+{
+    match a {
+        PortionAnswer::Refused(n) => n as u64,
+        PortionAnswer::Portioned(p) => {
+            64
+                + p.cleared as u64 * 0x100
+                + p.next as u64 * 0x100_0000
+                + p.examined as u64 * 0x100_0000_0000
+        }
+    }
+}
+
+#[no_mangle]
+pub extern "C" fn shinglebar_flush_portion(
+    ingress: u32,
+    payload: &[u8],
+    slot: u64,
+    k: u64,
+    table: &mut [u8],
+) -> u64
+    ensures { λ r. ⌜ onTable r (now (table .exit)) ≡ tableAs portionWord (portioned ingress (now (payload .entry)) slot k (now (table .entry))) ⌝ }
+{
+    portion_word(portions_call::portion(ingress, payload, slot as usize, k as usize, table))
 }
 
 // The settings of a port, from the eight numbers.

@@ -8,7 +8,7 @@ use super::table::check_length;
 
 /// What a payload means: three sets. A record is cleared if it is in all three.
 #[derive(Default)]
-struct Meant {
+pub(super) struct Meant {
     nicknames: Vec<u32>,
     /// Type 6 was there.
     every_label: bool,
@@ -21,7 +21,7 @@ struct Meant {
 }
 
 impl Meant {
-    fn has(&self, entry: &Entry) -> bool {
+    pub(super) fn has(&self, entry: &Entry) -> bool {
         let nickname = self.nicknames.contains(&u32::from(entry.nickname));
         // "With type 6 every label is meant." "No label gathered and no type 6: nothing is
         // cleared." "Overlaps unite."
@@ -66,7 +66,7 @@ fn take_byte(rest: &mut &[u8]) -> Result<u8, Refusal> {
 }
 
 /// "Payload: K-nicks (1 byte), that many 2-byte nicknames, K-VLBs (1 byte)."
-fn read_payload(ingress: u32, payload: &[u8]) -> Result<Meant, Refusal> {
+pub(super) fn read_payload(ingress: u32, payload: &[u8]) -> Result<Meant, Refusal> {
     let mut rest = payload;
     let mut meant = Meant::default();
 

@@ -41,4 +41,6 @@ pub enum Refusal {
     NotCompactable = 17,
     /// a General frame given where Compact is required
     General = 18,
+    /// k is 0, or the slot number is n or more (document 02)
+    Portion = 24,
 }

@@ -8,6 +8,7 @@ mod macs;
 mod nicknames;
 mod numbers;
 mod payload;
+mod portion;
 mod sorted;
 mod vlans;
 
@@ -18,6 +19,7 @@ use super::refusal;
 use left::Left;
 use nicknames::{Nicknames, One, Several};
 use payload::{Payload, ALL_LABELS, FINE_BLOCKS, FINE_LIST, FINE_MAP};
+pub use portion::flush_portion;
 use vlans::Vlans;
 
 const FLUSHED: u64 = 67;

@@ -1,6 +1,7 @@
 //! Address Flush on 4,096 learned records: ordinary messages, the worst that fit in a frame, and those
 //! whose nicknames no record has.
 
+mod portions;
 mod worst;
 
 use crate::baseline;
@@ -34,6 +35,7 @@ pub fn run(report: &Report) {
     ordinary_rows(report);
     many_nicknames(report);
     worst::rows(report);
+    portions::rows(report);
     growth_with_table(report);
     worst::growth(report);
     worst::unknown_nicknames(report);

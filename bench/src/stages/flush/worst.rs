@@ -238,6 +238,11 @@ fn empty_tlvs() -> (Vec<Tlv>, Vec<Entry>) {
     (tlvs.collect(), entries)
 }
 
+/// The longest message of labels, and its records.
+pub fn labels() -> (Vec<Tlv>, Vec<Entry>) {
+    TYPE_4_LABELS.message(LENGTH)
+}
+
 pub fn rows(report: &Report) {
     for worst in &WORST {
         let (tlvs, entries) = worst.message(LENGTH);

@@ -1,24 +1,23 @@
--- `flush_call::clear_range` meets its contract: the marked slots are those that are meant.
+-- `flush_call::clear_range` meets its contract: by a walk or by marks, what is cleared is the same.
 -- Assumes nothing.
-use Rattle.flush_marks.proofs.Bits.{zeros-unmarked}
-use Rattle.flush_call.proofs.Calls.{range-cleared}
+use mathlib.Core.Path.{_∙_}
+use Rattle.flush_call.proofs.Walks.{cleared-same, noted-meant}
 use borrow.Author.Needs.{needs}
 use Rattle.flush_call.proofs.clear_range.Statement.{statement}
 use Rattle.flush_call.proofs.clear_range.Tie as tie
 
-mark-meant-requires : tie.Need-mark-meant-requires
-mark-meant-requires c κs = let start = c .before .before .before .before .before in (record { within = start .pre .0; empty = zeros-unmarked }, start .pre .1)
-
 returns : tie.Need-returns
-returns c = range-cleared _ _ _ _ _ (c .before .before .before .before .before .before .before .before .before .before .before .before .pre .0) (c .before .before .before .before .before .before .mark-meant .ensures) _ _ (c .before .before .clear-marked .ensures)
+returns c =
+    let noted = c .before .before .before .before .before .before .before .before .pre .1 .1 in
+    c .before .before .clear-walked .ensures ∙ cleared-same _ _ (noted-meant _ _ _ noted _ _) _ _ _
 
 pub clear-range-spec : {M : Type 1} → statement M
 clear-range-spec =
     tie.close
     (tie.spec
-    (λ c. search needs)
-    mark-meant-requires
-    (λ c. search needs)
     (λ c κs. search needs)
     (λ c. search needs)
-    returns)
+    returns
+    (λ c κs. search needs)
+    (λ c. search needs)
+    (λ c. search needs))

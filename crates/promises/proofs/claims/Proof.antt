@@ -13,6 +13,10 @@ use Rattle.flush.proofs.Validity.{validity}
 use Rattle.flush.proofs.Flushing.{flush-exact, flushing-keeps-apart, flush-refusal}
 use Rattle.flush.proofs.Padding.{padded-flush}
 use Rattle.flush.proofs.Stays.{flushing-leaves-alone}
+use Rattle.portions.proofs.Portions.{portion-exact, portion-refusal}
+use Rattle.portions.proofs.Runs.{portions-whole, portions-reach, portions-end}
+use Rattle.portions.proofs.Keeping.{portion-keeps-apart, portion-leaves-alone}
+use Rattle.portions.proofs.Between.{later, passed}
 use Rattle.frame.proofs.Local.{header-local, label-local, labels-good}
 use Rattle.convert.proofs.Areas.{convert-refusals}
 use Rattle.convert.proofs.Compacting.{reads-same}
@@ -33,15 +37,16 @@ use Rattle.promises.proofs.claims.Statement.{statement}
 use Rattle.promises.proofs.claims.Tie as tie
 
 refusals : RefusalChangesNothing
-refusals = record { reading = read-refusal; flushing = flush-refusal; ageing = ageing-refusal; widening = widening-refusal; converting = convert-refusals }
+refusals = record { reading = read-refusal; flushing = flush-refusal; portion = portion-refusal; ageing = ageing-refusal; widening = widening-refusal; converting = convert-refusals }
 
 homes : HomesStayApart
-homes = record { reading = reading-apart; flushing = flushing-keeps-apart; ageing = ageing-apart }
+homes = record { reading = reading-apart; flushing = flushing-keeps-apart; portion = portion-keeps-apart; ageing = ageing-apart }
 
 stays-spoilt : SpoiltStays
 stays-spoilt = record {
   reading = λ s f t o. reading-leaves-alone s f t o .spoilt;
   flushing = λ ingress l t. flushing-leaves-alone ingress l t .spoilt;
+  portion = λ ingress l slot k t. portion-leaves-alone ingress l slot k t .spoilt;
   ageing = λ s t. ageing-leaves-alone s t .spoilt;
 }
 
@@ -49,6 +54,7 @@ stays-configured : ConfiguredStays
 stays-configured = record {
   reading = λ s f t o. reading-leaves-alone s f t o .configured;
   flushing = λ ingress l t. flushing-leaves-alone ingress l t .configured;
+  portion = λ ingress l slot k t. portion-leaves-alone ingress l slot k t .configured;
   ageing = λ s t. ageing-leaves-alone s t .configured;
 }
 
@@ -57,7 +63,10 @@ returns c = (
   (interchange, example-holds, expand-compacted, compact-expanded, refusals, validity, flush-exact, read-flush-exact, padded-flush, padded-read, reads-exactly, homes, widened-same, unmarked-as-before, none-as-before, homes-examples, marked-read, stays-spoilt, stays-configured, sends-exactly, room-for-compaction, send-room, chosen-sent, control-never-compact, life-as-before, other-lives-stay, cases-hold, control-cases),
   (
     (read-refusal, flush-refusal, ageing-refusal, widening-refusal, convert-refusals, reading-apart, flushing-keeps-apart, ageing-apart, learning-apart, reading-leaves-alone, flushing-leaves-alone, ageing-leaves-alone, learning-leaves-alone),
-    (blocks-hold, maps-hold, unpack-packed, pack-unpacked, kept-writes-nothing, header-local, label-local, labels-good, reads-same, reads-parsed),
+    (
+      (portion-exact, portions-whole, portions-reach, portions-end, later, passed, portion-refusal, portion-keeps-apart, portion-leaves-alone),
+      (blocks-hold, maps-hold, unpack-packed, pack-unpacked, kept-writes-nothing, header-local, label-local, labels-good, reads-same, reads-parsed),
+    ),
   ),
 )
 

@@ -1,0 +1,2 @@
+-- Laws of clearing by a walk.
+pub mod Laws

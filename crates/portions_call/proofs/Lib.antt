@@ -1,0 +1,2 @@
+-- Laws of the portion call.
+pub mod Laws
