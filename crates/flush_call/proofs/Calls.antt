@@ -1,22 +1,19 @@
 -- Laws of the two calls: refused, or cleared; a good table has few slots.
 -- Assumes nothing.
-use Prim.Native.Nat.{ℕ, zero, suc, _+_, _-_, _*_, _%_, _≤_}
+use Prim.Native.Nat.{ℕ, _+_, _-_, _*_, _≤_}
 use mathlib.Core.Bool.{Bool, true, false}
 use mathlib.Core.List.{List}
 use mathlib.Core.Path.{_≡_, sym, ap, _∙_}
 use native.Mathlib.Nat.{add-sub-cancel-left}
 use native.Mathlib.Omega.{arith}
-use lib.Dec.{eqb}
 use lib.ListN.{length, take, drop}
-use Rattle.numbers.specs.Tests.{pick, between}
 use Rattle.numbers.specs.Result.{Result, refused, got, check, andThen, settled}
 use Rattle.numbers.specs.Refusals.{payload-corrupt, table-length-bad}
 use Rattle.numbers.specs.After.{OnTable, onTable}
-use Rattle.numbers.proofs.Truth.{both-true, between-is}
 use Rattle.numbers.proofs.Answers.{got-got, then-got}
-use Rattle.table.specs.Slots.{slotBytes, mostSlots, tableGood, slotsOf, countSlots}
-use Rattle.table.proofs.Slots.{count-few}
-use Rattle.flush.specs.Payload.{everyType, nickBytes, blockCount, behind, blockBytes, piecesOf, made, payloadOf}
+use Rattle.table.specs.Slots.{mostSlots, tableGood, slotsOf, countSlots}
+use Rattle.table.proofs.Slots.{count-few, good-slots}
+use Rattle.flush.specs.Payload.{everyType, nickBytes, blockCount, behind, blockBytes, piecesOf, made}
 use Rattle.flush.specs.Flush.{slotMeant, clearedBy, clearing, flushed}
 use Rattle.flush.specs.Validity.{Valid}
 use Rattle.flush.specs.declared.FlushAnswer.the-variants as answer
@@ -112,14 +109,7 @@ unfolding clearing clearedBy
 clearing-few ingress l t c h =
     let (p, q, e) = then-got _ _ _ h in
     let same : countSlots (slotMeant everyType p ingress) 0 (slotsOf t) t ≡ c .answer = ap (λ (x : OnTable ℕ). x .answer) (got-got _ _ e) in
-    let few = count-few (slotMeant everyType p ingress) 0 t 0 (slotsOf t) in
-    omega arith
-
-pub good-slots : (t : List ℕ) → tableGood t ≡ true → slotsOf t ≤ mostSlots
-unfolding tableGood
-good-slots t h =
-    let b = both-true (between 1 (slotBytes * mostSlots) (length t)) (eqb (length t % slotBytes) 0) h in
-    let c = between-is 1 (slotBytes * mostSlots) (length t) (b .0) in
+    let few = count-few (slotMeant everyType p ingress) t 0 (slotsOf t) in
     omega arith
 
 pub flush-slots : (t : List ℕ) (g : Bool) → g ≡ tableGood t → g ≡ true → slotsOf t ≤ mostSlots

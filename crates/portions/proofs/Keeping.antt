@@ -30,7 +30,7 @@ use Rattle.flush.proofs.Flushing.{cleared-keeps, cleared-miss}
 use Rattle.portions.specs.Portion.{portion-bad, portionSteps, portionBy, portionAnswered, portioned}
 use Rattle.portions.specs.Claims.{PortionKeepsApart, PortionLeavesAlone}
 use Rattle.portions.specs.declared.PortionAnswer.the-variants.{Refused}
-use Rattle.portions.proofs.Slots.{slot-either}
+use Rattle.table.proofs.Ranges.{slot-either}
 use Rattle.portions.proofs.Portions.{steps-within}
 
 -- what holds of the table as it was, and of the table with some of its slots cleared, holds after the call

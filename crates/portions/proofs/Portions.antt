@@ -31,7 +31,7 @@ use Rattle.portions.specs.Portion.{portion-bad, portionSteps, portionBy,
 use Rattle.portions.specs.Claims.{freedFrom, PassedStays, PortionFacts, PortionExact, PortionRefusal}
 use Rattle.portions.specs.declared.PortionAnswer.{PortionAnswer}
 use Rattle.portions.specs.declared.PortionAnswer.the-variants.{Refused, Portioned}
-use Rattle.portions.proofs.Slots.{take-onSlots}
+use Rattle.table.proofs.Ranges.{take-onSlots}
 
 -- ---- the steps
 

@@ -17,7 +17,7 @@ use Rattle.flush.specs.declared.FlushAnswer.the-variants.{Flushed}
 use Rattle.flush.proofs.Flushing.{cleared-keeps}
 use Rattle.portions.specs.Portion.{portionSteps, portionBy, Run, stands, portionsRun, total}
 use Rattle.portions.specs.Claims.{WholeFlush, PortionsWhole, Reaches, Positive, PortionsReach, calls, Ends, PortionsEnd}
-use Rattle.portions.proofs.Slots.{on-join, count-join}
+use Rattle.table.proofs.Ranges.{on-join, count-join}
 use Rattle.portions.proofs.Portions.{steps-k, steps-left, steps-within, past, none, ran, flush-ran}
 
 good-same : (t u : List ℕ) → length u ≡ length t → tableGood t ≡ true → tableGood u ≡ true

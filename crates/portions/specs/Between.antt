@@ -2,6 +2,7 @@
 -- the whole flush's; each portion is still exact in the table that it is given (PortionExact).
 -- Assumes nothing.
 use Prim.Native.Nat.{ℕ}
+use mathlib.Core.Bool.{false}
 use mathlib.Core.List.{List, [], _∷_, _++_}
 use mathlib.Core.Path.{_≡_}
 use Rattle.numbers.specs.After.{OnTable, onTable}
@@ -19,7 +20,7 @@ use Rattle.portions.specs.declared.PortionAnswer.the-variants.{Portioned
 
 -- what is known of a station; learned, it is a record that the message means
 abbrev pub station : ℕ → Entry
-station mac = record { label = Vlan 10; mac = mac; nickname = 0x1234; confidence = 20; seconds = 300 }
+station mac = record { label = Vlan 10; mac = mac; nickname = 0x1234; confidence = 20; seconds = 300; multihomed = false }
 
 abbrev pub entry : Entry
 entry = station 0x0200_0000_0001

@@ -22,7 +22,8 @@ use Rattle.flush_call.specs.Clearing.{clearingIn, clearedOn}
 use Rattle.flush_call.specs.declared.Cleared.{Cleared}
 use Rattle.flush_call.specs.declared.Cleared.the-variants.{Refused, Count}
 use Rattle.flush_call.proofs.Tests.{either-neither}
-use Rattle.flush_call.proofs.Calls.{ran-refused, ran-count, count-few, good-slots}
+use Rattle.flush_call.proofs.Calls.{ran-refused, ran-count}
+use Rattle.table.proofs.Slots.{count-few, good-slots}
 use Rattle.portions.specs.Portion.{portion-bad, portionSteps, portionBy, portioned}
 use Rattle.portions.specs.declared.PortionAnswer.the-variants as answer
 use Rattle.portions.proofs.Portions.{steps-within, bad-table, past, none, corrupt, ran}

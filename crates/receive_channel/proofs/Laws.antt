@@ -24,7 +24,8 @@ use Rattle.receive_decide.specs.declared.FieldValues.{FieldValues}
 use Rattle.flush_call.specs.Clearing.{clearedOn}
 use Rattle.flush_call.specs.declared.Cleared.{Cleared}
 use Rattle.flush_call.specs.declared.Cleared.the-variants.{Refused, Count}
-use Rattle.flush_call.proofs.Calls.{ran-refused, ran-count, clearing-few, good-slots}
+use Rattle.flush_call.proofs.Calls.{ran-refused, ran-count, clearing-few}
+use Rattle.table.proofs.Slots.{good-slots}
 use Rattle.receive_channel.specs.Meaning.{channelOf}
 
 module _ (s : Settings) (p : Fields) (v : FieldValues) (w : ValuesOf p v) (t o : List ℕ) where

@@ -1,13 +1,12 @@
 -- Laws of the search for a free slot.
 -- Assumes nothing.
-use Prim.Native.Nat.{ℕ, suc, _+_, _<_}
+use Prim.Native.Nat.{ℕ, _<_}
 use native.Mathlib.Omega.{arith}
 use mathlib.Core.Bool.{Bool, true, false}
 use mathlib.Core.List.{List}
 use mathlib.Core.Path.{_≡_, refl, sym, ap, _∙_}
 use lib.Dec.{eqb}
 use borrow.Author.Tests.{ne-eqb}
-use Rattle.numbers.specs.Tests.{pick}
 use Rattle.table.specs.Record.{freeState, recordOf, stateOf, unpacked, isFree}
 use Rattle.table.specs.Slots.{slotsOf, slotAt, lowest}
 use Rattle.table.specs.Learning.{freeSlot}

@@ -1,7 +1,7 @@
 -- Laws of searching: what the rounds exclude; numbers that no good record can hold; the outcomes of a lookup and of the search for a
 -- spoilt slot.
 -- Assumes nothing.
-use Prim.Native.Nat.{ℕ, zero, suc, _+_, _-_, _*_, _%_, _^_, _<_, _≤_}
+use Prim.Native.Nat.{ℕ, zero, suc, _+_, _-_, _*_, _^_, _<_, _≤_}
 use mathlib.Core.Bool.{Bool, true, false, not}
 use mathlib.Core.List.{List}
 use mathlib.Core.Path.{_≡_, refl, sym, ap, _∙_}
@@ -12,9 +12,9 @@ use native.Mathlib.Omega.{arith}
 use lib.Dec.{eqb}
 use lib.ListN.{drop, length}
 use borrow.Author.Tests.{ne-eqb}
-use Rattle.numbers.specs.Tests.{pick, between}
+use Rattle.numbers.specs.Tests.{pick}
 use Rattle.numbers.specs.Result.{check, settled}
-use Rattle.numbers.proofs.Truth.{not-true-false, both-true, between-is, pick-false}
+use Rattle.numbers.proofs.Truth.{not-true-false, pick-false}
 use Rattle.table.specs.FreeSlot.{stateFree, slotsSearched, slotsUnpacked, freeSearch, freeFound, freeAnswered}
 use Rattle.table.specs.Learning.{freeSlot}
 use Rattle.table.specs.Record.{recordOf, stateOf, nicknameOf, vlanKind, fineKind, labelFrom}
@@ -27,7 +27,7 @@ use Rattle.table.specs.declared.FreeSearch.{FreeSearch}
 use Rattle.table.specs.declared.FreeAnswer.the-variants as free
 use Rattle.table.specs.declared.LookupAnswer.the-variants as lookup
 use Rattle.table.specs.declared.SpoiltAnswer.the-variants as spoilt
-use Rattle.table.proofs.Slots.{Local, search-next, search-hit, search-end, lowest-none, lowest-within, count-few, count-next}
+use Rattle.table.proofs.Slots.{Local, search-next, search-hit, search-end, lowest-none, lowest-within, count-few, count-next, good-slots}
 use Rattle.table.proofs.FreeSlot.{state-free-near, state-other}
 use Rattle.table.proofs.Contents.{record-near, holds-near, free-near, other-than-free, holds-fits}
 use Rattle.table_fields.specs.Keys.{roundKeyOf}
@@ -134,14 +134,6 @@ too-large k x m t hk h =
     lowest-none (holds (labelFrom k x) m) t (λ r. not-true-false _ (λ e. h (holds-fits k x m r hk e)))
     ∙ place-from k x m t hk
 
--- the slots of a good table are few
-good-few : (t : List ℕ) → tableGood t ≡ true → slotsOf t ≤ mostSlots
-unfolding tableGood
-good-few t ok =
-    let b = both-true (between 1 (slotBytes * mostSlots) (length t)) (eqb (length t % slotBytes) 0) ok in
-    let c = between-is 1 (slotBytes * mostSlots) (length t) (b .0) in
-    omega arith
-
 -- ---- the outcomes of a lookup
 
 pub place-within : (k x m : ℕ) (t : List ℕ) (j : ℕ) → placeOf k x m t ≡ At j → slotBytes * j + slotBytes ≤ length t
@@ -190,7 +182,7 @@ module _ (t : List ℕ) (g : Bool) (good : g ≡ tableGood t) where
     pub unpacked-fits : s .unpacked ≤ mostSlots
     unfolding freeSearch slotsUnpacked slotsSearched
     unpacked-fits =
-        let few = good-few t (sym good ∙ ok) in
+        let few = good-slots t (sym good ∙ ok) in
         let n = count-few stateFree t 0 (slotsSearched (lowest freeSlot t) (slotsOf t)) in
         let m = searched-few (lowest freeSlot t) (lowest-within freeSlot t) in
         rw search (omega arith)
@@ -202,7 +194,7 @@ module _ (t : List ℕ) (g : Bool) (good : g ≡ tableGood t) where
     pub slot-fits : (k : ℕ) → s .place ≡ At k → k < mostSlots
     unfolding freeSearch
     slot-fits k e =
-        let few = good-few t (sym good ∙ ok) in
+        let few = good-slots t (sym good ∙ ok) in
         let l = lowest-within freeSlot t k (ap (λ (x : FreeSearch). x .place) (sym search) ∙ e) in
         omega arith
 
@@ -225,5 +217,5 @@ module _ (t : List ℕ) (g : Bool) (good : g ≡ tableGood t) where
     pub spoilt-fits : (j : ℕ) → p ≡ At j → j < mostSlots
     spoilt-fits j e =
         let w = lowest-within spoiltSlot t j (sym place ∙ e) in
-        let few = good-few t (sym good ∙ ok) in
+        let few = good-slots t (sym good ∙ ok) in
         omega arith

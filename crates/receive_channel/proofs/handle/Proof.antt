@@ -3,7 +3,7 @@
 use native.Mathlib.Omega.{arith}
 use Rattle.frame_parse.specs.Meaning.{fieldsIn}
 use Rattle.receive_channel.proofs.Laws.{cut-out, bad-out, other-out, corrupt-out, flushed-out, few-cleared}
-use Rattle.flush_call.proofs.Calls.{good-slots}
+use Rattle.table.proofs.Slots.{good-slots}
 use borrow.Author.Needs.{needs}
 use Rattle.receive_channel.proofs.handle.Statement.{statement}
 use Rattle.receive_channel.proofs.handle.Tie as tie

@@ -1,6 +1,6 @@
 -- `table_search::find_free` meets its contract. The invariant: none of the first `j` slots is free, and those of state 0 are counted.
 -- Assumes nothing.
-use Prim.Native.Nat.{_≤_, _-_, _+_}
+use Prim.Native.Nat.{_≤_, _-_}
 use mathlib.Core.Path.{_≡_, refl}
 use native.Mathlib.Omega.{arith}
 use Rattle.table.specs.Slots.{firstSlot, countSlots}
