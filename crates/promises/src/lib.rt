@@ -5,6 +5,8 @@ ghost use Rattle.table.specs.Claims.{UnpackPacked, PackUnpacked, LearningKeepsU
 ghost use Rattle.flush.specs.Claims.{FlushExact, FlushingKeepsUnique, FlushRefusal, FlushingLeavesAlone};
 ghost use Rattle.flush.specs.Padding.{PaddedFlush};
 ghost use Rattle.flush.specs.Validity.{Validity};
+ghost use Rattle.flush_write.specs.Cases.{WriterCases};
+ghost use Rattle.flush_write.specs.Claims.{WriterExact, WriterClears, WriterLength, WriterCalls};
 ghost use Rattle.frame.specs.Claims.{HeaderLocal, LabelLocal, LabelsGood};
 ghost use Rattle.convert.specs.Claims.{ReadsSame, ExpandCompacted, CompactExpanded, ConvertRefusals, SendsExactly, RoomForCompaction, SendRoom, ControlNeverCompact};
 ghost use Rattle.convert.specs.Chosen.{ChosenSent};
@@ -20,4 +22,5 @@ pub fn claims()
     ensures demands { λ _. ⌜ Interchange × InterchangeExample × ExpandCompacted × CompactExpanded × RefusalChangesNothing × Validity × FlushExact × ReadFlushExact × PaddedFlush × PaddedRead × ReadsExactly × PairsStayUnique × SpoiltStays × ConfiguredStays × SendsExactly × RoomForCompaction × SendRoom × ChosenSent × ControlNeverCompact × LifeAsBefore × OtherLivesStay × Cases × ControlCases ⌝ }
     ensures calls { λ _. ⌜ ReadRefusal × FlushRefusal × AgeingRefusal × ConvertRefusals × ReadingKeepsUnique × FlushingKeepsUnique × AgeingKeepsUnique × LearningKeepsUnique × ReadingLeavesAlone × FlushingLeavesAlone × AgeingLeavesAlone × LearningLeavesAlone ⌝ }
     ensures laws { λ _. ⌜ Blocks × Maps × UnpackPacked × PackUnpacked × KeptWritesNothing × HeaderLocal × LabelLocal × LabelsGood × ReadsSame × ReadsParsed ⌝ }
+    ensures writing { λ _. ⌜ WriterExact × WriterClears × WriterLength × WriterCalls × WriterCases ⌝ }
 {}

@@ -9,6 +9,11 @@ use Rattle.flush.proofs.Validity.{validity}
 use Rattle.flush.proofs.Flushing.{flush-exact, flushing-keeps-unique, flush-refusal}
 use Rattle.flush.proofs.Padding.{padded-flush}
 use Rattle.flush.proofs.Stays.{flushing-leaves-alone}
+use Rattle.flush_write.proofs.Exact.{writer-exact}
+use Rattle.flush_write.proofs.Clears.{writer-clears}
+use Rattle.flush_write.proofs.Bounds.{writer-length}
+use Rattle.flush_write.proofs.Calls.{writer-calls}
+use Rattle.flush_write.proofs.Worked.{writer-cases}
 use Rattle.frame.proofs.Local.{header-local, label-local, labels-good}
 use Rattle.convert.proofs.Areas.{convert-refusals}
 use Rattle.convert.proofs.Compacting.{reads-same}
@@ -52,7 +57,10 @@ returns c = (
   (interchange, example-holds, expand-compacted, compact-expanded, refusals, validity, flush-exact, read-flush-exact, padded-flush, padded-read, reads-exactly, pairs, stays-spoilt, stays-configured, sends-exactly, room-for-compaction, send-room, chosen-sent, control-never-compact, life-as-before, other-lives-stay, cases-hold, control-cases),
   (
     (read-refusal, flush-refusal, ageing-refusal, convert-refusals, reading-unique, flushing-keeps-unique, ageing-unique, learning-unique, reading-leaves-alone, flushing-leaves-alone, ageing-leaves-alone, learning-leaves-alone),
-    (blocks-hold, maps-hold, unpack-packed, pack-unpacked, kept-writes-nothing, header-local, label-local, labels-good, reads-same, reads-parsed),
+    (
+      (blocks-hold, maps-hold, unpack-packed, pack-unpacked, kept-writes-nothing, header-local, label-local, labels-good, reads-same, reads-parsed),
+      (writer-exact, writer-clears, writer-length, writer-calls, writer-cases),
+    ),
   ),
 )
 
