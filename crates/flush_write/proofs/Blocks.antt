@@ -29,7 +29,7 @@ unfolding atMost pick
 at-most m n h = rw (le-leb n m h)
 
 module _ (w : Numbering) where
-  pub length-block : (b : Block) → length (blockBytes w b) ≡ 2 * w .size
+  pub length-block : (b : Block) → length (blockBytes (w .size) b) ≡ 2 * w .size
   unfolding blockBytes
   length-block b =
       let n = length-append (bytesOf (w .size) (b .start)) (bytesOf (w .size) (b .end)) in
@@ -37,9 +37,9 @@ module _ (w : Numbering) where
       let e = length-bytesOf (w .size) (b .end) in
       omega arith
 
-  pub length-blocks : (bs : List Block) → length (blocksBytes w bs) ≡ 2 * w .size * length bs
+  pub length-blocks : (bs : List Block) → length (blocksBytes (w .size) bs) ≡ 2 * w .size * length bs
   unfolding blocksBytes
-  length-blocks bs = length-joined (2 * w .size) (blockBytes w) length-block bs
+  length-blocks bs = length-joined (2 * w .size) (blockBytes (w .size)) length-block bs
 
   -- the numbers of the width fit in its bytes
   module _ (fits : w .high < w .top) (room : w .high < 256 ^ w .size) where
@@ -53,7 +53,7 @@ module _ (w : Numbering) where
     unfolding numberOf
     number-alone n h = rw (take-bytesOf (w .size) n, num-same (w .size) n (omega arith)) (mod-eq-of-lt (omega arith))
 
-    module _ (b : Block) (good : blockGood w b ≡ true) where
+    module _ (b : Block) (good : blockGood (w .low) (w .high) b ≡ true) where
       bounds : (w .low ≤ b .start) × (b .start ≤ b .end) × (b .end ≤ w .high)
       unfolding blockGood
       bounds =
@@ -61,13 +61,13 @@ module _ (w : Numbering) where
           let q = both-true (leb (b .start) (b .end)) (leb (b .end) (w .high)) (p .1) in
           (leb-true (w .low) (b .start) (p .0), leb-true (b .start) (b .end) (q .0), leb-true (b .end) (w .high) (q .1))
 
-      start-back : startOf w (blockBytes w b) ≡ b .start
+      start-back : startOf w (blockBytes (w .size) b) ≡ b .start
       unfolding startOf blockBytes
       start-back =
           let o = bounds in
           rw (number-first (b .start) (bytesOf (w .size) (b .end)) (omega arith)) (at-least (w .low) (b .start) (omega arith))
 
-      end-back : endOf w (blockBytes w b) ≡ b .end
+      end-back : endOf w (blockBytes (w .size) b) ≡ b .end
       unfolding endOf blockBytes
       end-back =
           let o = bounds in
@@ -76,39 +76,39 @@ module _ (w : Numbering) where
             number-alone (b .end) (omega arith),
           ) (at-most (w .high) (b .end) (omega arith))
 
-      block-back : (x : ℕ) → inBlock w x (blockBytes w b) ≡ blockHas x b
+      block-back : (x : ℕ) → inBlock w x (blockBytes (w .size) b) ≡ blockHas x b
       unfolding inBlock
       block-back x = rw (start-back, end-back)
 
-      block-filled : filled w (blockBytes w b) ≡ true
+      block-filled : filled w (blockBytes (w .size) b) ≡ true
       unfolding filled
       block-filled = let o = bounds in rw (start-back, end-back) (le-leb (b .start) (b .end) (omega arith))
 
-    pub blocks-have : (x : ℕ) (bs : List Block) → allOf (blockGood w) bs ≡ true → anyOf (λ b. inBlock w x (blockBytes w b)) bs ≡ anyOf (blockHas x) bs
-    blocks-have x bs good = any-where (blockGood w) (λ b. inBlock w x (blockBytes w b)) (blockHas x) (λ b g. block-back b g x) bs good
+    pub blocks-have : (x : ℕ) (bs : List Block) → allOf (blockGood (w .low) (w .high)) bs ≡ true → anyOf (λ b. inBlock w x (blockBytes (w .size) b)) bs ≡ anyOf (blockHas x) bs
+    blocks-have x bs good = any-where (blockGood (w .low) (w .high)) (λ b. inBlock w x (blockBytes (w .size) b)) (blockHas x) (λ b g. block-back b g x) bs good
 
-    some-there : (bs : List Block) → allOf (blockGood w) bs ≡ true → anyOf (λ b. filled w (blockBytes w b)) bs ≡ not (eqb (length bs) 0)
+    some-there : (bs : List Block) → allOf (blockGood (w .low) (w .high)) bs ≡ true → anyOf (λ b. filled w (blockBytes (w .size) b)) bs ≡ not (eqb (length bs) 0)
     unfolding anyOf allOf either
     some-there [] e = refl
-    some-there (b ∷ bs) e = rw (block-filled b (both-true (blockGood w b) (allOf (blockGood w) bs) e .0), ne-eqb (length (b ∷ bs)) 0 (λ o. omega arith))
+    some-there (b ∷ bs) e = rw (block-filled b (both-true (blockGood (w .low) (w .high) b) (allOf (blockGood (w .low) (w .high)) bs) e .0), ne-eqb (length (b ∷ bs)) 0 (λ o. omega arith))
 
-    pub blocks-filled : (bs : List Block) → allOf (blockGood w) bs ≡ true → not (anyOf (λ b. filled w (blockBytes w b)) bs) ≡ eqb (length bs) 0
+    pub blocks-filled : (bs : List Block) → allOf (blockGood (w .low) (w .high)) bs ≡ true → not (anyOf (λ b. filled w (blockBytes (w .size) b)) bs) ≡ eqb (length bs) 0
     blocks-filled [] e = rw (some-there [] e)
     blocks-filled (b ∷ bs) e = rw (some-there (b ∷ bs) e, ne-eqb (length (b ∷ bs)) 0 (λ o. omega arith))
 
   -- a list of blocks in bytes is the blocks
   module _ (some : 0 < 2 * w .size) where
-    pub blocks-cut : (bs : List Block) → parts (2 * w .size) (blocksBytes w bs) ≡ map (blockBytes w) bs
+    pub blocks-cut : (bs : List Block) → parts (2 * w .size) (blocksBytes (w .size) bs) ≡ map (blockBytes (w .size)) bs
     unfolding blocksBytes
-    blocks-cut bs = parts-joined (2 * w .size) some (blockBytes w) length-block bs
+    blocks-cut bs = parts-joined (2 * w .size) some (blockBytes (w .size)) length-block bs
 
-    pub in-blocks : (x : ℕ) (bs : List Block) → inBlocks w x (blocksBytes w bs) ≡ anyOf (λ b. inBlock w x (blockBytes w b)) bs
+    pub in-blocks : (x : ℕ) (bs : List Block) → inBlocks w x (blocksBytes (w .size) bs) ≡ anyOf (λ b. inBlock w x (blockBytes (w .size) b)) bs
     unfolding inBlocks
-    in-blocks x bs = rw (blocks-cut bs) (any-map (inBlock w x) (blockBytes w) bs)
+    in-blocks x bs = rw (blocks-cut bs) (any-map (inBlock w x) (blockBytes (w .size)) bs)
 
-    pub some-filled : (bs : List Block) → someFilled w (blocksBytes w bs) ≡ anyOf (λ b. filled w (blockBytes w b)) bs
+    pub some-filled : (bs : List Block) → someFilled w (blocksBytes (w .size) bs) ≡ anyOf (λ b. filled w (blockBytes (w .size) b)) bs
     unfolding someFilled
-    some-filled bs = rw (blocks-cut bs) (any-map (filled w) (blockBytes w) bs)
+    some-filled bs = rw (blocks-cut bs) (any-map (filled w) (blockBytes (w .size)) bs)
 
 -- ---- nicknames
 

@@ -101,20 +101,20 @@ module _ (n : ℕ) (some : 0 < n) where
   groups-joined bs = joinFrom (length bs) bs (omega arith)
 
 module _ (k : ℕ) (w : Numbering) where
-  sum-groups : (gs : List (List Block)) → length (flatMap (λ g. tlvBytes k (blocksBytes w g)) gs) ≡ 2 * w .size * length (flatMap (λ g. g) gs) + 2 * length gs
+  sum-groups : (gs : List (List Block)) → length (flatMap (λ g. tlvBytes k (blocksBytes (w .size) g)) gs) ≡ 2 * w .size * length (flatMap (λ g. g) gs) + 2 * length gs
   unfolding flatMap tlvBytes
   sum-groups [] = omega arith
   sum-groups (g ∷ gs) =
-      let n = length-append (blocksBytes w g) (flatMap (λ h. tlvBytes k (blocksBytes w h)) gs) in
+      let n = length-append (blocksBytes (w .size) g) (flatMap (λ h. tlvBytes k (blocksBytes (w .size) h)) gs) in
       let b = length-blocks w g in
       let i = sum-groups gs in
       rw (length-append g (flatMap (λ h. h) gs)) (omega arith)
 
-  length-tlvs : 0 < perTlv w → (bs : List Block) → length (tlvsBytes k w bs) ≡ 2 * w .size * length bs + 2 * length (groups (perTlv w) bs)
+  length-tlvs : 0 < perTlv (w .size) → (bs : List Block) → length (tlvsBytes k (w .size) bs) ≡ 2 * w .size * length bs + 2 * length (groups (perTlv (w .size)) bs)
   unfolding tlvsBytes
-  length-tlvs some bs = rw (sum-groups (groups (perTlv w) bs), groups-joined (perTlv w) some bs)
+  length-tlvs some bs = rw (sum-groups (groups (perTlv (w .size)) bs), groups-joined (perTlv (w .size)) some bs)
 
-length-1 : (bs : List Block) → length (tlvsBytes 1 vlans bs) ≡ tlvsLength vlans (length bs)
+length-1 : (bs : List Block) → length (tlvsBytes 1 (vlans .size) bs) ≡ tlvsLength (vlans .size) (length bs)
 length-1 bs =
     let c = count-groups 63 (omega arith) bs in
     let x = c .holds in
@@ -122,7 +122,7 @@ length-1 bs =
     let l = length-tlvs 1 vlans (omega arith) bs in
     omega arith
 
-length-3 : (bs : List Block) → length (tlvsBytes 3 fines bs) ≡ tlvsLength fines (length bs)
+length-3 : (bs : List Block) → length (tlvsBytes 3 (fines .size) bs) ≡ tlvsLength (fines .size) (length bs)
 length-3 bs =
     let c = count-groups 42 (omega arith) bs in
     let x = c .holds in
@@ -130,7 +130,7 @@ length-3 bs =
     let l = length-tlvs 3 fines (omega arith) bs in
     omega arith
 
-length-8 : (bs : List Block) → length (tlvsBytes 8 macs bs) ≡ tlvsLength macs (length bs)
+length-8 : (bs : List Block) → length (tlvsBytes 8 (macs .size) bs) ≡ tlvsLength (macs .size) (length bs)
 length-8 bs =
     let c = count-groups 21 (omega arith) bs in
     let x = c .holds in
@@ -138,12 +138,12 @@ length-8 bs =
     let l = length-tlvs 8 macs (omega arith) bs in
     omega arith
 
-form-length : (a : Asked) (c : Bool) → length (pick c (blockForm a) (tlvForm a)) ≡ 1 + pick c (4 * length (a .vlanBlocks)) (tlvsLength vlans (length (a .vlanBlocks)) + (tlvsLength fines (length (a .fineBlocks)) + tlvsLength macs (length (a .macBlocks))))
+form-length : (a : Asked) (c : Bool) → length (pick c (blockForm a) (tlvForm a)) ≡ 1 + pick c (4 * length (a .vlanBlocks)) (tlvsLength (vlans .size) (length (a .vlanBlocks)) + (tlvsLength (fines .size) (length (a .fineBlocks)) + tlvsLength (macs .size) (length (a .macBlocks))))
 unfolding pick
 form-length a true = let b = length-blocks vlans (a .vlanBlocks) in omega arith
 form-length a false =
-    let x = length-append (tlvsBytes 1 vlans (a .vlanBlocks)) (tlvsBytes 3 fines (a .fineBlocks) ++ tlvsBytes 8 macs (a .macBlocks)) in
-    let y = length-append (tlvsBytes 3 fines (a .fineBlocks)) (tlvsBytes 8 macs (a .macBlocks)) in
+    let x = length-append (tlvsBytes 1 (vlans .size) (a .vlanBlocks)) (tlvsBytes 3 (fines .size) (a .fineBlocks) ++ tlvsBytes 8 (macs .size) (a .macBlocks)) in
+    let y = length-append (tlvsBytes 3 (fines .size) (a .fineBlocks)) (tlvsBytes 8 (macs .size) (a .macBlocks)) in
     let u = length-1 (a .vlanBlocks) in
     let v = length-3 (a .fineBlocks) in
     let w = length-8 (a .macBlocks) in
@@ -165,20 +165,20 @@ pub record Short (a : Asked) : Type 0 where
   pub fs : length (a .fineBlocks) ≤ 255
   pub ms : length (a .macBlocks) ≤ 255
 
-few : (w : Numbering) (bs : List Block) → blocksGood w bs ≡ true → length bs ≤ 255
+few : (w : Numbering) (bs : List Block) → blocksGood (w .low) (w .high) bs ≡ true → length bs ≤ 255
 unfolding blocksGood
-few w bs e = leb-true (length bs) mostListed (both-true (leb (length bs) mostListed) (allOf (blockGood w) bs) e .0)
+few w bs e = leb-true (length bs) mostListed (both-true (leb (length bs) mostListed) (allOf (blockGood (w .low) (w .high)) bs) e .0)
 
 short : (a : Asked) → askedGood a ≡ true → Short a
 unfolding askedGood
 short a good =
     let p = both-true (labelsNamed a) _ good in
     let q = both-true (leb (length (a .nicks)) mostListed) _ (p .1) in
-    let r = both-true (blocksGood vlans (a .vlanBlocks)) _ (q .1) in
-    let s = both-true (blocksGood fines (a .fineBlocks)) (blocksGood macs (a .macBlocks)) (r .1) in
+    let r = both-true (blocksGood (vlans .low) (vlans .high) (a .vlanBlocks)) _ (q .1) in
+    let s = both-true (blocksGood (fines .low) (fines .high) (a .fineBlocks)) (blocksGood (macs .low) (macs .high) (a .macBlocks)) (r .1) in
     record { nicks = leb-true (length (a .nicks)) mostListed (q .0); vs = few vlans (a .vlanBlocks) (r .0); fs = few fines (a .fineBlocks) (s .0); ms = few macs (a .macBlocks) (s .1) }
 
-form-most : (a : Asked) → Short a → (c : Bool) → pick c (4 * length (a .vlanBlocks)) (tlvsLength vlans (length (a .vlanBlocks)) + (tlvsLength fines (length (a .fineBlocks)) + tlvsLength macs (length (a .macBlocks)))) ≤ 5660
+form-most : (a : Asked) → Short a → (c : Bool) → pick c (4 * length (a .vlanBlocks)) (tlvsLength (vlans .size) (length (a .vlanBlocks)) + (tlvsLength (fines .size) (length (a .fineBlocks)) + tlvsLength (macs .size) (length (a .macBlocks)))) ≤ 5660
 unfolding pick
 form-most a s true = let v = s .vs in omega arith
 form-most a s false = let v = s .vs in let f = s .fs in let m = s .ms in omega arith
@@ -211,13 +211,13 @@ unfolding flatMap
 joined-bytes f h [] = tt
 joined-bytes f h (x ∷ xs) = bytes-append (f x) (flatMap f xs) (h x) (joined-bytes f h xs)
 
-block-bytes : (w : Numbering) (b : Block) → Bytes (blockBytes w b)
+block-bytes : (w : Numbering) (b : Block) → Bytes (blockBytes (w .size) b)
 unfolding blockBytes
 block-bytes w b = bytes-append (bytesOf (w .size) (b .start)) (bytesOf (w .size) (b .end)) (number-bytes (w .size) (b .start)) (number-bytes (w .size) (b .end))
 
-blocks-bytes : (w : Numbering) (bs : List Block) → Bytes (blocksBytes w bs)
+blocks-bytes : (w : Numbering) (bs : List Block) → Bytes (blocksBytes (w .size) bs)
 unfolding blocksBytes
-blocks-bytes w bs = joined-bytes (blockBytes w) (block-bytes w) bs
+blocks-bytes w bs = joined-bytes (blockBytes (w .size)) (block-bytes w) bs
 
 nicks-bytes : (ns : List ℕ) → Bytes (nicksBytes ns)
 unfolding nicksBytes
@@ -225,25 +225,25 @@ nicks-bytes ns = joined-bytes (bytesOf 2) (number-bytes 2) ns
 
 -- groups of at most n blocks, n of which are at most 255 bytes
 module _ (k n : ℕ) (w : Numbering) (kind : k < 256) (full : (m : ℕ) → m ≤ n → 2 * w .size * m < 256) where
-  short-bytes : (gs : List (List Block)) → AllShort n gs → Bytes (flatMap (λ g. tlvBytes k (blocksBytes w g)) gs)
+  short-bytes : (gs : List (List Block)) → AllShort n gs → Bytes (flatMap (λ g. tlvBytes k (blocksBytes (w .size) g)) gs)
   unfolding flatMap tlvBytes
   short-bytes [] s = tt
   short-bytes (g ∷ gs) s =
       let l = length-blocks w g in
       let f = full (length g) (s .0) in
-      (kind, (omega arith, bytes-append (blocksBytes w g) _ (blocks-bytes w g) (short-bytes gs (s .1))))
+      (kind, (omega arith, bytes-append (blocksBytes (w .size) g) _ (blocks-bytes w g) (short-bytes gs (s .1))))
 
-tlvs-bytes : (k : ℕ) (w : Numbering) → k < 256 → ((m : ℕ) → m ≤ perTlv w → 2 * w .size * m < 256) → 0 < perTlv w → (bs : List Block) → Bytes (tlvsBytes k w bs)
+tlvs-bytes : (k : ℕ) (w : Numbering) → k < 256 → ((m : ℕ) → m ≤ perTlv (w .size) → 2 * w .size * m < 256) → 0 < perTlv (w .size) → (bs : List Block) → Bytes (tlvsBytes k (w .size) bs)
 unfolding tlvsBytes
-tlvs-bytes k w kind full some bs = short-bytes k (perTlv w) w kind full (groups (perTlv w) bs) (all-short (perTlv w) some bs)
+tlvs-bytes k w kind full some bs = short-bytes k (perTlv (w .size)) w kind full (groups (perTlv (w .size)) bs) (all-short (perTlv (w .size)) some bs)
 
 form-bytes : (a : Asked) → Short a → (c : Bool) → Bytes (pick c (blockForm a) (tlvForm a))
 unfolding pick
 form-bytes a s true = let v = s .vs in (omega arith, blocks-bytes vlans (a .vlanBlocks))
 form-bytes a s false = (
   omega arith,
-  bytes-append (tlvsBytes 1 vlans (a .vlanBlocks)) _ (tlvs-bytes 1 vlans (omega arith) (λ m h. omega arith) (omega arith) (a .vlanBlocks))
-      (bytes-append (tlvsBytes 3 fines (a .fineBlocks)) _ (tlvs-bytes 3 fines (omega arith) (λ m h. omega arith) (omega arith) (a .fineBlocks))
+  bytes-append (tlvsBytes 1 (vlans .size) (a .vlanBlocks)) _ (tlvs-bytes 1 vlans (omega arith) (λ m h. omega arith) (omega arith) (a .vlanBlocks))
+      (bytes-append (tlvsBytes 3 (fines .size) (a .fineBlocks)) _ (tlvs-bytes 3 fines (omega arith) (λ m h. omega arith) (omega arith) (a .fineBlocks))
       (tlvs-bytes 8 macs (omega arith) (λ m h. omega arith) (omega arith) (a .macBlocks))),
 )
 

@@ -66,39 +66,39 @@ nicks-meant ingress x ns fit = rw (double-none (length ns) (length (nicksBytes n
 -- ---- what was asked is good
 
 module _ (a : Asked) (good : askedGood a ≡ true) where
-  parted : (labelsNamed a ≡ true) × (blocksGood vlans (a .vlanBlocks) ≡ true) × (blocksGood fines (a .fineBlocks) ≡ true) × (blocksGood macs (a .macBlocks) ≡ true)
+  parted : (labelsNamed a ≡ true) × (blocksGood (vlans .low) (vlans .high) (a .vlanBlocks) ≡ true) × (blocksGood (fines .low) (fines .high) (a .fineBlocks) ≡ true) × (blocksGood (macs .low) (macs .high) (a .macBlocks) ≡ true)
   unfolding askedGood
   parted =
       let p = both-true (labelsNamed a) _ good in
       let q = both-true (leb (length (a .nicks)) mostListed) _ (p .1) in
-      let r = both-true (blocksGood vlans (a .vlanBlocks)) _ (q .1) in
-      let s = both-true (blocksGood fines (a .fineBlocks)) (blocksGood macs (a .macBlocks)) (r .1) in
+      let r = both-true (blocksGood (vlans .low) (vlans .high) (a .vlanBlocks)) _ (q .1) in
+      let s = both-true (blocksGood (fines .low) (fines .high) (a .fineBlocks)) (blocksGood (macs .low) (macs .high) (a .macBlocks)) (r .1) in
       (p .0, r .0, s .0, s .1)
 
-each-good : (w : Numbering) (bs : List Block) → blocksGood w bs ≡ true → allOf (blockGood w) bs ≡ true
+each-good : (w : Numbering) (bs : List Block) → blocksGood (w .low) (w .high) bs ≡ true → allOf (blockGood (w .low) (w .high)) bs ≡ true
 unfolding blocksGood
-each-good w bs e = both-true (leb (length bs) mostListed) (allOf (blockGood w) bs) e .1
+each-good w bs e = both-true (leb (length bs) mostListed) (allOf (blockGood (w .low) (w .high)) bs) e .1
 
 -- ---- the TLV form
 
 abbrev kind : ℕ → Numbering → List Block → List Piece
-kind k w bs = map (λ g. tlv k (blocksBytes w g)) (groups (perTlv w) bs)
+kind k w bs = map (λ g. tlv k (blocksBytes (w .size) g)) (groups (perTlv (w .size)) bs)
 
-kind-cut : (k : ℕ) (w : Numbering) (bs : List Block) (r : List ℕ) → tlvs (tlvsBytes k w bs ++ r) ≡ kind k w bs ++ tlvs r
+kind-cut : (k : ℕ) (w : Numbering) (bs : List Block) (r : List ℕ) → tlvs (tlvsBytes k (w .size) bs ++ r) ≡ kind k w bs ++ tlvs r
 unfolding tlvsBytes
-kind-cut k w bs r = tlvs-all k (blocksBytes w) (groups (perTlv w) bs) r
+kind-cut k w bs r = tlvs-all k (blocksBytes (w .size)) (groups (perTlv (w .size)) bs) r
 
 module _ (q : Piece → Bool) (k : ℕ) (w : Numbering) where
-  kind-brings : (p : Block → Bool) → 0 < perTlv w → ((g : List Block) → q (tlv k (blocksBytes w g)) ≡ anyOf p g) → (bs : List Block) → anyOf q (kind k w bs) ≡ anyOf p bs
+  kind-brings : (p : Block → Bool) → 0 < perTlv (w .size) → ((g : List Block) → q (tlv k (blocksBytes (w .size) g)) ≡ anyOf p g) → (bs : List Block) → anyOf q (kind k w bs) ≡ anyOf p bs
   kind-brings p some h bs =
-      any-map q (λ g. tlv k (blocksBytes w g)) (groups (perTlv w) bs)
-      ∙ any-same (λ g. q (tlv k (blocksBytes w g))) (anyOf p) h (groups (perTlv w) bs)
-      ∙ any-groups (perTlv w) some p bs
+      any-map q (λ g. tlv k (blocksBytes (w .size) g)) (groups (perTlv (w .size)) bs)
+      ∙ any-same (λ g. q (tlv k (blocksBytes (w .size) g))) (anyOf p) h (groups (perTlv (w .size)) bs)
+      ∙ any-groups (perTlv (w .size)) some p bs
 
-  kind-never : ((g : List Block) → q (tlv k (blocksBytes w g)) ≡ false) → (bs : List Block) → anyOf q (kind k w bs) ≡ false
+  kind-never : ((g : List Block) → q (tlv k (blocksBytes (w .size) g)) ≡ false) → (bs : List Block) → anyOf q (kind k w bs) ≡ false
   kind-never h bs =
-      any-map q (λ g. tlv k (blocksBytes w g)) (groups (perTlv w) bs)
-      ∙ any-never (λ g. q (tlv k (blocksBytes w g))) h (groups (perTlv w) bs)
+      any-map q (λ g. tlv k (blocksBytes (w .size) g)) (groups (perTlv (w .size)) bs)
+      ∙ any-never (λ g. q (tlv k (blocksBytes (w .size) g))) h (groups (perTlv (w .size)) bs)
 
 -- bytes behind that bring nothing
 abbrev Blank : List ℕ → Type 0
@@ -114,15 +114,15 @@ either-none true b h = refl
 either-none false b h = h
 
 abbrev body : List Block → List Block → List Block → List ℕ → List ℕ
-body vs fs ms r = (tlvsBytes 1 vlans vs ++ (tlvsBytes 3 fines fs ++ tlvsBytes 8 macs ms)) ++ r
+body vs fs ms r = (tlvsBytes 1 (vlans .size) vs ++ (tlvsBytes 3 (fines .size) fs ++ tlvsBytes 8 (macs .size) ms)) ++ r
 
 module _ (vs fs ms : List Block) (r : List ℕ) (blank : Blank r) where
   cut : tlvs (body vs fs ms r) ≡ kind 1 vlans vs ++ (kind 3 fines fs ++ (kind 8 macs ms ++ tlvs r))
   cut =
-      ap tlvs (append-assoc (tlvsBytes 1 vlans vs) (tlvsBytes 3 fines fs ++ tlvsBytes 8 macs ms) r)
-      ∙ kind-cut 1 vlans vs ((tlvsBytes 3 fines fs ++ tlvsBytes 8 macs ms) ++ r)
-      ∙ ap (λ (x : List ℕ). kind 1 vlans vs ++ tlvs x) (append-assoc (tlvsBytes 3 fines fs) (tlvsBytes 8 macs ms) r)
-      ∙ ap (λ (x : List Piece). kind 1 vlans vs ++ x) (kind-cut 3 fines fs (tlvsBytes 8 macs ms ++ r))
+      ap tlvs (append-assoc (tlvsBytes 1 (vlans .size) vs) (tlvsBytes 3 (fines .size) fs ++ tlvsBytes 8 (macs .size) ms) r)
+      ∙ kind-cut 1 vlans vs ((tlvsBytes 3 (fines .size) fs ++ tlvsBytes 8 (macs .size) ms) ++ r)
+      ∙ ap (λ (x : List ℕ). kind 1 vlans vs ++ tlvs x) (append-assoc (tlvsBytes 3 (fines .size) fs) (tlvsBytes 8 (macs .size) ms) r)
+      ∙ ap (λ (x : List Piece). kind 1 vlans vs ++ x) (kind-cut 3 fines fs (tlvsBytes 8 (macs .size) ms ++ r))
       ∙ ap (λ (x : List Piece). kind 1 vlans vs ++ (kind 3 fines fs ++ x)) (kind-cut 8 macs ms r)
 
   -- a test that an empty TLV of type 0 does not pass
@@ -146,94 +146,94 @@ module _ (vs fs ms : List Block) (r : List ℕ) (blank : Blank r) where
   unfolding either
   only-8 q b h x y z = split q h ∙ rw (x, y, z)
 
-  good-1 : (g : List Block) → corrupt everyType (tlv 1 (blocksBytes vlans g)) ≡ false
+  good-1 : (g : List Block) → corrupt everyType (tlv 1 (blocksBytes (vlans .size) g)) ≡ false
   unfolding corrupt lengthGood both either
-  good-1 g = let n = length-blocks vlans g in rw (eq-eqb (length (blocksBytes vlans g) % 4) 0 (omega arith))
+  good-1 g = let n = length-blocks vlans g in rw (eq-eqb (length (blocksBytes (vlans .size) g) % 4) 0 (omega arith))
 
-  good-3 : (g : List Block) → corrupt everyType (tlv 3 (blocksBytes fines g)) ≡ false
+  good-3 : (g : List Block) → corrupt everyType (tlv 3 (blocksBytes (fines .size) g)) ≡ false
   unfolding corrupt lengthGood both either
-  good-3 g = let n = length-blocks fines g in rw (eq-eqb (length (blocksBytes fines g) % 6) 0 (omega arith))
+  good-3 g = let n = length-blocks fines g in rw (eq-eqb (length (blocksBytes (fines .size) g) % 6) 0 (omega arith))
 
-  good-8 : (g : List Block) → corrupt everyType (tlv 8 (blocksBytes macs g)) ≡ false
+  good-8 : (g : List Block) → corrupt everyType (tlv 8 (blocksBytes (macs .size) g)) ≡ false
   unfolding corrupt lengthGood both either
-  good-8 g = let n = length-blocks macs g in rw (eq-eqb (length (blocksBytes macs g) % 12) 0 (omega arith))
+  good-8 g = let n = length-blocks macs g in rw (eq-eqb (length (blocksBytes (macs .size) g) % 12) 0 (omega arith))
 
   clean : anyOf (corrupt everyType) (tlvs (body vs fs ms r)) ≡ false
   unfolding corrupt lengthGood both either
   clean = only-1 (corrupt everyType) false refl (kind-never _ 1 vlans good-1 vs) (kind-never _ 3 fines good-3 fs) (kind-never _ 8 macs good-8 ms)
 
-  vlan-meant : (x : ℕ) → allOf (blockGood vlans) vs ≡ true → labelMeant everyType (tlvs (body vs fs ms r)) (Vlan x) ≡ anyOf (blockHas x) vs
+  vlan-meant : (x : ℕ) → allOf (blockGood (vlans .low) (vlans .high)) vs ≡ true → labelMeant everyType (tlvs (body vs fs ms r)) (Vlan x) ≡ anyOf (blockHas x) vs
   unfolding labelMeant bringsLabel both vlanIn pick
   vlan-meant x good =
       only-1 (bringsLabel everyType (Vlan x)) (anyOf (blockHas x) vs) refl
-      (kind-brings _ 1 vlans (λ b. inBlock vlans x (blockBytes vlans b)) (omega arith) (in-blocks vlans (omega arith) x) vs ∙ blocks-have vlans (omega arith) (omega arith) x vs good)
+      (kind-brings _ 1 vlans (λ b. inBlock vlans x (blockBytes (vlans .size) b)) (omega arith) (in-blocks vlans (omega arith) x) vs ∙ blocks-have vlans (omega arith) (omega arith) x vs good)
       (kind-never _ 3 fines (λ g. refl) fs)
       (kind-never _ 8 macs (λ g. refl) ms)
 
-  fine-meant : (x : ℕ) → allOf (blockGood fines) fs ≡ true → labelMeant everyType (tlvs (body vs fs ms r)) (Fine x) ≡ anyOf (blockHas x) fs
+  fine-meant : (x : ℕ) → allOf (blockGood (fines .low) (fines .high)) fs ≡ true → labelMeant everyType (tlvs (body vs fs ms r)) (Fine x) ≡ anyOf (blockHas x) fs
   unfolding labelMeant bringsLabel both fineIn pick
   fine-meant x good =
       only-3 (bringsLabel everyType (Fine x)) (anyOf (blockHas x) fs) refl
       (kind-never _ 1 vlans (λ g. refl) vs)
-      (kind-brings _ 3 fines (λ b. inBlock fines x (blockBytes fines b)) (omega arith) (in-blocks fines (omega arith) x) fs ∙ blocks-have fines (omega arith) (omega arith) x fs good)
+      (kind-brings _ 3 fines (λ b. inBlock fines x (blockBytes (fines .size) b)) (omega arith) (in-blocks fines (omega arith) x) fs ∙ blocks-have fines (omega arith) (omega arith) x fs good)
       (kind-never _ 8 macs (λ g. refl) ms)
 
-  mac-brought : (m : ℕ) → allOf (blockGood macs) ms ≡ true → anyOf (bringsMac everyType m) (tlvs (body vs fs ms r)) ≡ anyOf (blockHas m) ms
+  mac-brought : (m : ℕ) → allOf (blockGood (macs .low) (macs .high)) ms ≡ true → anyOf (bringsMac everyType m) (tlvs (body vs fs ms r)) ≡ anyOf (blockHas m) ms
   unfolding bringsMac both macIn pick
   mac-brought m good =
       only-8 (bringsMac everyType m) (anyOf (blockHas m) ms) refl
       (kind-never _ 1 vlans (λ g. refl) vs)
       (kind-never _ 3 fines (λ g. refl) fs)
-      (kind-brings _ 8 macs (λ b. inBlock macs m (blockBytes macs b)) (omega arith) (in-blocks macs (omega arith) m) ms ∙ blocks-have macs (omega arith) (omega arith) m ms good)
+      (kind-brings _ 8 macs (λ b. inBlock macs m (blockBytes (macs .size) b)) (omega arith) (in-blocks macs (omega arith) m) ms ∙ blocks-have macs (omega arith) (omega arith) m ms good)
 
-  mac-gathered : allOf (blockGood macs) ms ≡ true → not (anyOf (gathersMac everyType) (tlvs (body vs fs ms r))) ≡ eqb (length ms) 0
+  mac-gathered : allOf (blockGood (macs .low) (macs .high)) ms ≡ true → not (anyOf (gathersMac everyType) (tlvs (body vs fs ms r))) ≡ eqb (length ms) 0
   unfolding gathersMac both someMacIn pick
   mac-gathered good =
-      ap not (only-8 (gathersMac everyType) (anyOf (λ b. filled macs (blockBytes macs b)) ms) refl
+      ap not (only-8 (gathersMac everyType) (anyOf (λ b. filled macs (blockBytes (macs .size) b)) ms) refl
       (kind-never _ 1 vlans (λ g. refl) vs)
       (kind-never _ 3 fines (λ g. refl) fs)
-      (kind-brings _ 8 macs (λ b. filled macs (blockBytes macs b)) (omega arith) (some-filled macs (omega arith)) ms))
+      (kind-brings _ 8 macs (λ b. filled macs (blockBytes (macs .size) b)) (omega arith) (some-filled macs (omega arith)) ms))
       ∙ blocks-filled macs (omega arith) (omega arith) ms good
 
-  mac-meant : (m : ℕ) → allOf (blockGood macs) ms ≡ true → macMeant everyType (tlvs (body vs fs ms r)) m ≡ either (eqb (length ms) 0) (anyOf (blockHas m) ms)
+  mac-meant : (m : ℕ) → allOf (blockGood (macs .low) (macs .high)) ms ≡ true → macMeant everyType (tlvs (body vs fs ms r)) m ≡ either (eqb (length ms) 0) (anyOf (blockHas m) ms)
   unfolding macMeant
   mac-meant m good = rw (mac-gathered good, mac-brought m good)
 
 -- ---- the VLAN block form
 
 module _ (vs : List Block) (r : List ℕ) (some : 0 < length vs) where
-  pieces-are : piecesOf (length vs) (blocksBytes vlans vs ++ r) ≡ map block (map (blockBytes vlans) vs)
+  pieces-are : piecesOf (length vs) (blocksBytes (vlans .size) vs ++ r) ≡ map block (map (blockBytes (vlans .size)) vs)
   unfolding piecesOf
   pieces-are =
       let n = length-blocks vlans vs in
       pick-false _ _ _ (ne-eqb (length vs) 0 (λ o. omega arith))
-      ∙ ap (λ (l : List ℕ). map block (parts 4 l)) (take-at (blocksBytes vlans vs) r (4 * length vs) (omega arith))
+      ∙ ap (λ (l : List ℕ). map block (parts 4 l)) (take-at (blocksBytes (vlans .size) vs) r (4 * length vs) (omega arith))
       ∙ ap (map block) (blocks-cut vlans (omega arith) vs)
 
   -- a test of any block
-  asked-of : (q : Piece → Bool) → anyOf q (piecesOf (length vs) (blocksBytes vlans vs ++ r)) ≡ anyOf (λ b. q (block (blockBytes vlans b))) vs
+  asked-of : (q : Piece → Bool) → anyOf q (piecesOf (length vs) (blocksBytes (vlans .size) vs ++ r)) ≡ anyOf (λ b. q (block (blockBytes (vlans .size) b))) vs
   asked-of q =
       ap (anyOf q) pieces-are
-      ∙ any-map q block (map (blockBytes vlans) vs)
-      ∙ any-map (λ b. q (block b)) (blockBytes vlans) vs
+      ∙ any-map q block (map (blockBytes (vlans .size)) vs)
+      ∙ any-map (λ b. q (block b)) (blockBytes (vlans .size)) vs
 
-  blocks-clean : anyOf (corrupt everyType) (piecesOf (length vs) (blocksBytes vlans vs ++ r)) ≡ false
+  blocks-clean : anyOf (corrupt everyType) (piecesOf (length vs) (blocksBytes (vlans .size) vs ++ r)) ≡ false
   unfolding corrupt
   blocks-clean = asked-of (corrupt everyType) ∙ any-never _ (λ b. refl) vs
 
-  block-vlan : (x : ℕ) → allOf (blockGood vlans) vs ≡ true → labelMeant everyType (piecesOf (length vs) (blocksBytes vlans vs ++ r)) (Vlan x) ≡ anyOf (blockHas x) vs
+  block-vlan : (x : ℕ) → allOf (blockGood (vlans .low) (vlans .high)) vs ≡ true → labelMeant everyType (piecesOf (length vs) (blocksBytes (vlans .size) vs ++ r)) (Vlan x) ≡ anyOf (blockHas x) vs
   unfolding labelMeant bringsLabel
   block-vlan x good = asked-of (bringsLabel everyType (Vlan x)) ∙ blocks-have vlans (omega arith) (omega arith) x vs good
 
-  block-fine : (x : ℕ) → labelMeant everyType (piecesOf (length vs) (blocksBytes vlans vs ++ r)) (Fine x) ≡ false
+  block-fine : (x : ℕ) → labelMeant everyType (piecesOf (length vs) (blocksBytes (vlans .size) vs ++ r)) (Fine x) ≡ false
   unfolding labelMeant bringsLabel
   block-fine x = asked-of (bringsLabel everyType (Fine x)) ∙ any-never _ (λ b. refl) vs
 
-  block-none : anyOf (gathersMac everyType) (piecesOf (length vs) (blocksBytes vlans vs ++ r)) ≡ false
+  block-none : anyOf (gathersMac everyType) (piecesOf (length vs) (blocksBytes (vlans .size) vs ++ r)) ≡ false
   unfolding gathersMac
   block-none = asked-of (gathersMac everyType) ∙ any-never _ (λ b. refl) vs
 
-  block-mac : (m : ℕ) → macMeant everyType (piecesOf (length vs) (blocksBytes vlans vs ++ r)) m ≡ true
+  block-mac : (m : ℕ) → macMeant everyType (piecesOf (length vs) (blocksBytes (vlans .size) vs ++ r)) m ≡ true
   unfolding macMeant either
   block-mac m = rw block-none
 
@@ -246,7 +246,7 @@ none-listed p (b ∷ bs) e = let z = eqb-true (length (b ∷ bs)) 0 e in absurd 
 
 module _ (a : Asked) (fit : NicksFit a) (good : askedGood a ≡ true) where
   -- what is written, with r behind
-  block-shape : (r : List ℕ) → onlyVlans a ≡ true → flushBytes a ++ r ≡ length (a .nicks) ∷ (nicksBytes (a .nicks) ++ (length (a .vlanBlocks) ∷ (blocksBytes vlans (a .vlanBlocks) ++ r)))
+  block-shape : (r : List ℕ) → onlyVlans a ≡ true → flushBytes a ++ r ≡ length (a .nicks) ∷ (nicksBytes (a .nicks) ++ (length (a .vlanBlocks) ∷ (blocksBytes (vlans .size) (a .vlanBlocks) ++ r)))
   unfolding flushBytes pick
   block-shape r h = rw h (ap (λ (x : List ℕ). length (a .nicks) ∷ x) (append-assoc (nicksBytes (a .nicks)) (blockForm a) r))
 
@@ -265,11 +265,11 @@ module _ (a : Asked) (fit : NicksFit a) (good : askedGood a ≡ true) where
       let o = leb-true 1 (length (a .vlanBlocks) + length (a .fineBlocks)) (parted a good .0) in
       omega arith
 
-  block-label : (r : List ℕ) → onlyVlans a ≡ true → (l : Label) → labelMeant everyType (piecesOf (length (a .vlanBlocks)) (blocksBytes vlans (a .vlanBlocks) ++ r)) l ≡ labelAsked a l
+  block-label : (r : List ℕ) → onlyVlans a ≡ true → (l : Label) → labelMeant everyType (piecesOf (length (a .vlanBlocks)) (blocksBytes (vlans .size) (a .vlanBlocks) ++ r)) l ≡ labelAsked a l
   block-label r h (Vlan x) = block-vlan (a .vlanBlocks) r (some-vlans h) x (each-good vlans (a .vlanBlocks) (parted a good .1))
   block-label r h (Fine x) = block-fine (a .vlanBlocks) r (some-vlans h) x ∙ sym (none-listed (blockHas x) (a .fineBlocks) (none-other h .0))
 
-  block-macs : (r : List ℕ) → onlyVlans a ≡ true → (m : ℕ) → macMeant everyType (piecesOf (length (a .vlanBlocks)) (blocksBytes vlans (a .vlanBlocks) ++ r)) m ≡ macAsked a m
+  block-macs : (r : List ℕ) → onlyVlans a ≡ true → (m : ℕ) → macMeant everyType (piecesOf (length (a .vlanBlocks)) (blocksBytes (vlans .size) (a .vlanBlocks) ++ r)) m ≡ macAsked a m
   unfolding either
   block-macs r h m = block-mac (a .vlanBlocks) r (some-vlans h) m ∙ rw (none-other h .1)
 
@@ -277,10 +277,10 @@ module _ (a : Asked) (fit : NicksFit a) (good : askedGood a ≡ true) where
   block-means r h =
       let vs : List Block = a .vlanBlocks in
       let n = length-blocks vlans vs in
-      let m = length-append (blocksBytes vlans vs) r in (
-        record { nicks = nicksBytes (a .nicks); pieces = piecesOf (length vs) (blocksBytes vlans vs ++ r) },
+      let m = length-append (blocksBytes (vlans .size) vs) r in (
+        record { nicks = nicksBytes (a .nicks); pieces = piecesOf (length vs) (blocksBytes (vlans .size) vs ++ r) },
         ap (payloadOf everyType) (block-shape r h)
-            ∙ payload-is (length (a .nicks)) (length vs) (nicksBytes (a .nicks)) (blocksBytes vlans vs ++ r) (length-nicks (a .nicks)) (omega arith) (blocks-clean vs r (some-vlans h)),
+            ∙ payload-is (length (a .nicks)) (length vs) (nicksBytes (a .nicks)) (blocksBytes (vlans .size) vs ++ r) (length-nicks (a .nicks)) (omega arith) (blocks-clean vs r (some-vlans h)),
         record { nickname = λ ingress x. nicks-meant ingress x (a .nicks) fit; label = block-label r h; mac = block-macs r h },
       )
 

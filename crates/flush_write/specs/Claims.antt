@@ -10,7 +10,6 @@ use Rattle.numbers.specs.Tests.{pick, both, either, anyOf, between}
 use Rattle.numbers.specs.Result.{got}
 use Rattle.numbers.specs.Bytes.{AreBytes}
 use Rattle.numbers.specs.Numberings.{vlans, fines, macs}
-use Rattle.numbers.specs.declared.Numbering.{Numbering}
 use Rattle.table.specs.Record.{unpacked}
 use Rattle.table.specs.Slots.{tableGood, slotsOf, slotAt, freed}
 use Rattle.table.specs.declared.Entry.{Entry}
@@ -83,14 +82,14 @@ WriterClears = (a : Asked) (l t : List ℕ) (ingress k : ℕ) → NicksFit a →
 -- ---- WriterLength
 
 -- n blocks in TLVs: their bytes, and type and length of each TLV
-abbrev pub tlvsLength : Numbering → ℕ → ℕ
-tlvsLength w n = 2 * w .size * n + 2 * ((n + (perTlv w - 1)) / perTlv w)
+abbrev pub tlvsLength : ℕ → ℕ → ℕ
+tlvsLength size n = 2 * size * n + 2 * ((n + (perTlv size - 1)) / perTlv size)
 
 abbrev pub flushLength : Asked → ℕ
 flushLength a =
     2 + 2 * length (a .nicks)
     + pick (onlyVlans a) (4 * length (a .vlanBlocks))
-    (tlvsLength vlans (length (a .vlanBlocks)) + (tlvsLength fines (length (a .fineBlocks)) + tlvsLength macs (length (a .macBlocks))))
+    (tlvsLength (vlans .size) (length (a .vlanBlocks)) + (tlvsLength (fines .size) (length (a .fineBlocks)) + tlvsLength (macs .size) (length (a .macBlocks))))
 
 -- the longest message: 255 of everything
 abbrev pub longestFlush : ℕ

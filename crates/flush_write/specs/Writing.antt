@@ -8,8 +8,8 @@ use lib.ListN.{length, take, drop}
 use Rattle.numbers.specs.Tests.{pick, both}
 use Rattle.numbers.specs.Result.{Result, check, got}
 use Rattle.numbers.specs.Bytes.{bytesOf}
+use Rattle.numbers.specs.Ranges.{firstVlan, lastVlan, lastFine, lastAddress}
 use Rattle.numbers.specs.Numberings.{vlans, fines, macs, nicknames}
-use Rattle.numbers.specs.declared.Numbering.{Numbering}
 
 -- every element passes the test
 unfoldable pub allOf : {A : Type 0} → (A → Bool) → List A → Bool
@@ -39,12 +39,12 @@ abbrev pub mostListed : ℕ
 mostListed = 255
 
 -- "an end below its start, a VLAN outside 1 to FFE, a label over FFFFFF, a MAC over 48 bits"
-unfoldable pub blockGood : Numbering → Block → Bool
-blockGood w b = both (leb (w .low) (b .start)) (both (leb (b .start) (b .end)) (leb (b .end) (w .high)))
+unfoldable pub blockGood : ℕ → ℕ → Block → Bool
+blockGood low high b = both (leb low (b .start)) (both (leb (b .start) (b .end)) (leb (b .end) high))
 
 -- "or a list too long"
-unfoldable pub blocksGood : Numbering → List Block → Bool
-blocksGood w bs = both (leb (length bs) mostListed) (allOf (blockGood w) bs)
+unfoldable pub blocksGood : ℕ → ℕ → List Block → Bool
+blocksGood low high bs = both (leb (length bs) mostListed) (allOf (blockGood low high) bs)
 
 -- "no label named"
 unfoldable pub labelsNamed : Asked → Bool
@@ -54,17 +54,17 @@ unfoldable pub askedGood : Asked → Bool
 askedGood a =
     both (labelsNamed a)
     (both (leb (length (a .nicks)) mostListed)
-    (both (blocksGood vlans (a .vlanBlocks))
-    (both (blocksGood fines (a .fineBlocks))
-    (blocksGood macs (a .macBlocks)))))
+    (both (blocksGood firstVlan lastVlan (a .vlanBlocks))
+    (both (blocksGood 0 lastFine (a .fineBlocks))
+    (blocksGood 0 lastAddress (a .macBlocks)))))
 
 -- ---- the bytes: "reserved bits 0, nicknames and blocks in the order given"
 
-unfoldable pub blockBytes : Numbering → Block → List ℕ
-blockBytes w b = bytesOf (w .size) (b .start) ++ bytesOf (w .size) (b .end)
+unfoldable pub blockBytes : ℕ → Block → List ℕ
+blockBytes size b = bytesOf size (b .start) ++ bytesOf size (b .end)
 
-unfoldable pub blocksBytes : Numbering → List Block → List ℕ
-blocksBytes w bs = flatMap (blockBytes w) bs
+unfoldable pub blocksBytes : ℕ → List Block → List ℕ
+blocksBytes size bs = flatMap (blockBytes size) bs
 
 unfoldable pub nicksBytes : List ℕ → List ℕ
 nicksBytes ns = flatMap (bytesOf (nicknames .size)) ns
@@ -79,26 +79,26 @@ unfoldable pub groups : ℕ → List Block → List (List Block)
 groups n bs = groupsFrom n (length bs) bs
 
 -- "each as full as whole blocks within 255 bytes allow": 63 VLAN blocks, 42 fine-grained, 21 of MACs
-abbrev pub perTlv : Numbering → ℕ
-perTlv w = 255 / (2 * w .size)
+abbrev pub perTlv : ℕ → ℕ
+perTlv size = 255 / (2 * size)
 
 unfoldable pub tlvBytes : ℕ → List ℕ → List ℕ
 tlvBytes k v = k ∷ (length v ∷ v)
 
 -- "no empty TLV": without blocks there is no group
-unfoldable pub tlvsBytes : ℕ → Numbering → List Block → List ℕ
-tlvsBytes k w bs = flatMap (λ g. tlvBytes k (blocksBytes w g)) (groups (perTlv w) bs)
+unfoldable pub tlvsBytes : ℕ → ℕ → List Block → List ℕ
+tlvsBytes k size bs = flatMap (λ g. tlvBytes k (blocksBytes size g)) (groups (perTlv size) bs)
 
 -- "in the VLAN block form when only VLANs are named and no MACs, in TLVs otherwise"
 unfoldable pub onlyVlans : Asked → Bool
 onlyVlans a = both (eqb (length (a .fineBlocks)) 0) (eqb (length (a .macBlocks)) 0)
 
 abbrev pub blockForm : Asked → List ℕ
-blockForm a = length (a .vlanBlocks) ∷ blocksBytes vlans (a .vlanBlocks)
+blockForm a = length (a .vlanBlocks) ∷ blocksBytes (vlans .size) (a .vlanBlocks)
 
 -- "TLVs of types 1, 3 and 8 in that order"
 abbrev pub tlvForm : Asked → List ℕ
-tlvForm a = 0 ∷ (tlvsBytes 1 vlans (a .vlanBlocks) ++ (tlvsBytes 3 fines (a .fineBlocks) ++ tlvsBytes 8 macs (a .macBlocks)))
+tlvForm a = 0 ∷ (tlvsBytes 1 (vlans .size) (a .vlanBlocks) ++ (tlvsBytes 3 (fines .size) (a .fineBlocks) ++ tlvsBytes 8 (macs .size) (a .macBlocks)))
 
 -- "An empty nickname list gives K-nicks 0"
 unfoldable pub flushBytes : Asked → List ℕ
