@@ -6,7 +6,7 @@
 //! | receive | 65 delivered | 8..23 length, 24..25 learning, 32 label kind, 40..63 label |
 //! | receive | 66 other channel | |
 //! | receive, flush | 67 flushed | 8..23 records cleared |
-//! | compact, expand | 64 written | 8..23 length |
+//! | compact, expand, write_flush | 64 written | 8..23 length |
 //! | send | 64 compacted | 8..23 length |
 //! | send | 65 the frame itself | |
 //! | lookup | 64 found | 8..23 nickname |
@@ -24,6 +24,8 @@ use crate::{Label, Refusal};
 
 /// The bytes of what a call writes: a frame.
 const LENGTHS: RangeInclusive<u16> = 14..=9216;
+/// The bytes of a payload that is written: one VLAN block, and 255 of everything.
+const PAYLOADS: RangeInclusive<u16> = 6..=6172;
 /// The records of a table that can be cleared, and its slots.
 const COUNTS: RangeInclusive<u16> = 0..=4096;
 const SLOTS: RangeInclusive<u16> = 0..=4095;
@@ -83,6 +85,13 @@ pub struct Compacted {
 /// The result of an expansion starts the output area.
 #[derive(Clone, Copy, Debug, PartialEq, Eq, Hash)]
 pub struct Expanded {
+    /// The bytes written.
+    pub length: usize,
+}
+
+/// The payload of an Address Flush starts the output area.
+#[derive(Clone, Copy, Debug, PartialEq, Eq, Hash)]
+pub struct Written {
     /// The bytes written.
     pub length: usize,
 }
@@ -376,6 +385,23 @@ impl Answer for Expanded {
         match kind(word) {
             64 => Some(Expanded {
                 length: length(word)?,
+            }),
+            _ => None,
+        }
+    }
+
+    fn word(&self) -> u64 {
+        with_length(64, self.length)
+    }
+}
+
+impl Answer for Written {
+    const REFUSALS: &'static [Refusal] = &[Refusal::Lists, Refusal::OutputLength];
+
+    fn from_word(word: u64) -> Option<Written> {
+        match kind(word) {
+            64 => Some(Written {
+                length: value(word, PAYLOADS).map(usize::from)?,
             }),
             _ => None,
         }

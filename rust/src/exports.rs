@@ -87,4 +87,17 @@ extern "C" {
     pub fn shinglebar_age(seconds: u16, table: *mut u8, table_len: usize) -> u64;
 
     pub fn shinglebar_spoilt(table: *const u8, table_len: usize) -> u64;
+
+    pub fn shinglebar_write_flush(
+        nicknames: *const u8,
+        nicknames_len: usize,
+        vlans: *const u8,
+        vlans_len: usize,
+        fine: *const u8,
+        fine_len: usize,
+        macs: *const u8,
+        macs_len: usize,
+        out: *mut u8,
+        out_len: usize,
+    ) -> u64;
 }

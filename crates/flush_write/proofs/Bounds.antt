@@ -149,7 +149,7 @@ form-length a false =
     let w = length-8 (a .macBlocks) in
     omega arith
 
-flush-length : (a : Asked) → length (flushBytes a) ≡ flushLength a
+pub flush-length : (a : Asked) → length (flushBytes a) ≡ flushLength a
 unfolding flushBytes
 flush-length a =
     let x = length-append (nicksBytes (a .nicks)) (pick (onlyVlans a) (blockForm a) (tlvForm a)) in
@@ -169,7 +169,7 @@ few : (w : Numbering) (bs : List Block) → blocksGood (w .low) (w .high) bs ≡
 unfolding blocksGood
 few w bs e = leb-true (length bs) mostListed (both-true (leb (length bs) mostListed) (allOf (blockGood (w .low) (w .high)) bs) e .0)
 
-short : (a : Asked) → askedGood a ≡ true → Short a
+pub short : (a : Asked) → askedGood a ≡ true → Short a
 unfolding askedGood
 short a good =
     let p = both-true (labelsNamed a) _ good in
@@ -183,7 +183,7 @@ unfolding pick
 form-most a s true = let v = s .vs in omega arith
 form-most a s false = let v = s .vs in let f = s .fs in let m = s .ms in omega arith
 
-flush-most : (a : Asked) → Short a → flushLength a ≤ 6172
+pub flush-most : (a : Asked) → Short a → flushLength a ≤ 6172
 flush-most a s = let n = s .nicks in let m = form-most a s (onlyVlans a) in omega arith
 
 -- ---- bytes

@@ -8,7 +8,7 @@ use native.Mathlib.Decide.{decLt}
 use native.Mathlib.Nat.{zero-mul, suc-mul, div-eq-of-lt, div-eq-sub-div}
 use native.Mathlib.Omega.{arith}
 use lib.Dec.{leb}
-use lib.ListN.{length, take, drop, length-take, length-drop}
+use lib.ListN.{length, take, drop, length-take, length-drop, length-map}
 use lib.Seq.{take-take, drop-drop, take-all, length-take-le, drop-at, take-add, take-nil, drop-nil}
 use borrow.Author.Tests.{le-leb, lt-leb}
 use Rattle.numbers.specs.Tests.{pick}
@@ -17,6 +17,25 @@ use Rattle.numbers.proofs.Lists.{part-prefix}
 use Rattle.flush.proofs.Lists.{parts-end, parts-more}
 use Rattle.flush_write.specs.Writing.{Block, blocksBytes, groupsFrom, groups, perTlv, tlvBytes, tlvsBytes}
 use Rattle.flush_write.specs.Areas.{blockIn, blocksIn}
+
+-- ---- how many parts
+
+module _ (k : ℕ) (some : 0 < k) where
+  count-step : (l : List ℕ) → Dec (length l < k) → (k ≤ length l → length (parts k (drop k l)) ≡ length (drop k l) / k) → length (parts k l) ≡ length l / k
+  count-step l (yes o) later = rw (parts-end k some l o) (sym (div-eq-of-lt o))
+  count-step l (no o) later =
+      let i : length (parts k (drop k l)) ≡ (length l - k) / k = later (omega arith) ∙ ap (λ (m : ℕ). m / k) (length-drop k l) in
+      let q : length l / k ≡ (length l - k) / k + 1 = div-eq-sub-div some (omega arith) in
+      rw (parts-more k some l (omega arith)) (omega arith)
+
+  countFrom : (n : ℕ) (l : List ℕ) → length l ≤ n → length (parts k l) ≡ length l / k
+  countFrom zero l h = count-step l (decLt (length l) k) (λ o. absurd (omega arith))
+  countFrom (suc n) l h =
+      let d : length (drop k l) ≡ length l - k = length-drop k l in
+      count-step l (decLt (length l) k) (λ o. countFrom n (drop k l) (omega arith))
+
+  pub parts-count : (l : List ℕ) → length (parts k l) ≡ length l / k
+  parts-count l = countFrom (length l) l (omega arith)
 
 -- ---- one block, and the others
 
@@ -34,24 +53,9 @@ module _ (k : ℕ) (some : 0 < k) where
   unfolding blocksIn
   blocks-more l h = ap (map (blockIn k)) (parts-more (2 * k) (omega arith) l h) ∙ rw (block-near l h)
 
-  -- ---- how many
-
-  count-step : (l : List ℕ) → Dec (length l < 2 * k) → (2 * k ≤ length l → length (blocksIn k (drop (2 * k) l)) ≡ length (drop (2 * k) l) / (2 * k))
-      → length (blocksIn k l) ≡ length l / (2 * k)
-  count-step l (yes o) later = rw (blocks-end l o) (sym (div-eq-of-lt o))
-  count-step l (no o) later =
-      let i : length (blocksIn k (drop (2 * k) l)) ≡ (length l - 2 * k) / (2 * k) = later (omega arith) ∙ ap (λ (m : ℕ). m / (2 * k)) (length-drop (2 * k) l) in
-      let q : length l / (2 * k) ≡ (length l - 2 * k) / (2 * k) + 1 = div-eq-sub-div (omega arith) (omega arith) in
-      rw (blocks-more l (omega arith)) (omega arith)
-
-  countFrom : (n : ℕ) (l : List ℕ) → length l ≤ n → length (blocksIn k l) ≡ length l / (2 * k)
-  countFrom zero l h = count-step l (decLt (length l) (2 * k)) (λ o. absurd (omega arith))
-  countFrom (suc n) l h =
-      let d : length (drop (2 * k) l) ≡ length l - 2 * k = length-drop (2 * k) l in
-      count-step l (decLt (length l) (2 * k)) (λ o. countFrom n (drop (2 * k) l) (omega arith))
-
   pub blocks-count : (l : List ℕ) → length (blocksIn k l) ≡ length l / (2 * k)
-  blocks-count l = countFrom (length l) l (omega arith)
+  unfolding blocksIn
+  blocks-count l = length-map (parts (2 * k) l) (blockIn k) ∙ parts-count (2 * k) (omega arith) l
 
   -- ---- the first n blocks, and the others
 

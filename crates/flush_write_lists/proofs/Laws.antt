@@ -81,7 +81,7 @@ paste-none : (o : List ℕ) (a : ℕ) → pasted o a [] ≡ o
 unfolding pasted
 paste-none o a = let e : a + 0 ≡ a = omega arith in rw (e, append-nil (take a o)) (take-append-drop a o)
 
-length-pasted : (o b : List ℕ) (a : ℕ) → a + length b ≤ length o → length (pasted o a b) ≡ length o
+pub length-pasted : (o b : List ℕ) (a : ℕ) → a + length b ≤ length o → length (pasted o a b) ≡ length o
 unfolding pasted
 length-pasted o b a h =
     let x = length-append (take a o ++ b) (drop (a + length b) o) in

@@ -41,4 +41,6 @@ pub enum Refusal {
     NotCompactable = 17,
     /// a General frame given where Compact is required
     General = 18,
+    /// lists that cannot be written as a flush (document 02, 2026-03)
+    Lists = 23,
 }
