@@ -13,5 +13,6 @@ int live_command(const struct options *options);
 int send_command(const struct options *options);
 int set_command(const struct options *options);
 int unset_command(const struct options *options);
+int write_command(const struct options *options);
 
 #endif

@@ -41,6 +41,8 @@ int main(int count, char **words)
         return set_command(&options);
     case UNSET:
         return unset_command(&options);
+    case WRITE:
+        return write_command(&options);
     }
     return 2;
 }

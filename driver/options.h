@@ -4,6 +4,7 @@
 
 #include <stdint.h>
 
+#include "lists.h"
 #include "settings.h"
 #include "table.h"
 
@@ -17,7 +18,8 @@ enum command {
     LIVE = 64,
     SEND = 128,
     SET = 256,
-    UNSET = 512
+    UNSET = 512,
+    WRITE = 1024
 };
 
 /* An option that was not given is NULL or 0, but for Compact off, confidence 32, seconds 0, saving every
@@ -44,6 +46,9 @@ struct options {
     int no_ageing;
     int dry_run;
     uint32_t save;
+    const char *payload;
+    uint32_t ingress;
+    struct lists lists;
 };
 
 /* Reads the command line: -1 if the command is to be carried out, else the exit status (help, or bad usage, which is said). */

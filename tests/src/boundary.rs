@@ -5,6 +5,7 @@
 
 use shinglebar::{
     decode, encode, raw, Aged, Answer, Compacted, Expanded, Flushed, Found, Received, Sent, Spoilt,
+    Written,
 };
 
 use crate::lend::Lend;
@@ -104,4 +105,20 @@ pub fn age(lender: &mut impl Lend, seconds: u16, table: &mut [u8]) -> u64 {
 
 pub fn spoilt(lender: &mut impl Lend, table: &[u8]) -> u64 {
     known::<Spoilt>(lender.lend(("table", table), [], |table, []| raw::spoilt(table)))
+}
+
+/// The lists are read only, and go to the call as they are; the area that it writes is lent.
+pub fn write_flush(
+    lender: &mut impl Lend,
+    nicknames: &[u8],
+    vlans: &[u8],
+    fine: &[u8],
+    macs: &[u8],
+    out: &mut [u8],
+) -> u64 {
+    known::<Written>(lender.lend(
+        ("MAC blocks", macs),
+        [("output area", out)],
+        |macs, [out]| raw::write_flush(nicknames, vlans, fine, macs, out),
+    ))
 }

@@ -396,9 +396,9 @@ fn values_that_no_answer_has_are_not_taken_for_one() {
 #[test]
 fn the_refusals_are_those_of_the_header() {
     let header = include_str!("../../include/shinglebar.h");
-    assert_eq!(Refusal::ALL.len(), 18);
-    for (at, refusal) in Refusal::ALL.iter().enumerate() {
-        let number = at as u64 + 1;
+    let numbers = (1..=18).chain([23]);
+    assert_eq!(Refusal::ALL.len(), numbers.clone().count());
+    for (number, refusal) in numbers.zip(Refusal::ALL) {
         assert_eq!(u64::from(refusal.number()), number);
         assert_eq!(Refusal::from_number(number), Some(*refusal));
         let comment = format!("/* {refusal} */\n    SHINGLEBAR_REFUSAL_");

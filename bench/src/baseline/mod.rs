@@ -17,8 +17,10 @@ mod record;
 mod refusal;
 mod settings;
 mod table;
+mod write;
 
 pub use convert::{compact, expand, send};
 pub use flush::flush;
 pub use receive::receive;
 pub use table::{age, lookup, spoilt};
+pub use write::write_flush;
