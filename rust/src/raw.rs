@@ -165,7 +165,13 @@ pub fn spoilt(table: &[u8]) -> u64 {
 /// Writes the payload of an Address Flush from four lists: nicknames 2 bytes each, VLAN blocks 2 + 2,
 /// fine-grained blocks 4 + 4, MAC blocks 8 + 8, most significant byte first.
 #[inline]
-pub fn write_flush(nicknames: &[u8], vlans: &[u8], fine: &[u8], macs: &[u8], out: &mut [u8]) -> u64 {
+pub fn write_flush(
+    nicknames: &[u8],
+    vlans: &[u8],
+    fine: &[u8],
+    macs: &[u8],
+    out: &mut [u8],
+) -> u64 {
     // SAFETY: five slices: none is null, each is as long as said, and the one that is lent for
     // writing overlaps nothing, being `&mut`.
     unsafe {

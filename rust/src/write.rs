@@ -50,11 +50,23 @@ fn laid<const N: usize>(area: &mut [u8], items: impl Iterator<Item = [u8; N]>) -
 pub fn write_flush(asked: &Asked, out: &mut [u8]) -> Result<Written, Refusal> {
     let (mut nicknames, mut vlans) = ([0; 2 * ITEMS], [0; 4 * ITEMS]);
     let (mut fine, mut macs) = ([0; 8 * ITEMS], [0; 16 * ITEMS]);
-    let n = laid(&mut nicknames, asked.nicknames.iter().map(|x| x.to_be_bytes()));
+    let n = laid(
+        &mut nicknames,
+        asked.nicknames.iter().map(|x| x.to_be_bytes()),
+    );
     let v = laid::<2>(&mut vlans, ends(asked.vlans).map(u16::to_be_bytes));
     let f = laid::<4>(&mut fine, ends(asked.fine).map(u32::to_be_bytes));
-    let m = laid::<8>(&mut macs, ends(asked.macs).map(|mac| mac.number().to_be_bytes()));
-    answered(raw::write_flush(&nicknames[..n], &vlans[..v], &fine[..f], &macs[..m], out))
+    let m = laid::<8>(
+        &mut macs,
+        ends(asked.macs).map(|mac| mac.number().to_be_bytes()),
+    );
+    answered(raw::write_flush(
+        &nicknames[..n],
+        &vlans[..v],
+        &fine[..f],
+        &macs[..m],
+        out,
+    ))
 }
 
 /// The start and the end of each block.

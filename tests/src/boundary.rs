@@ -107,7 +107,7 @@ pub fn spoilt(lender: &mut impl Lend, table: &[u8]) -> u64 {
     known::<Spoilt>(lender.lend(("table", table), [], |table, []| raw::spoilt(table)))
 }
 
-/// The lists are read only, and go to the call as they are; the area that it writes is lent.
+/// Each of the four lists is lent in turn, on the same output area; the answers and areas must be the same.
 pub fn write_flush(
     lender: &mut impl Lend,
     nicknames: &[u8],
@@ -116,9 +116,22 @@ pub fn write_flush(
     macs: &[u8],
     out: &mut [u8],
 ) -> u64 {
-    known::<Written>(lender.lend(
-        ("MAC blocks", macs),
-        [("output area", out)],
-        |macs, [out]| raw::write_flush(nicknames, vlans, fine, macs, out),
-    ))
+    let lists = [nicknames, vlans, fine, macs];
+    let given = out.to_vec();
+    let mut call = |lent: usize, out: &mut [u8]| {
+        known::<Written>(lender.lend(
+            ("list", lists[lent]),
+            [("output area", out)],
+            |list, [out]| {
+                let at = |place: usize| if place == lent { list } else { lists[place] };
+                raw::write_flush(at(0), at(1), at(2), at(3), out)
+            },
+        ))
+    };
+    let word = call(0, out);
+    for lent in 1..lists.len() {
+        let mut again = given.clone();
+        assert!(call(lent, &mut again) == word && again == out);
+    }
+    word
 }

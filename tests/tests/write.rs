@@ -1,6 +1,7 @@
 //! Writing an Address Flush, compared through the C boundary, and fed to the library's own flush.
 
 use shinglebar_tests::boundary;
+use shinglebar_tests::c_program;
 use shinglebar_tests::compare;
 use shinglebar_tests::generate::{self, Pool};
 use shinglebar_tests::random::Random;
@@ -26,11 +27,16 @@ struct Areas {
 
 fn laid(numbers: &[u64], width: usize) -> Vec<u8> {
     let bytes = numbers.iter().map(|number| number.to_be_bytes());
-    bytes.flat_map(|bytes| bytes[8 - width..].to_vec()).collect()
+    bytes
+        .flat_map(|bytes| bytes[8 - width..].to_vec())
+        .collect()
 }
 
 fn laid_blocks(blocks: &[Block], width: usize) -> Vec<u8> {
-    let numbers: Vec<u64> = blocks.iter().flat_map(|&(start, end)| [start, end]).collect();
+    let numbers: Vec<u64> = blocks
+        .iter()
+        .flat_map(|&(start, end)| [start, end])
+        .collect();
     laid(&numbers, width)
 }
 
@@ -54,7 +60,14 @@ impl Areas {
     }
 
     fn write(&self, random: &mut Random, out: &mut [u8]) -> u64 {
-        compare::write_flush(random, &self.nicknames, &self.vlans, &self.fine, &self.macs, out)
+        compare::write_flush(
+            random,
+            &self.nicknames,
+            &self.vlans,
+            &self.fine,
+            &self.macs,
+            out,
+        )
     }
 }
 
@@ -73,9 +86,15 @@ fn list_length(random: &mut Random) -> usize {
 fn block(random: &mut Random, known: u64, low: u64, high: u64) -> Block {
     let (a, b) = match random.below(4) {
         0 => (known, known),
-        1 => (known.saturating_sub(random.below(3)), known + random.below(3)),
+        1 => (
+            known.saturating_sub(random.below(3)),
+            known + random.below(3),
+        ),
         2 => (random.between(low, high), random.between(low, high)),
-        _ => (random.pick(&[low, known, high]), random.pick(&[low, known, high])),
+        _ => (
+            random.pick(&[low, known, high]),
+            random.pick(&[low, known, high]),
+        ),
     };
     let (a, b) = (a.clamp(low, high), b.clamp(low, high));
     (a.min(b), a.max(b))
@@ -98,7 +117,12 @@ fn lists(random: &mut Random, pool: &Pool, table: &[u8]) -> Lists {
         let (_, label, _) = generate::key(random, pool, table);
         fine.push(block(random, u64::from(label) & 0xFF_FFFF, 0, 0xFF_FFFF));
     }
-    Lists { nicknames, vlans, fine, macs }
+    Lists {
+        nicknames,
+        vlans,
+        fine,
+        macs,
+    }
 }
 
 /// Makes one thing of the lists wrong, if there is a block for it.
@@ -119,16 +143,29 @@ fn spoil(random: &mut Random, lists: &mut Lists, tally: &mut Tally) {
             }
         }
         2 => {
-            let bad = random.pick(&[(0, 5), (5, 0xFFF), (0xFFF, 0xFFF), (0, 0), (5, 0x1005), (0xFFFF, 0xFFFF)]);
+            let bad = random.pick(&[
+                (0, 5),
+                (5, 0xFFF),
+                (0xFFF, 0xFFF),
+                (0, 0),
+                (5, 0x1005),
+                (0xFFFF, 0xFFFF),
+            ]);
             lists.vlans.push(bad);
             tally.situation("a VLAN outside 1 to FFE");
         }
         3 => {
-            lists.fine.push(random.pick(&[(5, 0x100_0000), (0x100_0000, 0x100_0000), (0, 0xFFFF_FFFF)]));
+            lists.fine.push(random.pick(&[
+                (5, 0x100_0000),
+                (0x100_0000, 0x100_0000),
+                (0, 0xFFFF_FFFF),
+            ]));
             tally.situation("a label over FFFFFF");
         }
         4 => {
-            lists.macs.push(random.pick(&[(5, 1 << 48), (1 << 48, 1 << 48), (0, u64::MAX)]));
+            lists
+                .macs
+                .push(random.pick(&[(5, 1 << 48), (1 << 48, 1 << 48), (0, u64::MAX)]));
             tally.situation("a MAC over 48 bits");
         }
         _ => {
@@ -136,7 +173,11 @@ fn spoil(random: &mut Random, lists: &mut Lists, tally: &mut Tally) {
             match kind {
                 5 => lists.nicknames.resize(long, 1),
                 6 => lists.vlans.resize(long, (1, 1)),
-                _ => random.pick(&[0, 1]).eq(&0).then(|| lists.fine.resize(long, (1, 1))).unwrap_or_else(|| lists.macs.resize(long, (1, 1))),
+                _ => random
+                    .pick(&[0, 1])
+                    .eq(&0)
+                    .then(|| lists.fine.resize(long, (1, 1)))
+                    .unwrap_or_else(|| lists.macs.resize(long, (1, 1))),
             }
             tally.situation("a list too long");
         }
@@ -192,7 +233,11 @@ fn write_flush_answers_and_writes_as_the_paper_says() {
             }
             let length = (word >> 8) as usize;
             let front = 1 + 2 * usize::from(whole[0]);
-            tally.situation(if whole[front] > 0 { "the VLAN block form" } else { "TLVs" });
+            tally.situation(if whole[front] > 0 {
+                "the VLAN block form"
+            } else {
+                "TLVs"
+            });
             for (length, name) in [(length - 1, "one byte short"), (length, "just enough")] {
                 let mut out = random.bytes(length);
                 tally.word(areas.write(random, &mut out));
@@ -210,7 +255,8 @@ fn lists_of_every_length_around_a_full_tlv_are_written() {
     for vlans in lengths {
         for fine in lengths {
             for macs in lengths {
-                let numbered = |count: usize| (0..count as u64).map(|at| (1 + at, 2 + at)).collect();
+                let numbered =
+                    |count: usize| (0..count as u64).map(|at| (1 + at, 2 + at)).collect();
                 let lists = Lists {
                     nicknames: vec![0x1234; lengths[(vlans + fine + macs) % lengths.len()]],
                     vlans: numbered(vlans),
@@ -243,7 +289,11 @@ fn asks(lists: &Lists, ingress: u64, entry: &reference::Entry) -> bool {
 /// ask for, and nothing else.
 #[test]
 fn the_librarys_own_flush_clears_what_was_asked_for() {
-    let wanted = ["a record asked for", "a learned record not asked for", "padded"];
+    let wanted = [
+        "a record asked for",
+        "a learned record not asked for",
+        "padded",
+    ];
     run::cases(
         "the_librarys_own_flush_clears_what_was_asked_for",
         8,
@@ -259,7 +309,12 @@ fn the_librarys_own_flush_clears_what_was_asked_for() {
             let areas = Areas::of(&lists);
             let mut payload = vec![0; LONGEST];
             let word = boundary::write_flush(
-                random, &areas.nicknames, &areas.vlans, &areas.fine, &areas.macs, &mut payload,
+                random,
+                &areas.nicknames,
+                &areas.vlans,
+                &areas.fine,
+                &areas.macs,
+                &mut payload,
             );
             assert_eq!(word & 0xFF, 64);
             payload.truncate((word >> 8) as usize);
@@ -295,9 +350,17 @@ fn the_librarys_own_flush_clears_what_was_asked_for() {
 #[test]
 fn the_two_vectors_of_the_request_are_written() {
     let mut random = run::random("the_two_vectors_of_the_request_are_written");
-    let p2 = Lists { nicknames: vec![0x1234], vlans: vec![(10, 12)], ..Lists::default() };
+    let p2 = Lists {
+        nicknames: vec![0x1234],
+        vlans: vec![(10, 12)],
+        ..Lists::default()
+    };
     let mac = 0x0200_0000_0001;
-    let macs = Lists { vlans: vec![(10, 12)], macs: vec![(mac, mac)], ..Lists::default() };
+    let macs = Lists {
+        vlans: vec![(10, 12)],
+        macs: vec![(mac, mac)],
+        ..Lists::default()
+    };
     let mut out = [0; 32];
     assert_eq!(Areas::of(&p2).write(&mut random, &mut out), 0x0840);
     assert_eq!(out[..8], [0x01, 0x12, 0x34, 0x01, 0x00, 0x0A, 0x00, 0x0C]);
@@ -306,4 +369,9 @@ fn the_two_vectors_of_the_request_are_written() {
         out[..22],
         [0, 0, 1, 4, 0, 10, 0, 12, 8, 12, 2, 0, 0, 0, 0, 1, 2, 0, 0, 0, 0, 1]
     );
+}
+
+#[test]
+fn the_header_passes_null_areas_to_write_flush() {
+    c_program::compile_and_run("null_write.c");
 }

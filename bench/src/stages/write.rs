@@ -17,7 +17,9 @@ const LONGEST: usize = 6172;
 /// So many blocks of two numbers of a width.
 fn blocks(count: u64, width: usize) -> Vec<u8> {
     let numbers = (0..count).flat_map(|at| [3 + 5 * at, 6 + 5 * at]);
-    numbers.flat_map(|x| x.to_be_bytes()[8 - width..].to_vec()).collect()
+    numbers
+        .flat_map(|x| x.to_be_bytes()[8 - width..].to_vec())
+        .collect()
 }
 
 pub fn run(report: &Report) {

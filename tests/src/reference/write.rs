@@ -40,9 +40,9 @@ impl Lists {
             self.macs.len(),
         ];
         let within = |blocks: &[Block], low: u64, high: u64| {
-            blocks
-                .iter()
-                .all(|&(start, end)| start >= low && end >= low && start <= high && end <= high && end >= start)
+            blocks.iter().all(|&(start, end)| {
+                start >= low && end >= low && start <= high && end <= high && end >= start
+            })
         };
         !(self.vlans.is_empty() && self.fine.is_empty())
             && lengths.iter().all(|&length| length <= MOST)
@@ -81,13 +81,19 @@ impl Lists {
 /// The numbers of an area, `width` bytes each.
 fn items(width: usize, area: &[u8]) -> Option<Vec<u64>> {
     let whole = area.chunks_exact(width);
-    whole.remainder().is_empty().then(|| whole.map(number).collect())
+    whole
+        .remainder()
+        .is_empty()
+        .then(|| whole.map(number).collect())
 }
 
 fn blocks(width: usize, area: &[u8]) -> Option<Vec<Block>> {
     let numbers = items(width, area)?;
     let pairs = numbers.chunks_exact(2);
-    pairs.remainder().is_empty().then(|| pairs.map(|pair| (pair[0], pair[1])).collect())
+    pairs
+        .remainder()
+        .is_empty()
+        .then(|| pairs.map(|pair| (pair[0], pair[1])).collect())
 }
 
 fn put(bytes: &mut Vec<u8>, number: u64, width: usize) {
@@ -102,7 +108,13 @@ fn put_blocks(bytes: &mut Vec<u8>, blocks: &[Block], width: usize) {
 }
 
 /// The writing call: 23, "then 16".
-pub fn write_flush(nicknames: &[u8], vlans: &[u8], fine: &[u8], macs: &[u8], out: &mut [u8]) -> u64 {
+pub fn write_flush(
+    nicknames: &[u8],
+    vlans: &[u8],
+    fine: &[u8],
+    macs: &[u8],
+    out: &mut [u8],
+) -> u64 {
     let Some(lists) = Lists::of(nicknames, vlans, fine, macs).filter(Lists::good) else {
         return Refusal::Lists as u64;
     };
