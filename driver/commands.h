@@ -14,5 +14,6 @@ int send_command(const struct options *options);
 int set_command(const struct options *options);
 int unset_command(const struct options *options);
 int widen_command(const struct options *options);
+int write_command(const struct options *options);
 
 #endif

@@ -43,6 +43,8 @@ int main(int count, char **words)
         return unset_command(&options);
     case WIDEN:
         return widen_command(&options);
+    case WRITE:
+        return write_command(&options);
     }
     return 2;
 }

@@ -12,14 +12,14 @@
 #define WITH_CAPTURE (RECEIVE | COMPACT | EXPAND | SEND)
 #define WITH_TABLE (RECEIVE | LOOKUP | AGE | CHECK | LIVE | SET | UNSET | WIDEN)
 #define WITH_PAIR (LOOKUP | SET | UNSET)
-#define WITH_ANY (WITH_SETTINGS | WITH_TABLE)
+#define WITH_ANY (WITH_SETTINGS | WITH_TABLE | WRITE)
 #define RFC6325_CONFIDENCE 32
 /* A configured record is not displaced by a learned one whatever its confidence; the highest says so. */
 #define SET_CONFIDENCE 255
 #define SAVE_SECONDS 30
 
 /* How an option's value is written, and so where it goes. */
-enum form { TEXT, ADDRESS, NICKNAME, SWITCH, NUMBER, FLAG };
+enum form { TEXT, ADDRESS, NICKNAME, SWITCH, NUMBER, FLAG, NICKNAMES, BLOCKS, MAC_BLOCKS };
 
 struct option {
     const char *name;
@@ -34,6 +34,8 @@ struct option {
 };
 
 #define AT(member) offsetof(struct options, member)
+/* The options that were given, a bit for each. */
+#define BIT(index) (UINT64_C(1) << (index))
 
 static const struct option OPTIONS[] = {
     {"--table", "FILE", "the address table, records of 15 bytes; replaced whole or not at all", TEXT, WITH_TABLE & ~WIDEN,
@@ -42,7 +44,7 @@ static const struct option OPTIONS[] = {
      0},
     {"--slots", "N", "makes the table with N free slots if its file is missing, 1 to 4096", NUMBER, RECEIVE | LIVE | SET, 0,
      AT(slots), 1, TABLE_SLOTS_MAX},
-    {"--out", "FILE", "the capture to write; replaced whole or not at all; - is standard output", TEXT, RECEIVE | COMPACT | EXPAND | LIVE,
+    {"--out", "FILE", "the capture to write; replaced whole or not at all; - is standard output", TEXT, RECEIVE | COMPACT | EXPAND | LIVE | WRITE,
      COMPACT | EXPAND, AT(out), 0, 0},
     {"--interface", "NAME", "the Linux interface", TEXT, LIVE | SEND, LIVE | SEND, AT(interface), 0, 0},
     {"--frames", "N", "stops after N frames", NUMBER, LIVE, 0, AT(frames), 1, UINT32_MAX},
@@ -59,7 +61,7 @@ static const struct option OPTIONS[] = {
      255},
     {"--seconds", "N", "learning seconds, 10 to 8191, or 0 for the default 1200 (0)", NUMBER, WITH_SETTINGS, 0,
      AT(settings.seconds), 0, 8191},
-    {"--source", "ADDRESS", "the outer source, an individual address", ADDRESS, EXPAND, EXPAND, AT(source), 0, 0},
+    {"--source", "ADDRESS", "the outer source, an individual address", ADDRESS, EXPAND | WRITE, EXPAND, AT(source), 0, 0},
     {"--tag", "N", "writes an outer tag with this VLAN, 1 to 4094", NUMBER, EXPAND, 0, AT(tag), 1, 4094},
     {"--vlan", "N", "the label is this VLAN", NUMBER, WITH_PAIR, 0, AT(label), 0, 0xFFFF},
     {"--fgl", "N", "the label is this fine-grained label", NUMBER, WITH_PAIR, 0, AT(label), 0, 0xFFFFFF},
@@ -73,6 +75,13 @@ static const struct option OPTIONS[] = {
     {"--no-ageing", NULL, "no time passes for the table", FLAG, RECEIVE, 0, AT(no_ageing), 0, 0},
     {"--dry-run", NULL, "the table file is read and not written", FLAG,
      RECEIVE | AGE | LIVE | SET | UNSET | WIDEN, 0, AT(dry_run), 0, 0},
+    {"--nickname", "HEX", "a nickname whose addresses are to be forgotten; none: the sender's", NICKNAMES, WRITE, 0,
+     AT(lists.nicknames), 2, 0xFFFF},
+    {"--vlan", "A-B", "a block of VLANs, 1 to 4094", BLOCKS, WRITE, 0, AT(lists.vlans), 2, 0xFFFF},
+    {"--fgl", "A-B", "a block of fine-grained labels", BLOCKS, WRITE, 0, AT(lists.fine), 4, 0xFFFFFFFF},
+    {"--mac", "A-B", "a block of addresses; none: every address", MAC_BLOCKS, WRITE, 0, AT(lists.macs), 8, 0},
+    {"--payload", "FILE", "the payload to write; replaced whole or not at all", TEXT, WRITE, 0, AT(payload), 0, 0},
+    {"--ingress", "HEX", "the sender's nickname in the frame of --out", NICKNAME, WRITE, 0, AT(ingress), 0, 0xFFFF},
     {"--json", NULL, "a JSON object for each line, with the same facts", FLAG, WITH_ANY, 0, AT(json), 0, 0},
     {"--portion", "K", "flushes in portions of K slots, one after each frame, 1 to 4096", NUMBER, RECEIVE | LIVE, 0,
      AT(portion), 1, TABLE_SLOTS_MAX},
@@ -119,6 +128,10 @@ static const struct {
      "15 bytes has the line `shinglebar table 15` in front of its records; without it only `widen` takes the file.\n"},
     {SEND, "send", "sends the General frames of a capture out of a Linux interface",
      "Needs CAP_NET_RAW. The settings are the far port's: a frame is compacted where it may be, if --compact is on.\n"},
+    {WRITE, "write", "writes an Address Flush from lists",
+     "--nickname, --vlan, --fgl and --mac may be given up to 255 times each; a block is A-B, both ends included, or A alone.\n"
+     "The payload goes to --payload, a General frame with it to all switches to the capture --out, which needs --source and\n"
+     "--ingress. Exit status 2 if the lists cannot be written.\n"},
 };
 #define COMMAND_COUNT (sizeof COMMANDS / sizeof COMMANDS[0])
 
@@ -196,6 +209,33 @@ static int read_address(const char *text, uint64_t *value)
     return read_digits(digits, 16, value);
 }
 
+/* A block A-B, or A alone, of numbers or of addresses: 1, or 0 if the text is none. */
+static int read_block(const char *text, int (*read)(const char *, uint64_t *), size_t first, uint64_t *start, uint64_t *end)
+{
+    char copy[40] = "";
+    if (strlen(text) >= sizeof copy)
+        return 0;
+    strcpy(copy, text);
+    if (copy[first] == '\0')
+        return read(copy, start) && read(copy, end);
+    copy[first] = '\0';
+    return text[first] == '-' && read(copy, start) && read(copy + first + 1, end);
+}
+
+static int take_block(const struct option *option, const char *text, struct list *list)
+{
+    uint64_t start, end;
+    int macs = option->form == MAC_BLOCKS;
+    size_t marked = strlen(text) == 35 || strlen(text) == 17 ? 17 : 12;
+    size_t first = macs ? (strlen(text) < marked ? 0 : marked) : strcspn(text, "-");
+    if (!read_block(text, macs ? read_address : read_number, first, &start, &end)
+        || (!macs && (start > option->most || end > option->most)))
+        return bad_usage("%s takes a block A-B, not `%s`", option->name, text);
+    list_put(list, start, option->least);
+    list_put(list, end, option->least);
+    return 0;
+}
+
 static int take_value(const struct option *option, const char *text, struct options *options)
 {
     void *place = (char *)options + option->place;
@@ -218,9 +258,15 @@ static int take_value(const struct option *option, const char *text, struct opti
         if (!read_address(text, (uint64_t *)place))
             return bad_usage("%s takes an address such as 02-00-00-00-00-01, not `%s`", option->name, text);
         return 0;
+    case BLOCKS:
+    case MAC_BLOCKS:
+        return take_block(option, text, (struct list *)place);
+    case NICKNAMES:
     case NICKNAME:
         if (!read_digits(strncmp(text, "0x", 2) == 0 ? text + 2 : text, 16, &value) || value > option->most)
             return bad_usage("%s takes up to four hexadecimal digits, not `%s`", option->name, text);
+        if (option->form == NICKNAMES)
+            return list_put((struct list *)place, value, option->least), 0;
         break;
     case NUMBER:
         if (!read_number(text, &value) || value < option->least || value > option->most)
@@ -245,16 +291,16 @@ static size_t find_option(const char *word, unsigned command)
 }
 
 /* The option named in words[*at], with its value behind it or behind an equals sign. */
-static int read_option(int count, char **words, int *at, unsigned *given, struct options *options)
+static int read_option(int count, char **words, int *at, uint64_t *given, struct options *options)
 {
     const char *word = words[*at], *value = strchr(word, '=');
     size_t index = find_option(word, options->command);
     if (index == OPTION_COUNT)
         return bad_usage("`%s` is no option of this command; try --help", word);
     const struct option *option = &OPTIONS[index];
-    if (*given & 1u << index)
+    if (*given & BIT(index) && option->form < NICKNAMES)
         return bad_usage("%s is given twice", option->name);
-    *given |= 1u << index;
+    *given |= BIT(index);
     if (option->form == FLAG)
         return value == NULL ? take_value(option, "", options) : bad_usage("%s takes no value", option->name);
     if (value == NULL && *at + 1 == count)
@@ -273,11 +319,11 @@ static int check_settings(const struct settings *settings)
                      "0001 to FFBF, --seconds is 0 or 10 to 8191");
 }
 
-static int check_options(unsigned given, struct options *options)
+static int check_options(uint64_t given, struct options *options)
 {
-    unsigned vlan = 1u << find_option("--vlan", WITH_PAIR), fgl = 1u << find_option("--fgl", WITH_PAIR);
+    uint64_t vlan = BIT(find_option("--vlan", WITH_PAIR)), fgl = BIT(find_option("--fgl", WITH_PAIR));
     for (size_t i = 0; i < OPTION_COUNT; i++)
-        if (OPTIONS[i].required & options->command && !(given & 1u << i))
+        if (OPTIONS[i].required & options->command && !(given & BIT(i)))
             return bad_usage("%s %s is needed; try --help", OPTIONS[i].name, OPTIONS[i].value);
     if (options->command & WITH_CAPTURE && options->capture == NULL)
         return bad_usage("no capture is named; try --help");
@@ -287,7 +333,11 @@ static int check_options(unsigned given, struct options *options)
     options->tagged = options->tag != 0;
     if (is_standard(options->table))
         return bad_usage("--table is a file, not standard input or output");
-    options->audience.is_one = options->command & (RECEIVE | LIVE) && given & 1u << find_option("--mac", RECEIVE);
+    options->audience.is_one = options->command & (RECEIVE | LIVE) && (given & BIT(find_option("--mac", RECEIVE))) != 0;
+    if (options->command == WRITE && options->payload == NULL && options->out == NULL)
+        return bad_usage("one of --payload and --out is needed");
+    if (options->command == WRITE && options->out != NULL && (options->source == 0 || options->ingress == 0))
+        return bad_usage("--out needs --source and --ingress");
     if (options->source >> 40 & 1)
         return bad_usage("--source is a group address");
     return options->command & WITH_SETTINGS ? check_settings(&options->settings) : 0;
@@ -325,7 +375,7 @@ static int read_general(int count, char **words)
 }
 
 /* The words behind the command: -1, or the exit status. */
-static int read_words(int count, char **words, unsigned *given, struct options *options)
+static int read_words(int count, char **words, uint64_t *given, struct options *options)
 {
     for (int at = 2; at < count; at++) {
         int status = 0;
@@ -346,7 +396,7 @@ static int read_words(int count, char **words, unsigned *given, struct options *
 int options_read(int count, char **words, struct options *options)
 {
     const struct options nothing = {0};
-    unsigned given = 0;
+    uint64_t given = 0;
     int status = read_general(count, words);
     if (status >= 0)
         return status;

@@ -4,6 +4,7 @@
 
 #include <stdint.h>
 
+#include "lists.h"
 #include "settings.h"
 #include "table.h"
 
@@ -18,7 +19,8 @@ enum command {
     SEND = 128,
     SET = 256,
     UNSET = 512,
-    WIDEN = 1024
+    WIDEN = 1024,
+    WRITE = 2048
 };
 
 /* An option that was not given is NULL or 0, but for Compact off, confidence 32, seconds 0, saving every
@@ -47,6 +49,9 @@ struct options {
     uint32_t save;
     /* The slots of a portion; 0 flushes whole. */
     uint32_t portion;
+    const char *payload;
+    uint32_t ingress;
+    struct lists lists;
 };
 
 /* Reads the command line: -1 if the command is to be carried out, else the exit status (help, or bad usage, which is said). */

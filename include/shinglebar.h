@@ -55,6 +55,8 @@
  * so many. */
 #define SHINGLEBAR_FRAME_LENGTH_MAX 9216
 #define SHINGLEBAR_COMPACT_LENGTH_MAX 9204
+/* The longest payload that is written: an output area in which every one has room. */
+#define SHINGLEBAR_WRITTEN_LENGTH_MAX 6172
 
 /* The bytes of stack that a call takes at most: any call (a long flush takes most, so a frame that
  * brings one does), and a call that carries out no flush, which is every call but receive, flush and
@@ -103,6 +105,8 @@ enum shinglebar_refusal_number {
     SHINGLEBAR_REFUSAL_NOT_COMPACTABLE = 17,
     /* a General frame given where Compact is required */
     SHINGLEBAR_REFUSAL_GENERAL = 18,
+    /* lists that cannot be written as a flush */
+    SHINGLEBAR_REFUSAL_LISTS = 23,
     /* k is 0, or the slot number is n or more */
     SHINGLEBAR_REFUSAL_PORTION = 24
 };
@@ -135,6 +139,11 @@ enum shinglebar_compact_kind {
 enum shinglebar_expand_kind {
     /* shinglebar_written_length */
     SHINGLEBAR_EXPAND_WRITTEN = 64
+};
+
+enum shinglebar_write_flush_kind {
+    /* shinglebar_written_length */
+    SHINGLEBAR_WRITE_FLUSH_WRITTEN = 64
 };
 
 enum shinglebar_send_kind {
@@ -300,6 +309,14 @@ uint64_t shinglebar_send(uint64_t port, uint64_t inner, uint32_t nickname, uint3
                          uint32_t confidence, uint32_t seconds, const uint8_t *frame,
                          size_t frame_len, uint8_t *work, size_t work_len);
 
+/* Writes the payload of an Address Flush from four lists, each number most significant byte first:
+ * nicknames of 2 bytes (none: the sender), blocks of VLANs (start 2, end 2), of fine-grained labels (4, 4)
+ * and of MACs (8, 8; none: every MAC). At most 255 in a list, at least one block of labels. Lists that
+ * cannot be written answer 23, before 16; SHINGLEBAR_WRITTEN_LENGTH_MAX bytes are always enough. */
+uint64_t shinglebar_write_flush(const uint8_t *nicknames, size_t nicknames_len, const uint8_t *vlans,
+                                size_t vlans_len, const uint8_t *fine, size_t fine_len,
+                                const uint8_t *macs, size_t macs_len, uint8_t *out, size_t out_len);
+
 #endif /* SHINGLEBAR_TABLE_ONLY */
 
 #ifdef __cplusplus
@@ -418,11 +435,11 @@ static inline const char *shinglebar_refusal_string(uint64_t result)
         "output area shorter than the result",
         "frame may not be compacted",
         "a General frame given where Compact is required",
-        NULL, /* 19 to 23 are no refusals */
+        NULL, /* 19 to 22 are no refusals */
         NULL,
         NULL,
         NULL,
-        NULL,
+        "lists that cannot be written as a flush",
         "k is 0, or the slot number is n or more"
     };
     size_t number = result < sizeof words / sizeof words[0] ? (size_t)result : 0;
@@ -596,6 +613,19 @@ static inline uint64_t shinglebar_send_any(uint64_t port, uint64_t inner, uint32
     return shinglebar_send(port, inner, nickname, compact, confidence, seconds,
                            shinglebar_const_area(frame, frame_len), frame_len,
                            shinglebar_area(work, work_len), work_len);
+}
+
+static inline uint64_t shinglebar_write_flush_any(const uint8_t *nicknames, size_t nicknames_len,
+                                                  const uint8_t *vlans, size_t vlans_len,
+                                                  const uint8_t *fine, size_t fine_len,
+                                                  const uint8_t *macs, size_t macs_len, uint8_t *out,
+                                                  size_t out_len)
+{
+    return shinglebar_write_flush(shinglebar_const_area(nicknames, nicknames_len), nicknames_len,
+                                  shinglebar_const_area(vlans, vlans_len), vlans_len,
+                                  shinglebar_const_area(fine, fine_len), fine_len,
+                                  shinglebar_const_area(macs, macs_len), macs_len,
+                                  shinglebar_area(out, out_len), out_len);
 }
 
 #endif /* SHINGLEBAR_TABLE_ONLY */

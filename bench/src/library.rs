@@ -6,7 +6,7 @@
 pub use shinglebar::exports::{
     shinglebar_age, shinglebar_compact, shinglebar_expand, shinglebar_flush,
     shinglebar_flush_portion, shinglebar_free_slot, shinglebar_lookup, shinglebar_receive,
-    shinglebar_send, shinglebar_spoilt,
+    shinglebar_send, shinglebar_spoilt, shinglebar_write_flush,
 };
 
 pub type Lookup = unsafe extern "C" fn(
@@ -81,6 +81,19 @@ pub type Expand = unsafe extern "C" fn(
     tag: u32,
     frame: *const u8,
     frame_len: usize,
+    out: *mut u8,
+    out_len: usize,
+) -> u64;
+
+pub type WriteFlush = unsafe extern "C" fn(
+    nicknames: *const u8,
+    nicknames_len: usize,
+    vlans: *const u8,
+    vlans_len: usize,
+    fine: *const u8,
+    fine_len: usize,
+    macs: *const u8,
+    macs_len: usize,
     out: *mut u8,
     out_len: usize,
 ) -> u64;

@@ -7,7 +7,7 @@
 //! | receive | 66 other channel | |
 //! | receive, flush | 67 flushed | 8..23 records cleared |
 //! | flush_portion | 64 portion done | 8..23 cleared, 24..39 next slot, 40..55 examined |
-//! | compact, expand, widen | 64 written | 8..23 length |
+//! | compact, expand, widen, write_flush | 64 written | 8..23 length |
 //! | send | 64 compacted | 8..23 length |
 //! | send | 65 the frame itself | |
 //! | lookup | 64 found | 8..23 nickname |
@@ -29,6 +29,8 @@ use crate::{Label, Refusal, RECORD_LENGTH, TABLE_LENGTH_MAX};
 const LENGTHS: RangeInclusive<u16> = 14..=9216;
 /// The bytes of a table that is written.
 const TABLES: RangeInclusive<u16> = RECORD_LENGTH as u16..=TABLE_LENGTH_MAX as u16;
+/// The bytes of a payload that is written: one VLAN block, and 255 of everything.
+const PAYLOADS: RangeInclusive<u16> = 6..=6172;
 /// The records of a table that can be cleared, and its slots.
 const COUNTS: RangeInclusive<u16> = 0..=4096;
 const SLOTS: RangeInclusive<u16> = 0..=4095;
@@ -99,6 +101,13 @@ pub struct Compacted {
 /// The result of an expansion starts the output area.
 #[derive(Clone, Copy, Debug, PartialEq, Eq, Hash)]
 pub struct Expanded {
+    /// The bytes written.
+    pub length: usize,
+}
+
+/// The payload of an Address Flush starts the output area.
+#[derive(Clone, Copy, Debug, PartialEq, Eq, Hash)]
+pub struct Written {
     /// The bytes written.
     pub length: usize,
 }
@@ -436,6 +445,23 @@ impl Answer for Expanded {
         match kind(word) {
             64 => Some(Expanded {
                 length: length(word)?,
+            }),
+            _ => None,
+        }
+    }
+
+    fn word(&self) -> u64 {
+        with_length(64, self.length)
+    }
+}
+
+impl Answer for Written {
+    const REFUSALS: &'static [Refusal] = &[Refusal::Lists, Refusal::OutputLength];
+
+    fn from_word(word: u64) -> Option<Written> {
+        match kind(word) {
+            64 => Some(Written {
+                length: value(word, PAYLOADS).map(usize::from)?,
             }),
             _ => None,
         }

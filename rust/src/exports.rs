@@ -102,4 +102,17 @@ extern "C" {
     pub fn shinglebar_free_slot(table: *const u8, table_len: usize) -> u64;
 
     pub fn shinglebar_widen(old: *const u8, old_len: usize, out: *mut u8, out_len: usize) -> u64;
+
+    pub fn shinglebar_write_flush(
+        nicknames: *const u8,
+        nicknames_len: usize,
+        vlans: *const u8,
+        vlans_len: usize,
+        fine: *const u8,
+        fine_len: usize,
+        macs: *const u8,
+        macs_len: usize,
+        out: *mut u8,
+        out_len: usize,
+    ) -> u64;
 }

@@ -14,6 +14,7 @@
 //! | [`send`] | chooses what to send to a far port |
 //! | [`lookup`], [`age`], [`spoilt`], [`free_slot`] | the address table |
 //! | [`widen`] | makes an older table, of records of 14 bytes, one of 15 |
+//! | [`write_flush`] | writes the payload of an Address Flush |
 //!
 //! Each takes any bytes. A [`Refusal`] has changed nothing; an area keeps its bytes behind what a
 //! call writes. [`raw`] has the calls with any numbers too.
@@ -61,13 +62,16 @@ pub mod exports;
 pub mod raw;
 mod refusal;
 mod values;
+mod write;
 
 pub use answer::{
     decode, encode, Aged, Answer, Compacted, Expanded, Flushed, Found, FreeSlot, Learning,
     Portioned, Received, Sent, Spoilt, UnknownWord, Widened,
+    Written,
 };
 pub use refusal::Refusal;
 pub use values::{Label, Mac, Outer, Settings};
+pub use write::{write_flush, Asked};
 
 /// The version of the package, which is that of the library's header.
 pub const VERSION: &str = env!("CARGO_PKG_VERSION");
@@ -84,6 +88,8 @@ pub const OLD_TABLE_LENGTH_MAX: usize = 57_344;
 pub const FRAME_LENGTH_MAX: usize = 9216;
 /// The bytes of a working area in which every compaction has room.
 pub const COMPACT_LENGTH_MAX: usize = 9204;
+/// The bytes of the longest payload that is written: an output area in which every one has room.
+pub const WRITTEN_LENGTH_MAX: usize = 6172;
 
 /// The answer of a word that the library gave. It gives no others: a panic here means that the
 /// archive and this package do not belong together.

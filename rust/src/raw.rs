@@ -194,3 +194,31 @@ pub fn free_slot(table: &[u8]) -> u64 {
     // SAFETY: a slice: not null, as long as said, and only read.
     unsafe { exports::shinglebar_free_slot(table.as_ptr(), table.len()) }
 }
+
+/// Writes the payload of an Address Flush from four lists: nicknames 2 bytes each, VLAN blocks 2 + 2,
+/// fine-grained blocks 4 + 4, MAC blocks 8 + 8, most significant byte first.
+#[inline]
+pub fn write_flush(
+    nicknames: &[u8],
+    vlans: &[u8],
+    fine: &[u8],
+    macs: &[u8],
+    out: &mut [u8],
+) -> u64 {
+    // SAFETY: five slices: none is null, each is as long as said, and the one that is lent for
+    // writing overlaps nothing, being `&mut`.
+    unsafe {
+        exports::shinglebar_write_flush(
+            nicknames.as_ptr(),
+            nicknames.len(),
+            vlans.as_ptr(),
+            vlans.len(),
+            fine.as_ptr(),
+            fine.len(),
+            macs.as_ptr(),
+            macs.len(),
+            out.as_mut_ptr(),
+            out.len(),
+        )
+    }
+}

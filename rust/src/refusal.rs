@@ -7,7 +7,7 @@ macro_rules! refusals {
     ($($name:ident = $number:literal, $words:literal;)*) => {
         /// Why a call refuses. A refused call has changed nothing.
         ///
-        /// The numbers and words are those of the table of refusals in document 01.
+        /// The numbers and words are those of the table of refusals in document 01, and of document 02.
         ///
         /// ```
         /// use shinglebar::Refusal;
@@ -57,6 +57,7 @@ refusals! {
     OutputLength = 16, "output area shorter than the result";
     NotCompactable = 17, "frame may not be compacted";
     General = 18, "a General frame given where Compact is required";
+    Lists = 23, "lists that cannot be written as a flush";
     Portion = 24, "k is 0, or the slot number is n or more";
 }
 

@@ -186,6 +186,17 @@ static uint64_t call_spoilt(void)
     return shinglebar_spoilt(table, sizeof table);
 }
 
+/* 255 of everything: the lists are one area of numbers that rise. */
+static uint64_t call_write_flush(void)
+{
+    static uint8_t vlans[255 * 4], fine[255 * 8], macs[255 * 16];
+    for (size_t at = 0; at < 255; at++) {
+        vlans[4 * at + 1] = vlans[4 * at + 3] = (uint8_t)(1 + at % 255);
+        fine[8 * at + 7] = macs[16 * at + 15] = 1;
+    }
+    return shinglebar_write_flush(vlans, 510, vlans, sizeof vlans, fine, sizeof fine, macs, sizeof macs, out, sizeof out);
+}
+
 /* ---- the measurement */
 
 struct measured {
@@ -300,6 +311,7 @@ static void others(void)
     within("lookup", taken("lookup", call_lookup, SHINGLEBAR_LOOKUP_NONE), most);
     within("age", taken("age", call_age, SHINGLEBAR_AGE_DONE), most);
     within("spoilt", taken("spoilt", call_spoilt, SHINGLEBAR_SPOILT_NONE), most);
+    within("write_flush", taken("write_flush", call_write_flush, SHINGLEBAR_WRITE_FLUSH_WRITTEN), most);
 }
 
 int main(void)

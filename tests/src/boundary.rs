@@ -5,7 +5,7 @@
 
 use shinglebar::{
     decode, encode, raw, Aged, Answer, Compacted, Expanded, Flushed, Found, FreeSlot, Portioned,
-    Received, Sent, Spoilt, Widened,
+    Received, Sent, Spoilt, Widened, Written,
 };
 
 use crate::lend::Lend;
@@ -132,4 +132,33 @@ pub fn widen(lender: &mut impl Lend, old: &[u8], out: &mut [u8]) -> u64 {
 
 pub fn free_slot(lender: &mut impl Lend, table: &[u8]) -> u64 {
     known::<FreeSlot>(lender.lend(("table", table), [], |table, []| raw::free_slot(table)))
+}
+
+/// Each of the four lists is lent in turn, on the same output area; the answers and areas must be the same.
+pub fn write_flush(
+    lender: &mut impl Lend,
+    nicknames: &[u8],
+    vlans: &[u8],
+    fine: &[u8],
+    macs: &[u8],
+    out: &mut [u8],
+) -> u64 {
+    let lists = [nicknames, vlans, fine, macs];
+    let given = out.to_vec();
+    let mut call = |lent: usize, out: &mut [u8]| {
+        known::<Written>(lender.lend(
+            ("list", lists[lent]),
+            [("output area", out)],
+            |list, [out]| {
+                let at = |place: usize| if place == lent { list } else { lists[place] };
+                raw::write_flush(at(0), at(1), at(2), at(3), out)
+            },
+        ))
+    };
+    let word = call(0, out);
+    for lent in 1..lists.len() {
+        let mut again = given.clone();
+        assert!(call(lent, &mut again) == word && again == out);
+    }
+    word
 }

@@ -224,3 +224,27 @@ pub fn widen(lender: &mut impl Lend, old: &[u8], out: &mut [u8]) -> u64 {
     );
     paper
 }
+
+pub fn write_flush(
+    lender: &mut impl Lend,
+    nicknames: &[u8],
+    vlans: &[u8],
+    fine: &[u8],
+    macs: &[u8],
+    out: &mut [u8],
+) -> u64 {
+    let mut after = out.to_vec();
+    let library = boundary::write_flush(lender, nicknames, vlans, fine, macs, &mut after);
+    let paper = reference::write_flush(nicknames, vlans, fine, macs, out);
+    assert!(
+        library == paper && after == out,
+        "write_flush: {}{}nicknames {}\nVLANs {}\nfine-grained {}\nMACs {}",
+        words(library, paper),
+        difference("output area", &after, out),
+        hex(nicknames),
+        hex(vlans),
+        hex(fine),
+        hex(macs)
+    );
+    paper
+}

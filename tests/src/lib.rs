@@ -11,6 +11,7 @@
 //! | tests/example.rs | receive, age: examples/port.c |
 //! | tests/install.rs | none: `make install` and the version |
 //! | tests/flush.rs | flush |
+//! | tests/write.rs | write_flush, and flush with what it wrote |
 //! | tests/receive.rs | receive |
 //! | tests/convert.rs | compact, expand, send |
 //! | tests/refusals.rs | all: the order of refusals in docs/FORMATS.md |

@@ -2387,3 +2387,69 @@ fn a_flush_in_portions_ends_as_the_whole_flush() {
         "--portion takes a number from 1 to 4096",
     );
 }
+
+/// A flush that `write` makes: its payload, and the frame that `receive` obeys.
+#[test]
+fn write_makes_a_flush_that_receive_obeys() {
+    let folder = folder("write");
+    let lists = [
+        "write",
+        "--nickname",
+        "1234",
+        "--vlan",
+        "10-12",
+        "--mac",
+        "02-00-00-00-00-01",
+    ];
+    let payload = run_in(&folder, &[&lists[..], &["--payload", "payload"]].concat());
+    assert!(payload.status.success(), "{}", text(&payload.stderr));
+    assert_eq!(
+        text(&payload.stdout),
+        "flush written, 24 bytes of payload\n"
+    );
+    let mac = [2, 0, 0, 0, 0, 1];
+    let wanted = [
+        &[1, 0x12, 0x34, 0, 1, 4, 0, 10, 0, 12, 8, 12][..],
+        &mac,
+        &mac,
+    ]
+    .concat();
+    assert_eq!(bytes(&folder.join("payload")), wanted);
+
+    let learned = |mac: u64| {
+        let entry = Entry {
+            label: Label::Vlan(11),
+            mac,
+            nickname: 0x1234,
+            confidence: 32,
+            seconds: 1000,
+        };
+        write(true, &entry)
+    };
+    let (asked, other) = (learned(0x0200_0000_0001), learned(0x0200_0000_0002));
+    fs::write(folder.join("table"), [asked, other].concat()).expect("the table");
+    let frame = [
+        "--out",
+        "flush.pcap",
+        "--source",
+        "02-00-00-00-00-B2",
+        "--ingress",
+        "1235",
+    ];
+    let made = run_in(&folder, &[&lists[..], &frame].concat());
+    assert!(made.status.success(), "{}", text(&made.stderr));
+    let receive = ["receive", "flush.pcap", "--table", "table", "--no-ageing"];
+    let obeyed = run_in(&folder, &[&receive[..], &SETTINGS].concat());
+    assert!(obeyed.status.success(), "{}", text(&obeyed.stderr));
+    assert_eq!(bytes(&folder.join("table")), [[0; RECORD], other].concat());
+
+    for wrong in [
+        &["--vlan", "12-10"][..],
+        &["--mac", "020000000001"],
+        &["--vlan", "x"],
+    ] {
+        let refused = run_in(&folder, &[&["write", "--payload", "none"], wrong].concat());
+        assert_eq!(refused.status.code(), Some(2), "{wrong:?}");
+        assert!(!folder.join("none").exists());
+    }
+}

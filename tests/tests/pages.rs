@@ -178,6 +178,45 @@ fn send_touches_only_what_it_is_lent() {
     );
 }
 
+/// Blocks of numbers of a width, now and then cut.
+fn blocks(random: &mut Random, width: usize) -> Vec<u8> {
+    let count = random.length(0, 70);
+    let numbers = (0..count).flat_map(|_| {
+        let start = random.between(1, 2000);
+        [start, start + random.below(2000)]
+    });
+    let mut bytes: Vec<u8> = numbers
+        .flat_map(|number| number.to_be_bytes()[8 - width..].to_vec())
+        .collect();
+    if random.one_in(10) {
+        bytes.pop();
+    }
+    bytes
+}
+
+#[test]
+fn write_flush_touches_only_what_it_is_lent() {
+    let mut both = Pages::both();
+    run::cases(
+        "write_flush_touches_only_what_it_is_lent",
+        SHARE,
+        &[(16, "refusal 16"), (23, "refusal 23"), (64, "written")],
+        &[],
+        |random, tally| {
+            let count = random.length(0, 8);
+            let nicknames = random.bytes(2 * count);
+            let (vlans, fine, macs) = (blocks(random, 2), blocks(random, 4), blocks(random, 8));
+            let room = random.length(0, 2600);
+            let out = random.bytes(room);
+            for pages in &mut both {
+                let word =
+                    compare::write_flush(pages, &nicknames, &vlans, &fine, &macs, &mut out.clone());
+                tally.word(word);
+            }
+        },
+    );
+}
+
 #[test]
 fn calls_on_the_table_alone_touch_only_what_they_are_lent() {
     let mut both = Pages::both();

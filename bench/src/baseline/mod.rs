@@ -18,8 +18,10 @@ mod record;
 mod refusal;
 mod settings;
 mod table;
+mod write;
 
 pub use convert::{compact, expand, send};
 pub use flush::{flush, flush_portion};
 pub use receive::receive;
 pub use table::{age, free_slot, lookup, spoilt};
+pub use write::write_flush;

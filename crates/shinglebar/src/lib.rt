@@ -12,6 +12,8 @@ ghost use Rattle.flush.specs.Flush.{flushed};
 ghost use Rattle.flush.specs.Words.{flushWord};
 ghost use Rattle.portions.specs.Portion.{portioned};
 ghost use Rattle.portions.specs.Words.{portionWord};
+ghost use Rattle.flush_write.specs.Areas.{flushWritten};
+ghost use Rattle.flush_write.specs.Words.{writeWord};
 ghost use Rattle.receive.specs.Receive.{received};
 ghost use Rattle.receive.specs.Words.{readWord, LabelFits};
 ghost use Rattle.receive.specs.declared.ReadAnswer.the-variants.{Delivered};
@@ -24,6 +26,7 @@ use convert::ConvertAnswer;
 use convert::SendAnswer;
 use convert_expand::Outer;
 use flush::FlushAnswer;
+use flush_write::WriteAnswer;
 use frame::Settings;
 use portions::PortionAnswer;
 use receive::ReadAnswer;
@@ -348,4 +351,26 @@ pub extern "C" fn shinglebar_send(
 {
     let s = settings(port, inner, nickname, compact, confidence, seconds);
     send_word(convert_send::send(s, frame, work))
+}
+
+fn write_word(a: WriteAnswer) -> u64
+    ensures { λ r. ⌜ r ≡ writeWord a ⌝ }
+{
+    match a {
+        WriteAnswer::Refused(n) => n as u64,
+        WriteAnswer::Written(k) => 64 + k as u64 * 0x100,
+    }
+}
+
+#[no_mangle]
+pub extern "C" fn shinglebar_write_flush(
+    nicknames: &[u8],
+    vlans: &[u8],
+    fine: &[u8],
+    macs: &[u8],
+    out: &mut [u8],
+) -> u64
+    ensures { λ r. ⌜ onArea r (now (out .exit)) ≡ areaAs writeWord (flushWritten (now (nicknames .entry)) (now (vlans .entry)) (now (fine .entry)) (now (macs .entry)) (now (out .entry))) ⌝ }
+{
+    write_word(flush_write_call::write_flush(nicknames, vlans, fine, macs, out))
 }

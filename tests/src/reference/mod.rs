@@ -15,6 +15,7 @@ mod record;
 mod refusal;
 mod settings;
 mod table;
+mod write;
 
 pub use convert::{compact, expand, send, WORKING_AREA};
 pub use flush::flush;
@@ -26,6 +27,7 @@ pub use record::{read, write, Entry, Label, Record, OLD_RECORD, RECORD, SLOTS, T
 pub use refusal::Refusal;
 pub use settings::{Settings, DEFAULT_LIFE, OLD_LIFE};
 pub use table::{age, free_slot, lookup, spoilt};
+pub use write::{write_flush, Block, Lists};
 
 /// "Numbers are most significant byte first."
 fn number(bytes: &[u8]) -> u64 {

@@ -43,4 +43,6 @@ pub enum Refusal {
     General = 18,
     /// k is 0, or the slot number is n or more (document 02)
     Portion = 24,
+    /// lists that cannot be written as a flush (document 02, 2026-03)
+    Lists = 23,
 }

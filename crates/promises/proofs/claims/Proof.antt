@@ -9,6 +9,7 @@ use Rattle.table.proofs.Refusals.{kept-writes-nothing, ageing-refusal}
 use Rattle.table.proofs.Widening.{widened-same, widening-refusal}
 use Rattle.table.proofs.Before.{unmarked-as-before}
 use Rattle.table.proofs.Examples.{homes-examples}
+use Rattle.table.proofs.FreeSlot.{free-slot-found}
 use Rattle.flush.proofs.Validity.{validity}
 use Rattle.flush.proofs.Flushing.{flush-exact, flushing-keeps-apart, flush-refusal}
 use Rattle.flush.proofs.Padding.{padded-flush}
@@ -17,6 +18,11 @@ use Rattle.portions.proofs.Portions.{portion-exact, portion-refusal}
 use Rattle.portions.proofs.Runs.{portions-whole, portions-reach, portions-end}
 use Rattle.portions.proofs.Keeping.{portion-keeps-apart, portion-leaves-alone}
 use Rattle.portions.proofs.Between.{later, passed}
+use Rattle.flush_write.proofs.Exact.{writer-exact}
+use Rattle.flush_write.proofs.Clears.{writer-clears}
+use Rattle.flush_write.proofs.Bounds.{writer-length}
+use Rattle.flush_write.proofs.Calls.{writer-calls}
+use Rattle.flush_write.proofs.Worked.{writer-cases}
 use Rattle.frame.proofs.Local.{header-local, label-local, labels-good}
 use Rattle.convert.proofs.Areas.{convert-refusals}
 use Rattle.convert.proofs.Compacting.{reads-same}
@@ -60,12 +66,15 @@ stays-configured = record {
 
 returns : tie.Need-returns
 returns c = (
-  (interchange, example-holds, expand-compacted, compact-expanded, refusals, validity, flush-exact, read-flush-exact, padded-flush, padded-read, reads-exactly, homes, widened-same, unmarked-as-before, none-as-before, homes-examples, marked-read, stays-spoilt, stays-configured, sends-exactly, room-for-compaction, send-room, chosen-sent, control-never-compact, life-as-before, other-lives-stay, cases-hold, control-cases),
+  (interchange, example-holds, expand-compacted, compact-expanded, refusals, validity, flush-exact, read-flush-exact, padded-flush, padded-read, reads-exactly, homes, widened-same, unmarked-as-before, none-as-before, homes-examples, marked-read, free-slot-found, stays-spoilt, stays-configured, sends-exactly, room-for-compaction, send-room, chosen-sent, control-never-compact, life-as-before, other-lives-stay, cases-hold, control-cases),
   (
     (read-refusal, flush-refusal, ageing-refusal, widening-refusal, convert-refusals, reading-apart, flushing-keeps-apart, ageing-apart, learning-apart, reading-leaves-alone, flushing-leaves-alone, ageing-leaves-alone, learning-leaves-alone),
     (
       (portion-exact, portions-whole, portions-reach, portions-end, later, passed, portion-refusal, portion-keeps-apart, portion-leaves-alone),
-      (blocks-hold, maps-hold, unpack-packed, pack-unpacked, kept-writes-nothing, header-local, label-local, labels-good, reads-same, reads-parsed),
+      (
+        (blocks-hold, maps-hold, unpack-packed, pack-unpacked, kept-writes-nothing, header-local, label-local, labels-good, reads-same, reads-parsed),
+        (writer-exact, writer-clears, writer-length, writer-calls, writer-cases),
+      ),
     ),
   ),
 )

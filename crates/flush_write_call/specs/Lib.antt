@@ -1,0 +1,2 @@
+-- What the steps of the writing call assume and mean.
+pub mod Steps

@@ -1,0 +1,15 @@
+-- `flush_write_lists::smaller` meets its contract.
+-- Assumes nothing.
+use Rattle.flush_write_lists.proofs.Laws.{at-most-second, at-most-first}
+use borrow.Author.Needs.{needs}
+use Rattle.flush_write_lists.proofs.smaller.Statement.{statement}
+use Rattle.flush_write_lists.proofs.smaller.Tie as tie
+
+returns : tie.Need-returns
+returns c = search at-most-second
+
+returns-2 : tie.Need-returns-2
+returns-2 c = search at-most-first
+
+pub smaller-spec : {M : Type 1} → statement M
+smaller-spec = tie.close (tie.spec returns returns-2)
