@@ -1,13 +1,13 @@
 -- Laws of ageing: which slots stay as they are, and slot after slot.
 -- Assumes nothing.
-use Prim.Native.Nat.{ℕ, zero, suc, _+_, _-_, _*_, _<_, _≤_}
+use Prim.Native.Nat.{ℕ, _+_, _-_, _*_, _<_, _≤_}
 use mathlib.Core.Bool.{Bool, true, false}
 use mathlib.Core.List.{List, _++_}
 use mathlib.Core.Path.{_≡_, refl, sym, ap, _∙_}
 use native.Mathlib.Decide.{ℕ-discrete}
-use native.Mathlib.Nat.{zero-add, add-sub-cancel-left}
+use native.Mathlib.Nat.{add-sub-cancel-left}
 use native.Mathlib.Omega.{arith}
-use lib.ListN.{length, take, drop, length-take, length-drop, take-append-drop}
+use lib.ListN.{length, take, drop, length-take, length-drop}
 use lib.Dec.{leb}
 use Rattle.numbers.specs.Tests.{pick}
 use Rattle.numbers.specs.Result.{check, settled}
@@ -19,6 +19,7 @@ use Rattle.table.specs.declared.AgeAnswer.the-variants as age
 use Rattle.table.proofs.Slots.{on-step}
 use Rattle.table.proofs.Ageing.{aged-keeps}
 use Rattle.table_rounds.specs.Rounds.{InState, Passed}
+use Rattle.table_rounds.proofs.Laws.{kept-slots}
 use Rattle.table.proofs.Contents.{record-near, unpacked-near, other-than-learned}
 
 module _ (s : ℕ) (r : List ℕ) where
@@ -53,25 +54,9 @@ module _ (s : ℕ) (t u : List ℕ) (i : ℕ) (so-far : u ≡ onSlots (agedSlot 
       let g : r ≡ agedSlot s (take (slotBytes * i + slotBytes - slotBytes * i) (drop (slotBytes * i) u)) = rw e at f in
       rw e (on-step (agedSlot s) (aged-keeps s) t 0 i i (omega arith) (omega arith) u so-far r g)
 
-  -- slots that stay as they are
-  kept : (j : ℕ) → i ≤ j → slotBytes * j ≤ length t → ((k : ℕ) → i ≤ k → k < j → slotAt k u ≡ agedSlot s (slotAt k u)) → u ≡ onSlots (agedSlot s) 0 j t
-  kept j h l same = let far : j - i + i ≡ j = omega arith in rw far at (go (j - i) (omega arith))
-    where
-      whole : (n m : ℕ) → take n u ++ (take m (drop n u) ++ drop m (drop n u)) ≡ u
-      whole n m = ap (λ (y : List ℕ). take n u ++ y) (take-append-drop m (drop n u)) ∙ take-append-drop n u
-
-      go : (d : ℕ) → d + i ≤ j → u ≡ onSlots (agedSlot s) 0 (d + i) t
-      go zero b = rw (zero-add i) so-far
-      go (suc d) b =
-          let k : ℕ = d + i in
-          let next : suc d + i ≡ k + 1 = omega arith in
-          let m : slotBytes * k + slotBytes - slotBytes * k ≡ slotBytes = add-sub-cancel-left (slotBytes * k) slotBytes in
-          let here : take (slotBytes * k + slotBytes - slotBytes * k) (drop (slotBytes * k) u) ≡ agedSlot s (take (slotBytes * k + slotBytes - slotBytes * k) (drop (slotBytes * k) u)) = rw m (same k (omega arith) (omega arith)) in
-          rw next (sym (whole (slotBytes * k) (slotBytes * k + slotBytes - slotBytes * k)) ∙ on-step (agedSlot s) (aged-keeps s) t 0 k k (omega arith) (omega arith) u (go d (omega arith)) _ here)
-
   -- one that is not learned, and then those of other states
   pub passed-by : (a j : ℕ) → a ≡ slotBytes * i → i < j → slotBytes * j ≤ length t → (l : Bool) → l ≡ isLearned (unpacked (drop a u)) → l ≡ false → Passed (InState learnedState) (i + 1) j u → u ≡ onSlots (agedSlot s) 0 j t
-  passed-by a j e h room l is unlearned passed = kept j (omega arith) room (λ k low high. go k low high (ℕ-discrete k i))
+  passed-by a j e h room l is unlearned passed = kept-slots (agedSlot s) (aged-keeps s) t u i so-far j (omega arith) room (λ k low high. go k low high (ℕ-discrete k i))
     where
       go : (k : ℕ) → i ≤ k → k < j → Dec (k ≡ i) → slotAt k u ≡ agedSlot s (slotAt k u)
       go k low high (yes same) =

@@ -27,12 +27,15 @@ use Rattle.table.specs.declared.Place.the-variants.{At, Nowhere}
 use Rattle.table.specs.declared.Learning.{Learning}
 use Rattle.table.specs.declared.Learning.the-variants as learning
 use Rattle.table.proofs.Slots.{lowest-within, lowest-hit}
-use Rattle.table.proofs.Contents.{record-near}
-use Rattle.table.proofs.Apart.{slot-unmarked, slot-home, slot-marked}
+use Rattle.table.proofs.Contents.{record-near, holds-near}
+use Rattle.table.proofs.Apart.{slot-unmarked, slot-home, slot-marked, cleared-keeps}
 use Rattle.table.proofs.Once.{room-once}
 use Rattle.table.proofs.Packing.{label-back}
 use Rattle.table_pairs.specs.Pairs.{pairGood}
-use Rattle.table_pairs.proofs.Laws.{holds-good}
+use Rattle.table_pairs.proofs.Laws.{other-round-key, holds-good}
+use Rattle.table_fields.specs.Keys.{roundKeyOf}
+use Rattle.table_rounds.specs.Rounds.{Keyed, Passed}
+use Rattle.table_rounds.proofs.Laws.{kept-slots}
 use Rattle.table_homes.specs.Pass.{homesTo}
 use Rattle.table_homes.specs.declared.Homes.{Homes}
 use Rattle.table_homes.proofs.Pass.{seen-once, seen-configured, seen-unmarked, seen-marked, seen-lowest}
@@ -89,6 +92,16 @@ module _ (e : Entry) (r : List ℕ) (kind label : ℕ) (is : labelFrom kind labe
     pub clear-hit : x ≡ true → y ≡ true → freed ≡ clearedPair e r
     unfolding clearedPair
     clear-hit hit one = sym (pick-true _ _ _ (holds-learned-is (e .label) (e .mac) r ∙ both-pass _ _ (same-pair ∙ hit) (sym learned ∙ one)))
+
+-- slots without the key of the pair stay as they are
+module _ (e : Entry) (t u : List ℕ) (i : ℕ) (so-far : u ≡ onSlots (clearedPair e) 0 i t) (kind label : ℕ) (small : kind ≤ 1) (is : labelFrom kind label ≡ e .label) where
+  pub clear-past : (key : ℕ) → key ≡ roundKeyOf (e .mac) → (j : ℕ) → i ≤ j → slotBytes * j ≤ length t → Passed (Keyed key) i j u → u ≡ onSlots (clearedPair e) 0 j t
+  clear-past key q j h room passed =
+      kept-slots (clearedPair e) (cleared-keeps e) t u i so-far j h room (λ k low high.
+      clear-other e (slotAt k u) kind label is false
+      (other-round-key kind label (e .mac) small (drop (slotBytes * k) u) (λ z. passed k low high (z ∙ sym q))
+      ∙ sym (holds-near (labelFrom kind label) (e .mac) (drop (slotBytes * k) u)))
+      refl)
 
 -- ---- judging
 

@@ -36,18 +36,19 @@ fn clear_slot(slot: &mut [u8], key: u64, kind: u64, label: u64, e: Entry)
     table_records::clear(slot);
 }
 
-// Frees every slot that holds a learned record of the pair.
+// Frees every slot that holds a learned record of the pair. Rounds are passed by as in the search for them.
 fn clear_slots(table: &mut [u8], key: u64, kind: u64, label: u64, e: Entry)
     requires { ⌜ Sought key kind label e ⌝ }
     ensures { λ _. ⌜ now (table .exit) ≡ onSlots (clearedPair e) 0 (slotsOf (now (table .entry))) (now (table .entry)) ⌝ }
 {
+    let round_key = table_fields::round_key_of(e.mac);
     let n = table.len() / SLOT_BYTES;
     let mut i = 0;
     while i < n {
         let a = SLOT_BYTES * i;
         let b = a + SLOT_BYTES;
         clear_slot(&mut table[a..b], key, kind, label, e);
-        i += 1;
+        i = table_rounds::next_keyed(table, i + 1, round_key);
     }
 }
 

@@ -1,16 +1,18 @@
 -- Laws of rounds over several slots.
 -- Assumes nothing.
-use Prim.Native.Nat.{ℕ, _+_, _*_, _<_}
+use Prim.Native.Nat.{ℕ, zero, suc, _+_, _-_, _*_, _<_, _≤_}
 use mathlib.Core.Bool.{Bool, true, false, not, _&&_}
-use mathlib.Core.List.{List}
-use mathlib.Core.Path.{_≡_, sym, _∙_}
+use mathlib.Core.List.{List, _++_}
+use mathlib.Core.Path.{_≡_, sym, ap, _∙_}
 use native.Mathlib.Decide.{ℕ-discrete, decLt}
+use native.Mathlib.Nat.{zero-add, add-sub-cancel-left}
 use native.Mathlib.Omega.{arith}
 use lib.Dec.{eqb}
-use lib.ListN.{drop}
+use lib.ListN.{length, take, drop, take-append-drop}
 use borrow.Author.Tests.{eqb-false, not-true, not-false}
 use Rattle.numbers.proofs.Truth.{and-both, both-true}
-use Rattle.table.specs.Slots.{slotBytes}
+use Rattle.table.specs.Slots.{slotBytes, slotAt, onSlots}
+use Rattle.table.proofs.Slots.{Keeps, on-step}
 use Rattle.table_rounds.specs.Rounds.{fourSlots, NoneOfFour, Passed}
 
 module _ (P : List ℕ → Type 0) (t : List ℕ) (from : ℕ) where
@@ -48,3 +50,21 @@ four-differ v w x y z e =
   where
     differ : (n : ℕ) → not (eqb n v) ≡ true → n ≡ v → ⊥
     differ n h = eqb-false n v (not-true _ h)
+
+-- ---- slots that a change leaves as they are are passed by
+
+module _ (f : List ℕ → List ℕ) (keeps : Keeps f) (t u : List ℕ) (i : ℕ) (so-far : u ≡ onSlots f 0 i t) where
+  pub kept-slots : (j : ℕ) → i ≤ j → slotBytes * j ≤ length t → ((k : ℕ) → i ≤ k → k < j → slotAt k u ≡ f (slotAt k u)) → u ≡ onSlots f 0 j t
+  kept-slots j h l same = let far : j - i + i ≡ j = omega arith in rw far at (go (j - i) (omega arith))
+    where
+      whole : (n m : ℕ) → take n u ++ (take m (drop n u) ++ drop m (drop n u)) ≡ u
+      whole n m = ap (λ (y : List ℕ). take n u ++ y) (take-append-drop m (drop n u)) ∙ take-append-drop n u
+
+      go : (d : ℕ) → d + i ≤ j → u ≡ onSlots f 0 (d + i) t
+      go zero b = rw (zero-add i) so-far
+      go (suc d) b =
+          let k : ℕ = d + i in
+          let next : suc d + i ≡ k + 1 = omega arith in
+          let m : slotBytes * k + slotBytes - slotBytes * k ≡ slotBytes = add-sub-cancel-left (slotBytes * k) slotBytes in
+          let here : take (slotBytes * k + slotBytes - slotBytes * k) (drop (slotBytes * k) u) ≡ f (take (slotBytes * k + slotBytes - slotBytes * k) (drop (slotBytes * k) u)) = rw m (same k (omega arith) (omega arith)) in
+          rw next (sym (whole (slotBytes * k) (slotBytes * k + slotBytes - slotBytes * k)) ∙ on-step f keeps t 0 k k (omega arith) (omega arith) u (go d (omega arith)) _ here)

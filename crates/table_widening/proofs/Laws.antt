@@ -2,25 +2,45 @@
 -- Assumes nothing.
 use Prim.Native.Nat.{ℕ, _+_, _*_, _^_, _<_, _≤_}
 use mathlib.Core.Bool.{Bool, true, false}
-use mathlib.Core.List.{List, [], _∷_, _++_, append-assoc}
+use mathlib.Core.List.{List, [], _∷_, _++_}
 use mathlib.Core.Path.{_≡_, refl, sym, ap, _∙_}
 use native.Mathlib.Numerals.{add-one}
 use native.Mathlib.Omega.{arith}
 use lib.Dec.{eqb, leb}
-use lib.ListN.{length, length-append}
+use lib.ListN.{length, take, drop, length-drop}
+use lib.Seq.{getD-drop}
 use borrow.Author.Tests.{le-leb, lt-leb}
 use Rattle.numbers.specs.Tests.{between}
 use Rattle.numbers.specs.Result.{check, settled}
 use Rattle.numbers.specs.After.{onArea}
-use Rattle.numbers.specs.Bytes.{laid, bytesOf}
+use Rattle.numbers.specs.Bytes.{AreBytes, num, laid, bytesOf}
+use Rattle.numbers.proofs.Bytes.{length-part, bytesOf-part}
 use Rattle.numbers.proofs.Truth.{both-true, between-is}
 use Rattle.table.specs.Record.{recordBytes}
 use Rattle.table.specs.Slots.{slotBytes, mostSlots}
 use Rattle.table.specs.Widening.{oldGood, oldSlots, oldAt, widenedTo, wide, widened}
 use Rattle.table.specs.declared.WidenAnswer.the-variants as widen
-use Rattle.table.proofs.Widening.{length-old, length-wide}
+use Rattle.table.proofs.Widening.{length-wide}
 use Rattle.frame_copy.specs.Areas.{pasted}
-use Rattle.frame_copy.proofs.Copying.{paste-after, paste-laid}
+use Rattle.frame_copy.proofs.Copying.{paste-next, paste-after, paste-laid, two-parts}
+use Rattle.table_widening.specs.Parts.{headBytes}
+
+-- a record in two parts, and the zero byte
+module _ (old out : List ℕ) (bytes : AreBytes old) (from at : ℕ) (room : from + recordBytes ≤ length old) (fits : at + slotBytes ≤ length out) where
+  part-back : (k n : ℕ) → k + n ≤ length old → bytesOf n (num (take n (drop k old))) ≡ take n (drop k old)
+  part-back k n h =
+      let long = length-drop k old in
+      bytesOf-part (drop k old) n (λ i. rw (getD-drop k old i 0) (bytes (k + i))) (omega arith)
+
+  pub record-pasted : (v w : ℕ) → v ≡ num (take headBytes (drop from old)) → w ≡ num (take 6 (drop (from + headBytes) old))
+      → (p q r : List ℕ) → p ≡ pasted out at (bytesOf headBytes v) → q ≡ pasted p (at + headBytes) (bytesOf 6 w) → r ≡ pasted q (at + recordBytes) (bytesOf 1 0)
+      → r ≡ pasted out at (take recordBytes (drop from old) ++ 0 ∷ [])
+  unfolding bytesOf
+  record-pasted v w ev ew p q r ep eq er =
+      let first = length-part old from headBytes (omega arith) in
+      let whole = length-part old from recordBytes (omega arith) in
+      er
+      ∙ rw (eq, ep, ev, ew, part-back from headBytes (omega arith), part-back (from + headBytes) 6 (omega arith), paste-next out (take headBytes (drop from old)) (take 6 (drop (from + headBytes) old)) at (at + headBytes) (omega arith) (omega arith), ← two-parts old from headBytes recordBytes (omega arith), paste-next out (take recordBytes (drop from old)) (0 ∷ []) at (at + recordBytes) (omega arith) (omega arith))
 
 module _ (old out : List ℕ) where
   pub none-yet : out ≡ pasted out 0 (widenedTo 0 old)
@@ -28,15 +48,12 @@ module _ (old out : List ℕ) where
   none-yet = refl
 
   -- one record more
-  pub one-more : (i : ℕ) → recordBytes * i + recordBytes ≤ length old → (o x p q : List ℕ) → o ≡ pasted out 0 (widenedTo i old)
-      → x ≡ oldAt i old → p ≡ pasted o (slotBytes * i) x → q ≡ pasted p (slotBytes * i + recordBytes) (bytesOf 1 0) → q ≡ pasted out 0 (widenedTo (i + 1) old)
-  unfolding widenedTo bytesOf
-  one-more i room o x p q so-far is first second =
+  pub one-more : (i : ℕ) → recordBytes * i + recordBytes ≤ length old → (o q : List ℕ) → o ≡ pasted out 0 (widenedTo i old)
+      → q ≡ pasted o (slotBytes * i) (oldAt i old ++ 0 ∷ []) → q ≡ pasted out 0 (widenedTo (i + 1) old)
+  unfolding widenedTo
+  one-more i room o q so-far next =
       let front = length-wide old i (omega arith) in
-      let one = length-old old i room in
-      let both : length (widenedTo i old ++ oldAt i old) ≡ slotBytes * i + recordBytes = simp length-append (omega arith) in
-      second
-      ∙ rw (first, so-far, is, paste-after out (widenedTo i old) (oldAt i old) (slotBytes * i) front, paste-after out (widenedTo i old ++ oldAt i old) (0 ∷ []) (slotBytes * i + recordBytes) both, append-assoc (widenedTo i old) (oldAt i old) (0 ∷ []), add-one i)
+      next ∙ rw (so-far, paste-after out (widenedTo i old) (oldAt i old ++ 0 ∷ []) (slotBytes * i) front, add-one i)
 
   pub all-done : (i : ℕ) → i ≡ oldSlots old → (o : List ℕ) → o ≡ pasted out 0 (widenedTo i old) → o ≡ laid (wide old) out
   unfolding wide

@@ -1,8 +1,7 @@
 -- `table_widening::widen_slots` meets its contract. The invariant: the first `i` records are laid at the area's start.
 -- Assumes nothing.
 use Prim.Native.Nat.{ℕ, _≤_, _-_, _+_, _*_, _/_}
-use mathlib.Core.List.{List}
-use mathlib.Core.Path.{_≡_, refl, ap, _∙_}
+use mathlib.Core.Path.{_≡_, refl}
 use native.Mathlib.Omega.{arith}
 use lib.ListN.{length}
 use Rattle.table.specs.Record.{recordBytes}
@@ -24,9 +23,10 @@ loop-holds c = (search needs, (refl, none-yet _ _))
 
 loop-again : tie.Need-loop-again Inv-loop μ-loop
 loop-again c =
-    let a = c .before .before .before .before .before .before .before .before .before .before .before .before .before .args in
-    let at = c .before .before .before .before .before .before .before .before .before .before .loop in
-    (search needs, (search needs, one-more (a .old .now) (a .out .now) (at .i) (omega arith) (at .out) _ _ _ (at .inv .1 .1) (c .before .before .before .before .before .before .before .before .part .ensures .0) (c .before .before .before .before .before .before .copy-at .ensures) (c .before .before .put-number .ensures)))
+    let widen = c .before .before in
+    let at = widen .before .before .before .loop in
+    let a = widen .before .before .before .before .before .before .args in
+    (search needs, (search needs, one-more (a .old .now) (a .out .now) (at .i) (omega arith) (at .out) _ (at .inv .1 .1) (widen .widen-record .ensures)))
 
 returns : tie.Need-returns Inv-loop μ-loop
 returns c =
@@ -43,9 +43,6 @@ widen-slots-spec =
     μ-loop
     loop-holds
     (λ c. search needs)
-    (λ c. search needs)
-    (λ c κs. search needs)
-    (λ c κs. search needs)
     (λ c. search needs)
     (λ c κs. search needs)
     (λ c. search needs)
