@@ -1,8 +1,8 @@
 // What the TLVs of a message name, found among the numbers of records: these are sorted once, and each block, number and bit map of the
 // message finds its place in them.
 ghost use mathlib.Core.Path.{_≡_};
-ghost use mathlib.Core.Bool.{Bool};
-ghost use Prim.Native.Nat.{ℕ, suc, _*_, _^_, _≤_, _<_};
+ghost use mathlib.Core.Bool.{true, false};
+ghost use Prim.Native.Nat.{suc, _+_, _*_, _^_, _≤_, _<_};
 ghost use lib.Dec.{leb};
 ghost use lib.ListN.{length, take};
 ghost use Rattle.numbers.specs.Tests.{pick, both};
@@ -84,17 +84,41 @@ fn hit_range(s: u64, e: u64, near: &[u8], keys: &[u64], hits: &mut [u8])
     flush_bits::add_range(hits, lo, hi);
 }
 
-// Sets the bits of the keys whose number lies in a part of a value.
-fn hit_parts(v: &[u8], block: bool, w: Numbering, near: &[u8], keys: &[u64], hits: &mut [u8])
-    requires { ⌜ Narrow w × Searched (now near) (now keys) (now hits) ⌝ }
-    ensures { λ _. ⌜ Hits (partsHit block w (now (v .entry))) (now (keys .entry)) (now (hits .entry)) (now (hits .exit)) ⌝ }
+// Sets the bits of the keys with this number.
+fn hit_single(x: u64, near: &[u8], keys: &[u64], hits: &mut [u8])
+    requires { ⌜ Searched (now near) (now keys) (now hits) × (x < 2 ^ 48) ⌝ }
+    ensures { λ _. ⌜ Hits (λ y. both (leb x y) (leb (suc y) (x + 1))) (now (keys .entry)) (now (hits .entry)) (now (hits .exit)) ⌝ }
 {
-    let k = flush_parts::span_for(block, w);
+    if flush_buckets::has_alone(near, x) {
+        hit_range(x, x + 1, near, keys, hits);
+    }
+}
+
+// Sets the bits of the keys whose number lies in a block of a value.
+fn hit_blocks(v: &[u8], w: Numbering, near: &[u8], keys: &[u64], hits: &mut [u8])
+    requires { ⌜ Narrow w × Searched (now near) (now keys) (now hits) ⌝ }
+    ensures { λ _. ⌜ Hits (partsHit true w (now (v .entry))) (now (keys .entry)) (now (hits .entry)) (now (hits .exit)) ⌝ }
+{
+    let k = flush_parts::span_for(true, w);
     let mut at = 0;
     while k <= v.len() - at {
-        let s = flush_parts::low_at(v, at, block, w);
-        let e = flush_parts::past_at(v, at, block, w);
+        let s = flush_parts::low_at(v, at, true, w);
+        let e = flush_parts::past_at(v, at, true, w);
         hit_range(s, e, near, keys, hits);
+        at += k;
+    }
+}
+
+// Sets the bits of the keys whose number is in a list.
+fn hit_singles(v: &[u8], w: Numbering, near: &[u8], keys: &[u64], hits: &mut [u8])
+    requires { ⌜ Narrow w × Searched (now near) (now keys) (now hits) ⌝ }
+    ensures { λ _. ⌜ Hits (partsHit false w (now (v .entry))) (now (keys .entry)) (now (hits .entry)) (now (hits .exit)) ⌝ }
+{
+    let k = flush_parts::span_for(false, w);
+    let mut at = 0;
+    while k <= v.len() - at {
+        let x = flush_parts::low_at(v, at, false, w);
+        hit_single(x, near, keys, hits);
         at += k;
     }
 }
@@ -141,11 +165,11 @@ fn hit_value(k: u8, v: &[u8], naming: Naming, near: &[u8], keys: &[u64], hits: &
 {
     let w = naming.numbering;
     if k == naming.blocks {
-        hit_parts(v, true, w, near, keys, hits);
+        hit_blocks(v, w, near, keys, hits);
         return;
     }
     if k == naming.singles {
-        hit_parts(v, false, w, near, keys, hits);
+        hit_singles(v, w, near, keys, hits);
         return;
     }
     if naming.mapped & (k == naming.maps) {
