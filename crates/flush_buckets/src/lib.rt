@@ -12,6 +12,9 @@ ghost use Rattle.flush_buckets.specs.Buckets.{bucketBytes, bucketOf, alo
 // The bits, and a byte after them that is not used.
 pub const BUCKET_BYTES: usize = 8193;
 
+// A key is a number times the slots that it has room for, and a slot.
+pub const KEY_SLOTS: u64 = 4096;
+
 // The numbers of a bucket, and how many buckets there are.
 const BUCKET: u64 = 256;
 

@@ -21,10 +21,10 @@ use Rattle.flush.proofs.Lists.{false-true}
 use Rattle.flush_bits.specs.Ranged.{Ranged}
 use Rattle.flush_bits.proofs.Laws.{either-all}
 use Rattle.flush_sort.specs.Sorting.{All, Sorted}
-use Rattle.flush_sort.proofs.Laws.{either-none}
+use Rattle.flush_sort.proofs.Laws.{all-at, either-none}
 use Rattle.flush_buckets.specs.Buckets.{bucketOf, aloneOf, Nears}
 use Rattle.flush_intervals.specs.Hits.{Splits, Searched, Hits, HitsTo, GroupHit}
-use Rattle.flush_intervals.proofs.Ranges.{all-map, all-at, sorted-below, sorted-above}
+use Rattle.flush_intervals.proofs.Ranges.{all-map, sorted-below, sorted-above}
 
 -- ---- where a list is split
 

@@ -13,6 +13,7 @@ ghost use Rattle.flush_members.specs.Sound.{Sound};
 ghost use Rattle.flush_parts.specs.Parts.{Narrow, partsHit};
 ghost use Rattle.flush_parts.specs.Named.{namedIn, namedOf};
 ghost use Rattle.flush_intervals.specs.Hits.{Splits, Searched, Hits, GroupHit};
+use flush_buckets::KEY_SLOTS;
 use flush_parts::Naming;
 use numbers::Numbering;
 
@@ -24,7 +25,7 @@ fn step(v: u64, z: u64, h: usize) -> usize
     requires { ⌜ z < 2 ^ 52 ⌝ }
     ensures { λ r. ⌜ (r ≡ pick (leb (suc v) (z * 4096)) h 0) × (r ≤ h) ⌝ }
 {
-    let above = (v / 4096 + 0x1000_0000_0000_0000 - z) / 0x1000_0000_0000_0000;
+    let above = (v / KEY_SLOTS + 0x1000_0000_0000_0000 - z) / 0x1000_0000_0000_0000;
     h * (1 - above as usize)
 }
 
@@ -54,7 +55,7 @@ fn count_from(keys: &[u64], lo: usize, e: u64) -> usize
     if lo == keys.len() {
         return lo;
     }
-    let y = e * 4096;
+    let y = e * KEY_SLOTS;
     if y <= keys[lo] {
         return lo;
     }
@@ -148,7 +149,7 @@ fn hit_map(v: &[u8], w: Numbering, near: &[u8], keys: &[u64], hits: &mut [u8])
     }
     let mut i = count_below(keys, s);
     while i < keys.len() {
-        let x = keys[i] / 4096;
+        let x = keys[i] / KEY_SLOTS;
         if e <= x {
             return;
         }

@@ -8,6 +8,7 @@ ghost use Rattle.table.specs.Slots.{slotAt};
 ghost use Rattle.flush_buckets.specs.Buckets.{bucketBytes, Nears};
 ghost use Rattle.flush_marks.specs.Marks.{markBytes};
 ghost use Rattle.flush_keys.specs.Keys.{numberIn, appliesTo, InTable, Hit, Marked, Joined, KeysOf};
+use flush_buckets::KEY_SLOTS;
 use table::SLOT_BYTES;
 
 // What a filter tests.
@@ -15,9 +16,6 @@ pub enum Field {
     Fine,
     Mac,
 }
-
-// The number of slots that a key has room for.
-pub const KEY_SLOTS: u64 = 4096;
 
 // The number in the slot at an offset.
 fn number_at(t: &[u8], at: usize, field: Field) -> u64
