@@ -1,24 +1,19 @@
--- Laws of filter bits: what a range of bits adds, and a loop in which what was added and what is left hold every number.
+-- Laws of filter bits: what a range of bits adds, and what a bit that is not set says.
 -- Assumes nothing.
 use Prim.Native.Nat.{ℕ, suc, _+_, _-_, _/_, _%_, _≤_, _<_}
 use mathlib.Core.Bool.{Bool, true, false, _||_}
 use mathlib.Core.List.{List}
 use mathlib.Core.Path.{_≡_, refl, sym, ap, _∙_}
 use native.Mathlib.Decide.{decLt}
-use native.Mathlib.Numerals.{add-one}
 use native.Mathlib.Omega.{arith}
-use lib.ListN.{length, drop, getD, drop-of-length-le}
-use lib.Seq.{drop-cons}
 use lib.Dec.{leb}
 use borrow.Author.Tests.{leb-true}
-use Rattle.numbers.specs.Tests.{both, either, anyOf}
+use Rattle.numbers.specs.Tests.{both}
 use Rattle.numbers.proofs.Truth.{both-true}
 use Rattle.flush.proofs.Lists.{false-true}
 use Rattle.numbers.specs.Numberings.{bitAt}
 use Rattle.flush_bits.specs.Ranged.{Ranged}
-use Rattle.flush_bits.proofs.Laws.{either-all}
-use Rattle.flush_sort.proofs.Laws.{either-none}
-use Rattle.flush_buckets.specs.Buckets.{bucketBytes, bucketOf, Keeps, Added, HasBits, Names}
+use Rattle.flush_buckets.specs.Buckets.{bucketOf, aloneOf, Keeps, Added, Names}
 
 -- ---- a range of bits
 
@@ -59,10 +54,8 @@ adds-range s e t u i j some few ei ej h r = (
 pub adds-one : (s e : ℕ) (t u : List ℕ) (i j : ℕ) → s < e → e - 1 < 16384 + s → i ≡ bucketOf s → j ≡ bucketOf (e - 1) → i ≡ j → Ranged t u i (i + 1) → Keeps t u × (true ≡ true → Added s e u)
 adds-one s e t u i j some few ei ej same r = adds-range s e t u i j some few ei ej (omega arith) (rw (← same) r)
 
-pub adds-bucket : (h : ℕ) (t u : List ℕ) → Ranged t u (h % 65536) (h % 65536 + 1) → Keeps t u × ((x : ℕ) → h ≡ x / 256 → bitAt (bucketOf x) u ≡ true)
-unfolding bucketOf
-adds-bucket h t u r =
-    (keeps-range t u _ _ r, λ x e. r .inside (x / 256 % 65536) (omega arith) (omega arith))
+pub adds-bit : (h : ℕ) (t u : List ℕ) → Ranged t u (h % 65536) (h % 65536 + 1) → Keeps t u × (bitAt (h % 65536) u ≡ true)
+adds-bit h t u r = (keeps-range t u _ _ r, r .inside (h % 65536) (omega arith) (omega arith))
 
 pub adds-all : (t u : List ℕ) → Ranged t u 0 65536 → Keeps t u × ((s e : ℕ) → Added s e u)
 unfolding bucketOf
@@ -71,65 +64,14 @@ adds-all t u r = (keeps-range t u 0 65536 r, λ s e x a b. r .inside (x / 256 % 
 pub keeps-twice : (s t u : List ℕ) → Keeps s t → Keeps t u → Keeps s u
 keeps-twice s t u a b = record { long = b .long ∙ a .long; kept = λ y h. b .kept y (a .kept y h) }
 
--- ---- a list of numbers
-
--- a loop over a list of which the test t says which numbers each element has
-pub record Adding (t : ℕ → ℕ → Bool) (keys s₀ s : List ℕ) (i : ℕ) : Type 0 where
-  pub place : i ≤ length keys
-  pub keeps : Keeps s₀ s
-  pub each : (x : ℕ) → anyOf (t x) keys ≡ true → either (bitAt (bucketOf x) s) (anyOf (t x) (drop i keys)) ≡ true
-
-module _ (t : ℕ → ℕ → Bool) (keys s₀ : List ℕ) where
-  pub adding-start : Adding t keys s₀ s₀ 0
-  adding-start = record { place = omega arith; keeps = keeps-none s₀; each = λ x h. rw h (either-all (bitAt (bucketOf x) s₀)) }
-
-  module _ (s : List ℕ) (i : ℕ) (m : Adding t keys s₀ s i) where
-    pub adding-done : length keys ≤ i → length s₀ ≡ bucketBytes → Keeps s₀ s × HasBits (λ x. anyOf (t x) keys) s
-    unfolding anyOf
-    adding-done h long = (
-      m .keeps,
-      record {
-        long = m .keeps .long ∙ long;
-        each = λ x q. sym (either-none (bitAt (bucketOf x) s)) ∙ (rw (drop-of-length-le keys h) at (m .each x q));
-      },
-    )
-
-    pub adding-all : length s₀ ≡ bucketBytes → (r u : List ℕ) → Keeps s r → Keeps r u × ((a b : ℕ) → Added a b u) → Keeps s₀ u × HasBits (λ x. anyOf (t x) keys) u
-    adding-all long r u k g = (
-      keeps-twice s₀ r u (keeps-twice s₀ s r (m .keeps) k) (g .0),
-      record {
-        long = g .0 .long ∙ k .long ∙ m .keeps .long ∙ long;
-        each = λ x q. g .1 x (suc x) x (omega arith) (omega arith);
-      },
-    )
-
-    pub adding-next : i < length keys → (u : List ℕ) → Keeps s u → ((x : ℕ) → t x (getD keys i 0) ≡ true → bitAt (bucketOf x) u ≡ true) → Adding t keys s₀ u (i + 1)
-    unfolding anyOf either
-    adding-next more u k mark = record {
-      place = omega arith;
-      keeps = keeps-twice s₀ s u (m .keeps) k;
-      each = λ x q. go x (rw (drop-cons keys i 0 more) at (m .each x q)) (bitAt (bucketOf x) s) refl (t x (getD keys i 0)) refl;
-    }
-      where
-        go : (x : ℕ) → either (bitAt (bucketOf x) s) (either (t x (getD keys i 0)) (anyOf (t x) (drop (suc i) keys))) ≡ true
-            → (a : Bool) → bitAt (bucketOf x) s ≡ a → (b : Bool) → t x (getD keys i 0) ≡ b
-            → either (bitAt (bucketOf x) u) (anyOf (t x) (drop (i + 1) keys)) ≡ true
-        go x h true ea b eb = rw (k .kept (bucketOf x) ea)
-        go x h false ea true eb = rw (mark x eb)
-        go x h false ea false eb = rw (add-one i, rw (ea, eb) at h) (either-all (bitAt (bucketOf x) u))
-
 -- ---- the test
 
 pub bit-tested : (x k : ℕ) (t : List ℕ) (b : Bool) → k ≡ bucketOf x → b ≡ bitAt k t → b ≡ bitAt (bucketOf x) t
 bit-tested x k t b e q = q ∙ ap (λ (n : ℕ). bitAt n t) e
 
--- a number whose bit is not set does not pass
-pub no-bit : (q : ℕ → Bool) (t : List ℕ) → HasBits q t → (x : ℕ) → bitAt (bucketOf x) t ≡ false → q x ≡ false
-no-bit q t s x h = go (q x) refl
-  where
-    go : (b : Bool) → q x ≡ b → b ≡ false
-    go true e = sym (s .each x e) ∙ h
-    go false e = refl
+pub alone-tested : (x : ℕ) (t : List ℕ) (b : Bool) → b ≡ bitAt (x % 65536) t → b ≡ bitAt (aloneOf x) t
+unfolding aloneOf
+alone-tested x t b q = q
 
 -- a short range lies in the buckets of its first and its last number
 pub not-met : (s e : ℕ) (t : List ℕ) → s < e → e - 1 - s < 256 → (a b : Bool) → a ≡ bitAt (bucketOf s) t → b ≡ bitAt (bucketOf (e - 1)) t → (a || b) ≡ false → (x : ℕ) → s ≤ x → x < e → bitAt (bucketOf x) t ≡ false
@@ -160,3 +102,20 @@ names-all q s e t m u r g h = record {
   each = λ x p. h .1 x (suc x) x (omega arith) (omega arith);
   all = λ p x. h .1 x (suc x) x (omega arith) (omega arith);
 }
+
+-- ---- one number
+
+pub names-single : (x : ℕ) (t u : List ℕ) → Keeps t u × (bitAt (x / 256 % 65536) u ≡ true) → Names (λ y. both (leb x y) (leb (suc y) (x + 1))) t u false
+unfolding bucketOf
+names-single x t u g = record { keeps = g .0; each = λ y q. go y (both-true (leb x y) (leb (suc y) (x + 1)) q); all = λ q. false-true q }
+  where
+    go : (y : ℕ) → (leb x y ≡ true) × (leb (suc y) (x + 1) ≡ true) → bitAt (y / 256 % 65536) u ≡ true
+    go y p =
+        let a = leb-true x y (p .0) in
+        let b = leb-true (suc y) (x + 1) (p .1) in
+        let same : y ≡ x = omega arith in
+        rw same (g .1)
+
+pub both-bits : (x : ℕ) (t u v : List ℕ) → Keeps t u × (bitAt (x / 256 % 65536) u ≡ true) → Keeps u v × (bitAt (x % 65536) v ≡ true) → Keeps t v × ((bitAt (bucketOf x) v ≡ true) × (bitAt (aloneOf x) v ≡ true))
+unfolding bucketOf aloneOf
+both-bits x t u v g h = (keeps-twice t u v (g .0) (h .0), (h .0 .kept _ (g .1), h .1))

@@ -15,6 +15,10 @@ bucketBytes = 8193
 unfoldable pub bucketOf : ℕ → ℕ
 bucketOf x = x / 256 % 65536
 
+-- the bit of a number alone: another than that of its bucket, so that numbers that share one are mostly set apart
+unfoldable pub aloneOf : ℕ → ℕ
+aloneOf x = x % 65536
+
 -- the bits s have become t, and none is lost
 pub record Keeps (s t : List ℕ) : Type 0 where
   pub long : length t ≡ length s
@@ -37,7 +41,8 @@ pub record Names (q : ℕ → Bool) (s t : List ℕ) (full : Bool) : Type 0 wher
 
 -- ---- keys: a number, times 4096, and a slot
 
--- the bits of the numbers of keys are set
+-- the bits of the numbers of keys are set, of each that of its bucket and its own
 pub record Nears (keys bits : List ℕ) : Type 0 where
   pub long : length bits ≡ bucketBytes
   pub each : (i : ℕ) → i < length keys → bitAt (bucketOf (getD keys i 0 / 4096)) bits ≡ true
+  pub alone : (i : ℕ) → i < length keys → bitAt (aloneOf (getD keys i 0 / 4096)) bits ≡ true

@@ -1,16 +1,19 @@
 // Filter bits: a bit for each bucket of 256 numbers, counted round. A number whose bit is not set is none of those that were added; most
 // numbers that are tested end there.
-ghost use Prim.Native.Nat.{ℕ, suc, _/_, _^_, _≤_, _<_};
+ghost use Prim.Native.Nat.{ℕ, suc, _+_, _%_, _^_, _≤_, _<_};
 ghost use mathlib.Core.Bool.{true, false};
 ghost use mathlib.Core.Path.{_≡_};
 ghost use lib.Dec.{leb};
 ghost use lib.ListN.{length};
 ghost use Rattle.numbers.specs.Tests.{both};
 ghost use Rattle.numbers.specs.Numberings.{bitAt};
-ghost use Rattle.flush_buckets.specs.Buckets.{bucketBytes, bucketOf, Keeps, Added, Names};
+ghost use Rattle.flush_buckets.specs.Buckets.{bucketBytes, bucketOf, aloneOf, Keeps, Added, Names};
 
 // The bits, and a byte after them that is not used.
 pub const BUCKET_BYTES: usize = 8193;
+
+// A key is a number times the slots that it has room for, and a slot.
+pub const KEY_SLOTS: u64 = 4096;
 
 // The numbers of a bucket, and how many buckets there are.
 const BUCKET: u64 = 256;
@@ -35,6 +38,14 @@ pub fn has_bit(bits: &[u8], x: u64) -> bool
     flush_bits::has(bits, bucket_of(x))
 }
 
+// Whether a number's own bit is set.
+pub fn has_alone(bits: &[u8], x: u64) -> bool
+    requires { ⌜ length (now bits) ≡ bucketBytes ⌝ }
+    ensures { λ r. ⌜ r ≡ bitAt (aloneOf x) (now (bits .entry)) ⌝ }
+{
+    flush_bits::has(bits, x % BUCKETS)
+}
+
 // Whether the bit of a number from s to before e may be set. Of a short range the first and the last decide.
 pub fn may_meet(bits: &[u8], s: u64, e: u64) -> bool
     requires { ⌜ length (now bits) ≡ bucketBytes ⌝ }
@@ -50,12 +61,29 @@ pub fn may_meet(bits: &[u8], s: u64, e: u64) -> bool
     has_bit(bits, s) | has_bit(bits, last)
 }
 
-// Adds the bucket h of numbers, counted without end.
-pub fn add_bucket(h: u64, bits: &mut [u8])
+// Adds bit h, counted round.
+fn add_bit(h: u64, bits: &mut [u8])
     requires { ⌜ length (now bits) ≡ bucketBytes ⌝ }
-    ensures { λ _. ⌜ Keeps (now (bits .entry)) (now (bits .exit)) × ((x : ℕ) → h ≡ x / 256 → bitAt (bucketOf x) (now (bits .exit)) ≡ true) ⌝ }
+    ensures { λ _. ⌜ Keeps (now (bits .entry)) (now (bits .exit)) × (bitAt (h % 2 ^ 16) (now (bits .exit)) ≡ true) ⌝ }
 {
     flush_bits::add_one(bits, (h % BUCKETS) as usize);
+}
+
+// Adds a number: the bit of its bucket.
+pub fn add_single(x: u64, bits: &mut [u8])
+    requires { ⌜ length (now bits) ≡ bucketBytes ⌝ }
+    ensures { λ _. ⌜ Names (λ y. both (leb x y) (leb (suc y) (x + 1))) (now (bits .entry)) (now (bits .exit)) false ⌝ }
+{
+    add_bit(x / BUCKET, bits);
+}
+
+// Adds a number: the bit of its bucket, and its own.
+pub fn add_twice(x: u64, bits: &mut [u8])
+    requires { ⌜ length (now bits) ≡ bucketBytes ⌝ }
+    ensures { λ _. ⌜ Keeps (now (bits .entry)) (now (bits .exit)) × ((bitAt (bucketOf x) (now (bits .exit)) ≡ true) × (bitAt (aloneOf x) (now (bits .exit)) ≡ true)) ⌝ }
+{
+    add_bit(x / BUCKET, bits);
+    add_bit(x, bits);
 }
 
 // Adds the numbers from s to before e. Where they are many it answers false and adds nothing.

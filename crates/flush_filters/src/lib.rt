@@ -21,6 +21,7 @@ use flush_intervals::HIT_BYTES;
 use flush_keys::Field;
 use flush_marks::Room;
 use flush_parts::Naming;
+use table::MOST_SLOTS;
 use table::SLOT_BYTES;
 
 // Up to so many marks find room in the smaller areas, which are cheaper to make.
@@ -133,8 +134,8 @@ fn keep_many(table: &[u8], rest: &[u8], field: Field, marks: &mut [u8])
     requires { ⌜ Filtering (now table) (now marks) ⌝ }
     ensures { λ _. ⌜ Filtered (slotPasses field (tlvs (now (rest .entry)))) (now (table .entry)) (now (marks .entry)) (now (marks .exit)) ⌝ }
 {
-    let mut slots = [0u64; 4096];
-    let mut keys = [0u64; 4096];
+    let mut slots = [0u64; MOST_SLOTS];
+    let mut keys = [0u64; MOST_SLOTS];
     keep_in(table, rest, field, &mut slots, &mut keys, marks);
 }
 

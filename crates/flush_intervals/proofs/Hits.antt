@@ -21,10 +21,10 @@ use Rattle.flush.proofs.Lists.{false-true}
 use Rattle.flush_bits.specs.Ranged.{Ranged}
 use Rattle.flush_bits.proofs.Laws.{either-all}
 use Rattle.flush_sort.specs.Sorting.{All, Sorted}
-use Rattle.flush_sort.proofs.Laws.{either-none}
-use Rattle.flush_buckets.specs.Buckets.{bucketOf, Nears}
+use Rattle.flush_sort.proofs.Laws.{all-at, either-none}
+use Rattle.flush_buckets.specs.Buckets.{bucketOf, aloneOf, Nears}
 use Rattle.flush_intervals.specs.Hits.{Splits, Searched, Hits, HitsTo, GroupHit}
-use Rattle.flush_intervals.proofs.Ranges.{all-map, all-at, sorted-below, sorted-above}
+use Rattle.flush_intervals.proofs.Ranges.{all-map, sorted-below, sorted-above}
 
 -- ---- where a list is split
 
@@ -143,6 +143,14 @@ range-high s e x h = go (decLt x e)
 pub range-far : (s e : ℕ) (near keys h : List ℕ) → Searched near keys h → (b : Bool) → (b ≡ false → (x : ℕ) → s ≤ x → x < e → bitAt (bucketOf x) near ≡ false) → b ≡ false
     → Hits (λ x. both (leb s x) (leb (suc x) e)) keys h h
 range-far s e near keys h g b none off = far-hits _ s e (range-low s e) (range-high s e) near keys h (g .nears) b none off
+
+-- a number whose own bit no key has set
+pub single-far : (x : ℕ) (near keys h : List ℕ) → Searched near keys h → (b : Bool) → b ≡ bitAt (aloneOf x) near → b ≡ false → Hits (λ y. both (leb x y) (leb (suc y) (x + 1))) keys h h
+single-far x near keys h g b is off = hits-none _ keys h (λ i k. not-true-false _ (λ t.
+    let low = range-low x (x + 1) (getD keys i 0 / 4096) t in
+    let high = range-high x (x + 1) (getD keys i 0 / 4096) t in
+    let same : getD keys i 0 / 4096 ≡ x = omega arith in
+    false-true (sym (sym is ∙ off) ∙ (rw same at (g .nears .alone i k)))))
 
 module _ (s e : ℕ) (keys : List ℕ) (lo : ℕ) (a : Splits keys (s * 4096) lo) where
   pub front-below : s < e → All (λ v. v < e * 4096) (take lo keys)

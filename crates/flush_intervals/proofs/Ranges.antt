@@ -14,19 +14,13 @@ use lib.ListN.{length, take, drop, getD, set, take-append-drop, length-set, drop
 use lib.Seq.{drop-drop, drop-cons, take-suc-set, append-snoc, take-all}
 use Rattle.numbers.specs.Tests.{pick, both, either, anyOf}
 use Rattle.flush_sort.specs.Sorting.{All, Sorted}
-use Rattle.flush_sort.proofs.Laws.{any-append, either-none, either-assoc}
+use Rattle.flush_sort.proofs.Laws.{all-at, any-append, either-none, either-assoc}
 use Rattle.flush_intervals.specs.Hits.{Splits}
 
 pub all-map : (P Q : ℕ → Type 0) (l : List ℕ) → ((v : ℕ) → P v → Q v) → All P l → All Q l
 unfolding All
 all-map P Q [] f a = tt
 all-map P Q (v ∷ l) f a = (f v (a .0), all-map P Q l f (a .1))
-
-pub all-at : (P : ℕ → Type 0) (l : List ℕ) (m : ℕ) → All P l → m < length l → P (getD l m 0)
-unfolding All
-all-at P [] m a h = absurd (omega arith)
-all-at P (v ∷ l) zero a h = a .0
-all-at P (v ∷ l) (suc m) a h = all-at P l m (a .1) (omega arith)
 
 -- in a sorted list one element settles all on its one side
 pub sorted-below : (l : List ℕ) (m y : ℕ) → Sorted l → m < length l → getD l m 0 < y → All (λ v. v < y) (take (suc m) l)

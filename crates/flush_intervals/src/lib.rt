@@ -1,8 +1,8 @@
 // What the TLVs of a message name, found among the numbers of records: these are sorted once, and each block, number and bit map of the
 // message finds its place in them.
 ghost use mathlib.Core.Path.{_≡_};
-ghost use mathlib.Core.Bool.{Bool};
-ghost use Prim.Native.Nat.{ℕ, suc, _*_, _^_, _≤_, _<_};
+ghost use mathlib.Core.Bool.{true, false};
+ghost use Prim.Native.Nat.{suc, _+_, _*_, _^_, _≤_, _<_};
 ghost use lib.Dec.{leb};
 ghost use lib.ListN.{length, take};
 ghost use Rattle.numbers.specs.Tests.{pick, both};
@@ -13,6 +13,7 @@ ghost use Rattle.flush_members.specs.Sound.{Sound};
 ghost use Rattle.flush_parts.specs.Parts.{Narrow, partsHit};
 ghost use Rattle.flush_parts.specs.Named.{namedIn, namedOf};
 ghost use Rattle.flush_intervals.specs.Hits.{Splits, Searched, Hits, GroupHit};
+use flush_buckets::KEY_SLOTS;
 use flush_parts::Naming;
 use numbers::Numbering;
 
@@ -24,7 +25,7 @@ fn step(v: u64, z: u64, h: usize) -> usize
     requires { ⌜ z < 2 ^ 52 ⌝ }
     ensures { λ r. ⌜ (r ≡ pick (leb (suc v) (z * 4096)) h 0) × (r ≤ h) ⌝ }
 {
-    let above = (v / 4096 + 0x1000_0000_0000_0000 - z) / 0x1000_0000_0000_0000;
+    let above = (v / KEY_SLOTS + 0x1000_0000_0000_0000 - z) / 0x1000_0000_0000_0000;
     h * (1 - above as usize)
 }
 
@@ -54,7 +55,7 @@ fn count_from(keys: &[u64], lo: usize, e: u64) -> usize
     if lo == keys.len() {
         return lo;
     }
-    let y = e * 4096;
+    let y = e * KEY_SLOTS;
     if y <= keys[lo] {
         return lo;
     }
@@ -84,17 +85,41 @@ fn hit_range(s: u64, e: u64, near: &[u8], keys: &[u64], hits: &mut [u8])
     flush_bits::add_range(hits, lo, hi);
 }
 
-// Sets the bits of the keys whose number lies in a part of a value.
-fn hit_parts(v: &[u8], block: bool, w: Numbering, near: &[u8], keys: &[u64], hits: &mut [u8])
-    requires { ⌜ Narrow w × Searched (now near) (now keys) (now hits) ⌝ }
-    ensures { λ _. ⌜ Hits (partsHit block w (now (v .entry))) (now (keys .entry)) (now (hits .entry)) (now (hits .exit)) ⌝ }
+// Sets the bits of the keys with this number.
+fn hit_single(x: u64, near: &[u8], keys: &[u64], hits: &mut [u8])
+    requires { ⌜ Searched (now near) (now keys) (now hits) × (x < 2 ^ 48) ⌝ }
+    ensures { λ _. ⌜ Hits (λ y. both (leb x y) (leb (suc y) (x + 1))) (now (keys .entry)) (now (hits .entry)) (now (hits .exit)) ⌝ }
 {
-    let k = flush_parts::span_for(block, w);
+    if flush_buckets::has_alone(near, x) {
+        hit_range(x, x + 1, near, keys, hits);
+    }
+}
+
+// Sets the bits of the keys whose number lies in a block of a value.
+fn hit_blocks(v: &[u8], w: Numbering, near: &[u8], keys: &[u64], hits: &mut [u8])
+    requires { ⌜ Narrow w × Searched (now near) (now keys) (now hits) ⌝ }
+    ensures { λ _. ⌜ Hits (partsHit true w (now (v .entry))) (now (keys .entry)) (now (hits .entry)) (now (hits .exit)) ⌝ }
+{
+    let k = flush_parts::span_for(true, w);
     let mut at = 0;
     while k <= v.len() - at {
-        let s = flush_parts::low_at(v, at, block, w);
-        let e = flush_parts::past_at(v, at, block, w);
+        let s = flush_parts::low_at(v, at, true, w);
+        let e = flush_parts::past_at(v, at, true, w);
         hit_range(s, e, near, keys, hits);
+        at += k;
+    }
+}
+
+// Sets the bits of the keys whose number is in a list.
+fn hit_singles(v: &[u8], w: Numbering, near: &[u8], keys: &[u64], hits: &mut [u8])
+    requires { ⌜ Narrow w × Searched (now near) (now keys) (now hits) ⌝ }
+    ensures { λ _. ⌜ Hits (partsHit false w (now (v .entry))) (now (keys .entry)) (now (hits .entry)) (now (hits .exit)) ⌝ }
+{
+    let k = flush_parts::span_for(false, w);
+    let mut at = 0;
+    while k <= v.len() - at {
+        let x = flush_parts::low_at(v, at, false, w);
+        hit_single(x, near, keys, hits);
         at += k;
     }
 }
@@ -124,7 +149,7 @@ fn hit_map(v: &[u8], w: Numbering, near: &[u8], keys: &[u64], hits: &mut [u8])
     }
     let mut i = count_below(keys, s);
     while i < keys.len() {
-        let x = keys[i] / 4096;
+        let x = keys[i] / KEY_SLOTS;
         if e <= x {
             return;
         }
@@ -141,11 +166,11 @@ fn hit_value(k: u8, v: &[u8], naming: Naming, near: &[u8], keys: &[u64], hits: &
 {
     let w = naming.numbering;
     if k == naming.blocks {
-        hit_parts(v, true, w, near, keys, hits);
+        hit_blocks(v, w, near, keys, hits);
         return;
     }
     if k == naming.singles {
-        hit_parts(v, false, w, near, keys, hits);
+        hit_singles(v, w, near, keys, hits);
         return;
     }
     if naming.mapped & (k == naming.maps) {

@@ -1,8 +1,8 @@
 -- Laws of the number that a filter tests: by the field, and that a slot's own bytes are enough.
 -- Assumes nothing.
-use Prim.Native.Nat.{ℕ, zero, suc, _+_, _*_, _^_, _≤_, _<_}
+use Prim.Native.Nat.{ℕ, _+_, _*_, _^_, _≤_, _<_}
 use mathlib.Core.Bool.{true, not}
-use mathlib.Core.List.{List, [], _∷_}
+use mathlib.Core.List.{List}
 use mathlib.Core.Path.{_≡_, refl, ap}
 use native.Mathlib.Omega.{arith}
 use lib.Dec.{eqb}
@@ -10,7 +10,7 @@ use lib.ListN.{length, take, getD}
 use Rattle.table.specs.Record.{recordBytes, recordOf, kindOf, labelOf, macOf}
 use Rattle.table.specs.Slots.{slotBytes, mostSlots, slotsOf}
 use Rattle.table.proofs.Contents.{record-near}
-use Rattle.flush_sort.specs.Sorting.{All}
+use Rattle.flush_sort.proofs.Laws.{all-at}
 use Rattle.flush_keys.specs.Keys.{numberIn, appliesTo, InTable}
 use Rattle.flush_keys.specs.declared.Field.{Field}
 use Rattle.flush_keys.specs.declared.Field.the-variants.{Fine, Mac}
@@ -43,12 +43,6 @@ applies-near Fine l = ap (λ (n : ℕ). not (eqb (kindOf n) 0)) (record-near l)
 applies-near Mac l = refl
 
 -- ---- a slot of a list
-
-all-at : (P : ℕ → Type 0) (l : List ℕ) (i : ℕ) → All P l → i < length l → P (getD l i 0)
-unfolding All
-all-at P [] i a h = absurd (omega arith)
-all-at P (x ∷ l) zero a h = a .0
-all-at P (x ∷ l) (suc i) a h = all-at P l i (a .1) (omega arith)
 
 module _ (t slots : List ℕ) (i : ℕ) (inside : InTable t slots) (h : i < length slots) where
   pub slot-room : slotBytes * getD slots i 0 + recordBytes ≤ length t

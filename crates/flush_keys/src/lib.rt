@@ -3,12 +3,12 @@ ghost use Prim.Native.Nat.{ℕ, _+_, _*_, _^_, _<_, _≤_};
 ghost use mathlib.Core.Bool.{Bool, true, not};
 ghost use mathlib.Core.Path.{_≡_};
 ghost use lib.ListN.{length, take, drop};
-ghost use Rattle.numbers.specs.Tests.{pick};
 ghost use Rattle.table.specs.Record.{recordBytes};
 ghost use Rattle.table.specs.Slots.{slotAt};
 ghost use Rattle.flush_buckets.specs.Buckets.{bucketBytes, Nears};
 ghost use Rattle.flush_marks.specs.Marks.{markBytes};
 ghost use Rattle.flush_keys.specs.Keys.{numberIn, appliesTo, InTable, Hit, Marked, Joined, KeysOf};
+use flush_buckets::KEY_SLOTS;
 use table::SLOT_BYTES;
 
 // What a filter tests.
@@ -16,9 +16,6 @@ pub enum Field {
     Fine,
     Mac,
 }
-
-// The number of slots that a key has room for.
-pub const KEY_SLOTS: u64 = 4096;
 
 // The number in the slot at an offset.
 fn number_at(t: &[u8], at: usize, field: Field) -> u64
@@ -42,12 +39,6 @@ fn applies_at(t: &[u8], at: usize, field: Field) -> bool
     }
 }
 
-fn one(b: bool) -> usize
-    ensures { λ r. ⌜ (r ≡ pick b 1 0) × (r ≤ 1) ⌝ }
-{
-    if b { 1 } else { 0 }
-}
-
 // Makes the keys of slots. Each is stored, and counted where it applies and its number may be named: there is no branch on what is read.
 pub fn keys_of(table: &[u8], field: Field, slots: &[u64], named: &[u8], keys: &mut [u64]) -> usize
     requires { ⌜ InTable (now table) (now slots) × ((length (now slots) ≤ length (now keys)) × (length (now named) ≡ bucketBytes)) ⌝ }
@@ -60,7 +51,7 @@ pub fn keys_of(table: &[u8], field: Field, slots: &[u64], named: &[u8], keys: &m
         let at = SLOT_BYTES * j as usize;
         let x = number_at(table, at, field);
         keys[n] = x * KEY_SLOTS + j;
-        n += one(applies_at(table, at, field) & flush_buckets::has_bit(named, x));
+        n += flush_sort::one(applies_at(table, at, field) & flush_buckets::has_bit(named, x));
         i += 1;
     }
     n
@@ -93,7 +84,7 @@ pub fn note(keys: &[u64], bits: &mut [u8])
 {
     let mut i = 0;
     while i < keys.len() {
-        flush_buckets::add_bucket(keys[i] / KEY_SLOTS / 256, bits);
+        flush_buckets::add_twice(keys[i] / KEY_SLOTS, bits);
         i += 1;
     }
 }

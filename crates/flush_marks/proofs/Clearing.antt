@@ -4,6 +4,7 @@ use Prim.Native.Nat.{ℕ, zero, suc, _+_, _-_, _*_, _<_, _≤_}
 use mathlib.Core.Bool.{Bool, true, false}
 use mathlib.Core.List.{List, _++_}
 use mathlib.Core.Path.{_≡_, refl, sym, ap, _∙_}
+use native.Mathlib.Decide.{ℕ-discrete}
 use native.Mathlib.Nat.{add-zero, zero-add, add-suc}
 use native.Mathlib.Numerals.{add-one}
 use native.Mathlib.Omega.{arith}
@@ -18,7 +19,7 @@ use Rattle.table.specs.declared.Place.the-variants.{At, Nowhere}
 use Rattle.table.proofs.Slots.{length-putSlot, put-lent, drop-onSlots}
 use Rattle.flush.specs.Flush.{clearedSlot, clearedBy}
 use Rattle.flush.proofs.Flushing.{cleared-hit, cleared-miss, cleared-keeps}
-use Rattle.flush_marks.specs.Marks.{Unmarked, Found, NextMark, Chosen, countMarks, freedMarks, clearedMarks, ClearedTo, clearedIn}
+use Rattle.flush_marks.specs.Marks.{Unmarked, NextMark, Chosen, countMarks, freedMarks, clearedMarks, ClearedTo, clearedIn}
 
 -- ---- slots without a mark
 
@@ -70,35 +71,45 @@ module _ (m t : List ℕ) where
         let left : u ≡ freedMarks m (slotsOf t) t = so-far .left ∙ ap (λ (n : ℕ). freedMarks m n t) same in
         cc
 
-    module _ (p : Place) (next : NextMark m i (slotsOf t) p) where
-      pub cleared-rest : i ≤ slotsOf t → p ≡ Nowhere → onTable c u ≡ clearedMarks m t
+    -- a slot that is marked is cleared
+    pub cleared-next : i < slotsOf t → (b : Bool) → b ≡ bitAt i m → b ≡ true → (r : List ℕ) → r ≡ freed
+        → ClearedTo m t (i + 1) (c + 1) (take (slotBytes * i) u ++ (r ++ drop (slotBytes * i + slotBytes - slotBytes * i) (drop (slotBytes * i) u)))
+    unfolding countMarks freedMarks pick
+    cleared-next inside b is e r free =
+        let marked : bitAt i m ≡ true = sym is ∙ e in
+        let few = so-far .few in
+        let long = so-far .long in
+        rw (put-lent i r u)
+        (record {
+          count = rw (add-one i, marked, ← so-far .count);
+          few = omega arith;
+          long = rw free (length-putSlot i freed u (omega arith) freed-long) ∙ long;
+          left = rw (add-one i, marked, ← so-far .left, free);
+        })
+
+    -- from one that is not, to the next that is
+    module _ (b : Bool) (is : b ≡ bitAt i m) (clear : b ≡ false) (p : Place) (next : NextMark m (i + 1) (slotsOf t) p) where
+      passed : (k : ℕ) → Unmarked m (i + 1) k → Unmarked m i k
+      passed k none = record { none = λ j a l. go j a l (ℕ-discrete j i) }
+        where
+          go : (j : ℕ) → i ≤ j → j < k → Dec (j ≡ i) → bitAt j m ≡ false
+          go j a l (yes q) = rw q (sym is ∙ clear)
+          go j a l (no d) = none .none j (omega arith) l
+
+      pub cleared-rest : i < slotsOf t → p ≡ Nowhere → onTable c u ≡ clearedMarks m t
       unfolding clearedMarks
       cleared-rest h e =
-          let s = cleared-skip (slotsOf t) h (next .miss e) in
+          let s = cleared-skip (slotsOf t) (omega arith) (passed (slotsOf t) (next .miss e)) in
           let count : c ≡ countMarks m (slotsOf t) = s .count in
           let left : u ≡ freedMarks m (slotsOf t) t = s .left in
           cc
 
-      module _ (k : ℕ) (e : p ≡ At k) where
-        pub cleared-within : (i ≤ k) × (k < slotsOf t)
-        cleared-within = (next .hit k e .behind, next .hit k e .within)
-
-        pub cleared-next : (r : List ℕ) → r ≡ freed
-            → ClearedTo m t (k + 1) (c + 1) (take (slotBytes * k) u ++ (r ++ drop (slotBytes * k + slotBytes - slotBytes * k) (drop (slotBytes * k) u)))
-        unfolding countMarks freedMarks pick
-        cleared-next r free =
-            let f = next .hit k e in
-            let s = cleared-skip k (f .behind) (f .passed) in
-            let few = s .few in
-            let long = s .long in
-            let inside = f .within in
-            rw (put-lent k r u)
-            (record {
-              count = rw (add-one k, f .marked, ← s .count);
-              few = omega arith;
-              long = rw free (length-putSlot k freed u (omega arith) freed-long) ∙ long;
-              left = rw (add-one k, f .marked, ← s .left, free);
-            })
+      pub cleared-far : (k : ℕ) → p ≡ At k → (k ≤ slotsOf t) × ClearedTo m t k c u
+      cleared-far k e =
+          let f = next .hit k e in
+          let far = f .behind in
+          let inside = f .within in
+          (omega arith, cleared-skip k (omega arith) (passed k (f .passed)))
 
 -- ---- clearing by marks is clearing by the test that chose them
 

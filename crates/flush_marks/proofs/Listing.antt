@@ -1,24 +1,23 @@
--- Laws of a walk over marks that lists the marked slots.
+-- Laws of a loop over marks that lists the marked slots.
 -- Assumes nothing.
 use Prim.{tt}
-use Prim.Native.Nat.{ℕ, _+_, _<_, _≤_}
-use mathlib.Core.Bool.{true, false}
+use Prim.Native.Nat.{ℕ, _+_, _*_, _/_, _<_, _≤_}
+use mathlib.Core.Bool.{Bool, true, false}
 use mathlib.Core.List.{List, [], _∷_, _++_}
 use mathlib.Core.Path.{_≡_, refl, sym, ap, _∙_}
 use native.Mathlib.Decide.{ℕ-discrete, decLt}
+use native.Mathlib.Nat.{add-zero}
 use native.Mathlib.Numerals.{add-one}
 use native.Mathlib.Omega.{arith}
 use lib.Dec.{eqb}
 use lib.ListN.{length, take, set, length-set}
-use lib.Seq.{take-suc-set}
+use lib.Seq.{take-suc-set, take-set-le}
 use borrow.Author.Tests.{eq-eqb, ne-eqb}
-use Rattle.numbers.specs.Tests.{either, anyOf}
+use Rattle.numbers.specs.Tests.{pick, either, anyOf}
 use Rattle.numbers.specs.Numberings.{bitAt}
-use Rattle.table.specs.declared.Place.{Place}
-use Rattle.table.specs.declared.Place.the-variants.{At, Nowhere}
 use Rattle.flush_sort.specs.Sorting.{All}
 use Rattle.flush_sort.proofs.Laws.{any-append, all-append, either-none}
-use Rattle.flush_marks.specs.Marks.{Unmarked, NextMark, Listed, Listing}
+use Rattle.flush_marks.specs.Marks.{Unmarked, Listed, Listing}
 use Rattle.flush_marks.specs.declared.Room.the-variants.{Held, Full}
 
 -- so far: the first c numbers of the list u are the marked slots before slot k
@@ -81,6 +80,41 @@ module _ (m : List ℕ) (n : ℕ) (s : List ℕ) where
         go j h (yes q) = rw (q, so-far .rest k (omega arith), marked) (eq-eqb k k refl)
         go j h (no d) = rw (ne-eqb j k d, either-none (anyOf (eqb j) (take c u))) (so-far .done j (omega arith))
 
+    listed-pass : bitAt k m ≡ false → c < length u → ListedTo m n s (k + 1) c (set u c k)
+    listed-pass clear space =
+        let same : take c (set u c k) ≡ take c u = take-set-le c u c k (omega arith) in
+        let skip = listed-skip (k + 1) (omega arith) (record { none = λ j a b. let q : j ≡ k = omega arith in rw q clear }) in
+        record {
+          long = length-set u c k ∙ so-far .long;
+          few = skip .few;
+          room = rw (length-set u c k) (so-far .room);
+          slots = rw same (skip .slots);
+          done = λ j h. rw same (skip .done j h);
+          rest = λ j h. rw same (skip .rest j h);
+        }
+
+    -- a slot is stored, and counted where it is marked
+    pub listed-next : k < n → (c ≡ length u → ⊥) → (b : Bool) → b ≡ bitAt k m → (d : ℕ) → (d ≡ pick b 1 0) × (d ≤ 1) → ListedTo m n s (k + 1) (c + d) (set u c k)
+    unfolding pick
+    listed-next inside space b is d counted = let room = so-far .room in rw (counted .0) (go b (sym is) (omega arith))
+      where
+        go : (b : Bool) → bitAt k m ≡ b → c < length u → ListedTo m n s (k + 1) (c + pick b 1 0) (set u c k)
+        go true marked room = listed-put inside marked room
+        go false clear room = rw (add-zero c) (listed-pass clear room)
+
+    -- a byte without a mark is passed over
+    pub listed-byte : (b : Bool) → (b ≡ true → (x : ℕ) → k / 8 ≡ x / 8 → bitAt x m ≡ false) → b ≡ true → ListedTo m n s (k / 8 * 8 + 8) c u
+    listed-byte b none e = listed-skip (k / 8 * 8 + 8) (omega arith) (record { none = λ j l h. none e j (omega arith) })
+
+    pub listed-full : k < n → c ≡ length u → Listing m n s u Full
+    listed-full h e =
+        let few = so-far .few in
+        record {
+          long = so-far .long;
+          held = λ d q. let z : _≡_ {A = ℕ} 0 1 = cc in absurd (omega arith);
+          full = λ q. omega arith;
+        }
+
     pub listed-ends : n ≤ k → Listing m n s u (Held c)
     listed-ends h = record {
       long = so-far .long;
@@ -90,24 +124,3 @@ module _ (m : List ℕ) (n : ℕ) (s : List ℕ) where
       where
         listed : Listed m n c u
         listed = record { room = so-far .room; slots = so-far .slots; each = λ j l. so-far .done j (omega arith) }
-
-module _ (m : List ℕ) (n : ℕ) (s : List ℕ) (k c : ℕ) (u : List ℕ) (so-far : ListedTo m n s k c u) (p : Place) (next : NextMark m k n p) where
-  pub listed-rest : k ≤ n → p ≡ Nowhere → Listing m n s u (Held c)
-  listed-rest h e = listed-ends m n s n c u (listed-skip m n s k c u so-far n h (next .miss e)) (omega arith)
-
-  module _ (i : ℕ) (e : p ≡ At i) where
-    pub listed-full : c ≡ length u → Listing m n s u Full
-    listed-full h =
-        let f = next .hit i e in
-        let few = so-far .few in
-        record {
-          long = so-far .long;
-          held = λ d q. let z : _≡_ {A = ℕ} 0 1 = cc in absurd (omega arith);
-          full = λ q. omega arith;
-        }
-
-    pub listed-next : (c ≡ length u → ⊥) → ListedTo m n s (i + 1) (c + 1) (set u c i)
-    listed-next space =
-        let f = next .hit i e in
-        let room = so-far .room in
-        listed-put m n s i c u (listed-skip m n s k c u so-far i (f .behind) (f .passed)) (f .within) (f .marked) (omega arith)

@@ -89,7 +89,7 @@ pub fn weight(marks: &[u8]) -> usize
     sum
 }
 
-// Clears the marked slots, and counts them.
+// Clears the marked slots, and counts them. Where marks stand close the next slot is mostly marked, and is not searched for.
 pub fn clear_marked(table: &mut [u8], marks: &[u8]) -> usize
     requires { ⌜ (length (now marks) ≡ markBytes) × (slotsOf (now table) ≤ mostSlots) ⌝ }
     ensures { λ r. ⌜ onTable r (now (table .exit)) ≡ clearedMarks (now (marks .entry)) (now (table .entry)) ⌝ }
@@ -98,16 +98,20 @@ pub fn clear_marked(table: &mut [u8], marks: &[u8]) -> usize
     let mut count = 0;
     let mut k = 0;
     while k < n {
-        match next_marked(marks, k, n) {
-            Place::At(j) => {
-                let a = SLOT_BYTES * j;
-                let e = a + SLOT_BYTES;
-                table_records::clear(&mut table[a..e]);
-                count += 1;
-                k = j + 1;
-            }
-            Place::Nowhere => {
-                return count;
+        if flush_bits::has(marks, k as u64) {
+            let a = SLOT_BYTES * k;
+            let e = a + SLOT_BYTES;
+            table_records::clear(&mut table[a..e]);
+            count += 1;
+            k += 1;
+        } else {
+            match next_marked(marks, k + 1, n) {
+                Place::At(j) => {
+                    k = j;
+                }
+                Place::Nowhere => {
+                    return count;
+                }
             }
         }
     }
@@ -120,7 +124,8 @@ pub enum Room {
     Full,
 }
 
-// Lists the marked slots before slot n.
+// Lists the marked slots before slot n. Each slot of a byte with a mark is stored, and counted where it is marked: there is no branch on
+// the mark.
 pub fn list_marked(marks: &[u8], n: usize, slots: &mut [u64]) -> Room
     requires { ⌜ (length (now marks) ≡ markBytes) × (n ≤ mostSlots) ⌝ }
     ensures { λ r. ⌜ Listing (now (marks .entry)) n (now (slots .entry)) (now (slots .exit)) r ⌝ }
@@ -128,18 +133,15 @@ pub fn list_marked(marks: &[u8], n: usize, slots: &mut [u64]) -> Room
     let mut c = 0;
     let mut k = 0;
     while k < n {
-        match next_marked(marks, k, n) {
-            Place::At(s) => {
-                if c == slots.len() {
-                    return Room::Full;
-                }
-                slots[c] = s as u64;
-                c += 1;
-                k = s + 1;
+        if flush_bits::none_at(marks, (k / 8) as u64) {
+            k = k / 8 * 8 + 8;
+        } else {
+            if c == slots.len() {
+                return Room::Full;
             }
-            Place::Nowhere => {
-                return Room::Held(c);
-            }
+            slots[c] = k as u64;
+            c += flush_sort::one(flush_bits::has(marks, k as u64));
+            k += 1;
         }
     }
     Room::Held(c)

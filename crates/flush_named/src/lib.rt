@@ -1,4 +1,5 @@
 // Filter bits of what a message names: made once for a message, before a number of a record is tested exactly.
+ghost use mathlib.Core.Bool.{true, false};
 ghost use mathlib.Core.Path.{_≡_};
 ghost use lib.ListN.{length};
 ghost use Rattle.numbers.specs.Numberings.{inMap};
@@ -9,22 +10,36 @@ ghost use Rattle.flush_buckets.specs.Buckets.{bucketBytes, HasBits, Names};
 use flush_parts::Naming;
 use numbers::Numbering;
 
-// Adds the parts of a value. Where the bits are full it answers true.
-fn add_parts(v: &[u8], block: bool, w: Numbering, bits: &mut [u8]) -> bool
+// Adds the blocks of a value. Where the bits are full it answers true.
+fn add_blocks(v: &[u8], w: Numbering, bits: &mut [u8]) -> bool
     requires { ⌜ Narrow w × (length (now bits) ≡ bucketBytes) ⌝ }
-    ensures { λ r. ⌜ Names (partsHit block w (now (v .entry))) (now (bits .entry)) (now (bits .exit)) r ⌝ }
+    ensures { λ r. ⌜ Names (partsHit true w (now (v .entry))) (now (bits .entry)) (now (bits .exit)) r ⌝ }
 {
-    let k = flush_parts::span_for(block, w);
+    let k = flush_parts::span_for(true, w);
     let mut at = 0;
     while k <= v.len() - at {
-        let s = flush_parts::low_at(v, at, block, w);
-        let e = flush_parts::past_at(v, at, block, w);
+        let s = flush_parts::low_at(v, at, true, w);
+        let e = flush_parts::past_at(v, at, true, w);
         if flush_buckets::add(s, e, bits) {
             return true;
         }
         at += k;
     }
     false
+}
+
+// Adds the numbers of a list: one bit each.
+fn add_singles(v: &[u8], w: Numbering, bits: &mut [u8])
+    requires { ⌜ Narrow w × (length (now bits) ≡ bucketBytes) ⌝ }
+    ensures { λ _. ⌜ Names (partsHit false w (now (v .entry))) (now (bits .entry)) (now (bits .exit)) false ⌝ }
+{
+    let k = flush_parts::span_for(false, w);
+    let mut at = 0;
+    while k <= v.len() - at {
+        let x = flush_parts::low_at(v, at, false, w);
+        flush_buckets::add_single(x, bits);
+        at += k;
+    }
 }
 
 // Adds the numbers that a bit map may have.
@@ -47,10 +62,11 @@ fn add_value(k: u8, v: &[u8], naming: Naming, bits: &mut [u8]) -> bool
 {
     let w = naming.numbering;
     if k == naming.blocks {
-        return add_parts(v, true, w, bits);
+        return add_blocks(v, w, bits);
     }
     if k == naming.singles {
-        return add_parts(v, false, w, bits);
+        add_singles(v, w, bits);
+        return false;
     }
     if naming.mapped & (k == naming.maps) {
         return add_map(v, w, bits);

@@ -27,14 +27,15 @@ use Rattle.flush.specs.Meaning.{nicknameMeant, labelMeant}
 use Rattle.flush_sets.specs.Gains.{Gains, None, inNicknames}
 use Rattle.flush_sets.proofs.Adding.{single-listed}
 use Rattle.flush_payload.specs.declared.Kinds.{Kinds}
-use Rattle.flush_vlans.specs.Vlans.{VlansMeant}
+use Rattle.flush_vlans.specs.Vlans.{VlansNoted, VlansMeant}
+use Rattle.flush_vlans.proofs.Laws.{every-meant}
 use Rattle.flush_bits.specs.Ranged.{maskOf, Ranged}
 use Rattle.flush_bits.proofs.Laws.{every, every-at, part-added}
 use Rattle.flush_marks.specs.Marks.{markBytes, NoMarks, Chosen}
 use Rattle.flush_marks.specs.Filters.{slotNamed}
 use Rattle.flush_marks.proofs.Bits.{both-all}
 use Rattle.flush_marks.proofs.Filters.{chosen-same}
-use Rattle.flush_nicknames.specs.First.{NicknamesAre, kindMeant, slotFirst, labelPart, slotMarked, slotNames, fineNoted, FirstNamed}
+use Rattle.flush_nicknames.specs.First.{NicknamesAre, EveryMeant, kindMeant, slotFirst, labelPart, slotMarked, slotNames, fineNoted, FirstNamed}
 use Rattle.flush_nicknames.specs.declared.Nicknames.{Nicknames}
 use Rattle.flush_nicknames.specs.declared.Nicknames.the-variants.{One, Several}
 
@@ -59,6 +60,14 @@ module _ (vlans : List ℕ) (fine : Bool) (r : List ℕ) where
 
   pub part-told : (k : ℕ) → k ≡ kindOf (recordOf r) → (x : ℕ) → x ≡ labelOf (recordOf r) → (h : Bool) → h ≡ bitAt (x % 4096) vlans → (eqb k 0 && h) || (not (eqb k 0) && fine) ≡ labelPart vlans fine r
   part-told k e x f h g = part-case (eqb k 0) (rw e) h (g ∙ rw f)
+
+  pub part-every : (every : Bool) → EveryMeant every vlans fine → every ≡ true → true ≡ labelPart vlans fine r
+  unfolding labelPart pick
+  part-every every told e = go (eqb (kindOf (recordOf r)) 0)
+    where
+      go : (b : Bool) → true ≡ pick b (bitAt (labelOf (recordOf r) % 2 ^ 12) vlans) fine
+      go true = sym (told .all e (labelOf (recordOf r) % 2 ^ 12) (omega arith))
+      go false = sym (told .flag e)
 
   module _ (p : ℕ → Bool) where
     pub other-nickname : p (nicknameOf (recordOf r)) ≡ false → false ≡ slotMarked p vlans fine r
@@ -208,6 +217,10 @@ module _ (p q : ℕ → Bool) (same : (x : ℕ) → x < 2 ^ 16 → p x ≡ q x) 
           let a = first .within in
           c .inside j (omega arith) (omega arith)
           ∙ rw flag (first-case ps vlans told (fineNoted f) (slotAt j t) p q (same (nicknameOf (recordOf (slotAt j t))) (omega arith)) _ refl)
+
+-- the set of VLANs of a message that means every label
+pub every-passes : (ps : List Piece) (f : Kinds) → VlansNoted ps f → (vlans : List ℕ) → VlansMeant ps vlans → EveryMeant (f .every) vlans (f .every || (f .lists || f .maps))
+every-passes ps f noted vlans told = record { long = told .long; all = λ e x few. told .each x few ∙ every-meant ps f noted e x; flag = λ e. rw e }
 
 -- the nicknames of a list as a set
 pub listed-same : (nicks s t : List ℕ) → None s → Gains s t (inNicknames nicks) → (x : ℕ) → bitAt x t ≡ inNicknames nicks x

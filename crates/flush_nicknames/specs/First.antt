@@ -1,7 +1,7 @@
 -- The test of the first pass of a flush: learned, a nickname that is meant, and a label whose kind allows it to be meant.
 -- Assumes nothing.
 use Prim.Native.Nat.{ℕ, _%_, _^_, _<_, _≤_}
-use mathlib.Core.Bool.{Bool, false}
+use mathlib.Core.Bool.{Bool, true, false}
 use mathlib.Core.List.{List}
 use mathlib.Core.Path.{_≡_}
 use lib.Dec.{eqb}
@@ -15,6 +15,7 @@ use Rattle.flush.specs.Payload.{everyType, Piece}
 use Rattle.flush.specs.Meaning.{nicknameMeant, labelMeant}
 use Rattle.flush_sets.specs.Gains.{inNicknames}
 use Rattle.flush_payload.specs.declared.Kinds.{Kinds}
+use Rattle.flush_vlans.specs.Vlans.{vlanBytes}
 use Rattle.flush_marks.specs.Filters.{slotNamed}
 use Rattle.flush_nicknames.specs.declared.Nicknames.{Nicknames}
 use Rattle.flush_nicknames.specs.declared.Nicknames.the-variants.{One, Several}
@@ -47,6 +48,12 @@ slotFirst p ps fine r = both (slotNamed p r) (kindMeant ps fine r)
 -- a VLAN's lower twelve bits are in the set; a fine-grained label by the flag
 unfoldable pub labelPart : List ℕ → Bool → List ℕ → Bool
 labelPart vlans fine r = pick (eqb (kindOf (recordOf r)) 0) (bitAt (labelOf (recordOf r) % 2 ^ 12) vlans) fine
+
+-- where every label is meant each VLAN is in the set, and fine-grained labels may be meant
+pub record EveryMeant (every : Bool) (vlans : List ℕ) (fine : Bool) : Type 0 where
+  pub long : length vlans ≡ vlanBytes
+  pub all : every ≡ true → (x : ℕ) → x < 2 ^ 12 → bitAt x vlans ≡ true
+  pub flag : every ≡ true → fine ≡ true
 
 unfoldable pub slotMarked : (ℕ → Bool) → List ℕ → Bool → List ℕ → Bool
 slotMarked p vlans fine r = both (slotNamed p r) (labelPart vlans fine r)

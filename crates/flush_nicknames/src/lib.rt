@@ -10,11 +10,11 @@ ghost use Rattle.table.specs.Slots.{slotBytes, mostSlots};
 ghost use Rattle.flush.specs.Payload.{blockBytes, piecesOf};
 ghost use Rattle.flush.specs.Meaning.{nicknameMeant};
 ghost use Rattle.flush_sets.specs.Gains.{Gains, inNicknames};
-ghost use Rattle.flush_vlans.specs.Vlans.{vlanBytes, VlansNoted};
+ghost use Rattle.flush_vlans.specs.Vlans.{VlansNoted};
 ghost use Rattle.flush_bits.specs.Ranged.{Ranged};
 ghost use Rattle.flush_marks.specs.Marks.{markBytes, Chosen};
 ghost use Rattle.flush_marks.specs.Filters.{Marking};
-ghost use Rattle.flush_nicknames.specs.First.{nameBytes, NicknamesAre, labelPart, fineNoted, slotFirst, slotMarked, slotNames, Scanning, FirstNamed};
+ghost use Rattle.flush_nicknames.specs.First.{nameBytes, NicknamesAre, EveryMeant, labelPart, fineNoted, slotFirst, slotMarked, slotNames, Scanning, FirstNamed};
 use flush_payload::Kinds;
 use flush_vlans::VLAN_BYTES;
 use table::SLOT_BYTES;
@@ -107,25 +107,29 @@ fn first_listed(t: &[u8], from: usize, e: usize, names: &[u8]) -> usize
 }
 
 // Whether the label of the slot at an offset passes: a VLAN by a set, a fine-grained label by a flag. Twelve bits of a VLAN are enough:
-// a record with a higher one is spoilt. Both kinds take the same way, since which kind comes next cannot be foreseen.
-fn label_passes(t: &[u8], at: usize, vlans: &[u8], fine: bool) -> bool
-    requires { ⌜ (at + recordBytes ≤ length (now t)) × (length (now vlans) ≡ vlanBytes) ⌝ }
+// a record with a higher one is spoilt. Both kinds take the same way, since which kind comes next cannot be foreseen. Where every label is
+// meant none is read.
+fn label_passes(t: &[u8], at: usize, vlans: &[u8], fine: bool, every: bool) -> bool
+    requires { ⌜ (at + recordBytes ≤ length (now t)) × EveryMeant every (now vlans) fine ⌝ }
     ensures { λ b. ⌜ b ≡ labelPart (now (vlans .entry)) fine (drop at (now (t .entry))) ⌝ }
 {
+    if every {
+        return true;
+    }
     let vlan = table_fields::kind_at(t, at) == 0;
     let meant = flush_bits::has(vlans, table_fields::label_at(t, at) % 0x1000);
     (vlan & meant) | (!vlan & fine)
 }
 
 // Whether the slot at an offset is to be marked, by one nickname. One byte of it decides most slots, and then the label.
-fn single_at(t: &[u8], at: usize, one: u64, vlans: &[u8], fine: bool) -> bool
-    requires { ⌜ (at + slotBytes ≤ length (now t)) × (length (now vlans) ≡ vlanBytes) ⌝ }
+fn single_at(t: &[u8], at: usize, one: u64, vlans: &[u8], fine: bool, every: bool) -> bool
+    requires { ⌜ (at + slotBytes ≤ length (now t)) × EveryMeant every (now vlans) fine ⌝ }
     ensures { λ b. ⌜ b ≡ slotMarked (λ x. eqb x one) (now (vlans .entry)) fine (drop at (now (t .entry))) ⌝ }
 {
     if table_fields::nickname_middle_at(t, at) != one / 8 % 0x100 {
         return false;
     }
-    if !label_passes(t, at, vlans, fine) {
+    if !label_passes(t, at, vlans, fine, every) {
         return false;
     }
     if table_fields::nickname_at(t, at) != one {
@@ -135,14 +139,14 @@ fn single_at(t: &[u8], at: usize, one: u64, vlans: &[u8], fine: bool) -> bool
 }
 
 // The same, by a set of nicknames. One byte of the set decides most slots.
-fn listed_at(t: &[u8], at: usize, names: &[u8], vlans: &[u8], fine: bool) -> bool
-    requires { ⌜ (at + slotBytes ≤ length (now t)) × ((length (now names) ≡ nameBytes) × (length (now vlans) ≡ vlanBytes)) ⌝ }
+fn listed_at(t: &[u8], at: usize, names: &[u8], vlans: &[u8], fine: bool, every: bool) -> bool
+    requires { ⌜ (at + slotBytes ≤ length (now t)) × ((length (now names) ≡ nameBytes) × EveryMeant every (now vlans) fine) ⌝ }
     ensures { λ b. ⌜ b ≡ slotMarked (λ x. bitAt x (now (names .entry))) (now (vlans .entry)) fine (drop at (now (t .entry))) ⌝ }
 {
     if flush_bits::none_at(names, table_fields::nickname_high_at(t, at)) {
         return false;
     }
-    if !label_passes(t, at, vlans, fine) {
+    if !label_passes(t, at, vlans, fine, every) {
         return false;
     }
     if !flush_bits::has(names, table_fields::nickname_at(t, at)) {
@@ -175,14 +179,15 @@ fn mark_single(
     one: u64,
     vlans: &[u8],
     fine: bool,
+    every: bool,
     marks: &mut [u8],
 )
-    requires { ⌜ ((from ≤ e) × Marking from (e - from) (now table) (now marks)) × (length (now vlans) ≡ vlanBytes) ⌝ }
+    requires { ⌜ ((from ≤ e) × Marking from (e - from) (now table) (now marks)) × EveryMeant every (now vlans) fine ⌝ }
     ensures { λ _. ⌜ Chosen (slotMarked (λ x. eqb x one) (now (vlans .entry)) fine) from (e - from) (now (table .entry)) (now (marks .exit)) ⌝ }
 {
     let mut k = from;
     while k < e {
-        if single_at(table, SLOT_BYTES * k, one, vlans, fine) {
+        if single_at(table, SLOT_BYTES * k, one, vlans, fine, every) {
             add_mark(marks, k);
             k += 1;
         } else {
@@ -199,14 +204,15 @@ fn mark_listed(
     names: &[u8],
     vlans: &[u8],
     fine: bool,
+    every: bool,
     marks: &mut [u8],
 )
-    requires { ⌜ ((from ≤ e) × Marking from (e - from) (now table) (now marks)) × ((length (now names) ≡ nameBytes) × (length (now vlans) ≡ vlanBytes)) ⌝ }
+    requires { ⌜ ((from ≤ e) × Marking from (e - from) (now table) (now marks)) × ((length (now names) ≡ nameBytes) × EveryMeant every (now vlans) fine) ⌝ }
     ensures { λ _. ⌜ Chosen (slotMarked (λ x. bitAt x (now (names .entry))) (now (vlans .entry)) fine) from (e - from) (now (table .entry)) (now (marks .exit)) ⌝ }
 {
     let mut k = from;
     while k < e {
-        if listed_at(table, SLOT_BYTES * k, names, vlans, fine) {
+        if listed_at(table, SLOT_BYTES * k, names, vlans, fine, every) {
             add_mark(marks, k);
             k += 1;
         } else {
@@ -236,7 +242,7 @@ fn mark_one(
     let mut vlans = [0u8; VLAN_BYTES];
     flush_vlans::vlan_set(rest, f, &mut vlans);
     let fine = f.every | (f.lists | f.maps);
-    mark_single(table, k, e, one, &vlans, fine, marks);
+    mark_single(table, k, e, one, &vlans, fine, f.every, marks);
 }
 
 // The same, by a list of nicknames.
@@ -262,7 +268,7 @@ fn mark_several(
     let mut vlans = [0u8; VLAN_BYTES];
     flush_vlans::vlan_set(rest, f, &mut vlans);
     let fine = f.every | (f.lists | f.maps);
-    mark_listed(table, k, e, &names, &vlans, fine, marks);
+    mark_listed(table, k, e, &names, &vlans, fine, f.every, marks);
 }
 
 // Marks the slots of a range by nickname, state and kind of label. A set of nicknames is made only where there is not one alone.

@@ -34,6 +34,11 @@ unfolding hitFor spanFor
 hit-near true w x = block-near w x
 hit-near false w x = item-near w x
 
+-- a number alone ends where it starts
+pub single-past : (w : Numbering) (b : List ℕ) (x : ℕ) → x ≡ lowFor false w b → x + 1 ≡ pastFor false w b
+unfolding lowFor pastFor
+single-past w b x e = rw e
+
 -- ---- bounds
 
 number-small : (w : Numbering) (b : List ℕ) → Narrow w → numberOf w b < 2 ^ 48

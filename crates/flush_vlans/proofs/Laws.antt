@@ -107,6 +107,10 @@ unfolding labelMeant vlansOf anyOf either
 meant-is x [] = refl
 meant-is x (p ∷ ps) = either-swap (ofKind everyType everyKind p) (anyOf (ofKind everyType everyKind) ps) (vlansIn p x) (vlansOf ps x) ∙ rw (brings-is x p, ← meant-is x ps)
 
+pub every-meant : (ps : List Piece) (f : Kinds) → VlansNoted ps f → f .every ≡ true → (x : ℕ) → labelMeant everyType ps (Vlan x) ≡ true
+unfolding either
+every-meant ps f noted e x = sym (meant-is x ps) ∙ rw (← noted .every, e)
+
 either-neither : (a b : Bool) → either a b ≡ false → (a ≡ false) × (b ≡ false)
 unfolding either
 either-neither true b e = (cc, cc)

@@ -12,10 +12,10 @@ use Rattle.flush_nicknames.proofs.mark_listed.Statement.{statement}
 use Rattle.flush_nicknames.proofs.mark_listed.Tie as tie
 
 abbrev Inv-loop : tie.InvT-loop
-Inv-loop table from e names vlans fine marks₀ k₀ marks k = ((from ≤ k) × (k ≤ e)) × MarkedTo (slotMarked (λ x. bitAt x names) vlans fine) from table k marks
+Inv-loop table from e names vlans fine every marks₀ k₀ marks k = ((from ≤ k) × (k ≤ e)) × MarkedTo (slotMarked (λ x. bitAt x names) vlans fine) from table k marks
 
 abbrev μ-loop : tie.MeasureT-loop
-μ-loop table from e names vlans fine marks₀ k₀ marks k = e - k
+μ-loop table from e names vlans fine every marks₀ k₀ marks k = e - k
 
 loop-holds : tie.Need-loop-holds Inv-loop μ-loop
 loop-holds c = (search needs, search (mark-none, marked-near))

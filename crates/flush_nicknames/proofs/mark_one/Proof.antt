@@ -6,7 +6,7 @@ use native.Mathlib.Omega.{arith}
 use lib.ListN.{length-replicate}
 use Rattle.flush_marks.proofs.Bits.{zeros-none}
 use Rattle.flush_vlans.specs.Vlans.{vlanBytes}
-use Rattle.flush_nicknames.proofs.First.{none-first, marked-first}
+use Rattle.flush_nicknames.proofs.First.{none-first, every-passes, marked-first}
 use borrow.Author.Needs.{needs}
 use Rattle.flush_nicknames.proofs.mark_one.Statement.{statement}
 use Rattle.flush_nicknames.proofs.mark_one.Tie as tie
@@ -23,7 +23,7 @@ mark-single-requires c κs =
     let first = c .before .before .before .before .before .before .before .before .first-single .ensures in
     let inside = first .within in
     let room = start .pre .0 .within .room in
-    ((inside, record { within = record { few = start .pre .0 .within .few; room = omega arith }; empty = start .pre .0 .empty }), c .before .before .before .before .before .vlan-set .ensures .long)
+    ((inside, record { within = record { few = start .pre .0 .within .few; room = omega arith }; empty = start .pre .0 .empty }), every-passes _ (start .args .f) (start .pre .1 .1) _ (c .before .before .before .before .before .vlan-set .ensures))
 
 returns-2 : tie.Need-returns-2
 returns-2 c = marked-first _ _ (λ x few. refl) _ (c .before .before .before .before .before .before .before .before .before .before .before .before .before .before .before .args .f) _ _ _ _ (c .before .before .before .before .before .before .before .before .before .before .before .first-single .ensures) _ (c .before .before .before .before .before .before .before .before .vlan-set .ensures) _ (c .before .before .mark-single .ensures)

@@ -7,7 +7,7 @@ use lib.ListN.{length-replicate}
 use Rattle.flush_marks.proofs.Bits.{zeros-none}
 use Rattle.flush_vlans.specs.Vlans.{vlanBytes}
 use Rattle.flush_nicknames.specs.First.{nameBytes}
-use Rattle.flush_nicknames.proofs.First.{none-first, marked-first, listed-same}
+use Rattle.flush_nicknames.proofs.First.{none-first, every-passes, marked-first, listed-same}
 use borrow.Author.Needs.{needs}
 use Rattle.flush_nicknames.proofs.mark_several.Statement.{statement}
 use Rattle.flush_nicknames.proofs.mark_several.Tie as tie
@@ -24,7 +24,7 @@ mark-listed-requires c κs =
     let first = c .before .before .before .before .before .before .before .before .before .first-listed .ensures in
     let inside = first .within in
     let room = start .pre .0 .within .room in
-    ((inside, record { within = record { few = start .pre .0 .within .few; room = omega arith }; empty = start .pre .0 .empty }), (c .before .before .before .before .before .before .before .before .before .before .before .before .add-nicknames .ensures .long ∙ length-replicate {A = ℕ} nameBytes 0, c .before .before .before .before .before .before .vlan-set .ensures .long))
+    ((inside, record { within = record { few = start .pre .0 .within .few; room = omega arith }; empty = start .pre .0 .empty }), (c .before .before .before .before .before .before .before .before .before .before .before .before .add-nicknames .ensures .long ∙ length-replicate {A = ℕ} nameBytes 0, every-passes _ (start .args .f) (start .pre .1 .1) _ (c .before .before .before .before .before .before .vlan-set .ensures)))
 
 returns-2 : tie.Need-returns-2
 returns-2 c = marked-first _ _ (λ x few. listed-same _ _ _ (zeros-none nameBytes) (c .before .before .before .before .before .before .before .before .before .before .before .before .before .before .before .add-nicknames .ensures) x) _ (c .before .before .before .before .before .before .before .before .before .before .before .before .before .before .before .before .before .before .before .before .before .args .f) _ _ _ _ (c .before .before .before .before .before .before .before .before .before .before .before .before .first-listed .ensures) _ (c .before .before .before .before .before .before .before .before .before .vlan-set .ensures) _ (c .before .before .mark-listed .ensures)

@@ -1,18 +1,19 @@
--- `flush_named::add_parts` meets its contract. The invariant: a number of some part has its bit, or is of a part from `at` on.
+-- `flush_named::add_blocks` meets its contract. The invariant: a number of some block has its bit, or is of a block from `at` on.
 -- Assumes nothing.
 use Prim.Native.Nat.{_-_, _≤_}
+use mathlib.Core.Bool.{true}
 use lib.ListN.{length, drop}
 use Rattle.flush_parts.specs.Parts.{partsHit}
 use Rattle.flush_named.proofs.Laws.{Adding, adding-start, adding-long, adding-full, parts-done, parts-next}
 use borrow.Author.Needs.{needs}
-use Rattle.flush_named.proofs.add_parts.Statement.{statement}
-use Rattle.flush_named.proofs.add_parts.Tie as tie
+use Rattle.flush_named.proofs.add_blocks.Statement.{statement}
+use Rattle.flush_named.proofs.add_blocks.Tie as tie
 
 abbrev Inv-loop : tie.InvT-loop
-Inv-loop v block w bits₀ k at₀ bits at = (at ≤ length v) × Adding (partsHit block w v) (partsHit block w (drop at v)) bits₀ bits
+Inv-loop v w bits₀ k at₀ bits at = (at ≤ length v) × Adding (partsHit true w v) (partsHit true w (drop at v)) bits₀ bits
 
 abbrev μ-loop : tie.MeasureT-loop
-μ-loop v block w bits₀ k at₀ bits at = length v - at
+μ-loop v w bits₀ k at₀ bits at = length v - at
 
 loop-holds : tie.Need-loop-holds Inv-loop μ-loop
 loop-holds c = (search needs, search adding-start)
@@ -29,8 +30,8 @@ loop-again c = (search needs, search parts-next)
 returns-2 : tie.Need-returns-2 Inv-loop μ-loop
 returns-2 c = search parts-done
 
-pub add-parts-spec : {M : Type 1} → statement M
-add-parts-spec =
+pub add-blocks-spec : {M : Type 1} → statement M
+add-blocks-spec =
     tie.close
     (tie.spec
     Inv-loop
