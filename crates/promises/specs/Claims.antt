@@ -9,13 +9,14 @@ use Rattle.flush.specs.Flush.{flushed}
 use Rattle.portions.specs.Portion.{portioned}
 use Rattle.portions.specs.Claims.{PortionRefusal, PortionKeepsApart}
 use Rattle.frame.specs.declared.Settings.{Settings}
-use Rattle.receive.specs.Receive.{received}
+use Rattle.receive.specs.Receive.{portReceived}
 use Rattle.flush.specs.Claims.{FlushRefusal, FlushingKeepsApart}
 use Rattle.convert.specs.Claims.{ConvertRefusals}
 use Rattle.receive.specs.Claims.{ReadRefusal, ReadingKeepsApart}
+use Rattle.ingress.specs.Claims.{IngressRefusal}
 
 -- Demand 1: "A refusal returns its number and changes nothing: every lent area keeps its bytes." For every public call that is lent
--- an area to change: reading, flushing, whole or a portion, ageing, widening, compacting, expanding, sending. Lookup and the naming of the lowest spoilt slot are
+-- an area to change: reading (with every map), flushing, whole or a portion, ageing, widening, compacting, expanding, sending, ingress. Lookup and the naming of the lowest spoilt slot are
 -- lent the table for reading only.
 pub record RefusalChangesNothing : Type 0 where
   pub reading : ReadRefusal
@@ -24,6 +25,7 @@ pub record RefusalChangesNothing : Type 0 where
   pub ageing : AgeingRefusal
   pub widening : WideningRefusal
   pub converting : ConvertRefusals
+  pub ingress : IngressRefusal
 
 -- "A table with, among its learned and configured records, no two equal (label, MAC, nickname) triples, and no unmarked learned record
 -- beside another of its label and MAC, stays so" (2026-12), under every call that is lent the table to change and for all settings
@@ -35,7 +37,7 @@ pub record HomesStayApart : Type 0 where
 
 -- slot by slot, a record of such a kind keeps its bytes under every call that is lent the table to change
 pub record StaysUnderCalls (Such : Slot → Type 0) : Type 0 where
-  pub reading : (s : Settings) (f t o : List ℕ) → Stays Such t (received s f t o .table)
+  pub reading : (s : Settings) (m f t o : List ℕ) → Stays Such t (portReceived s m f t o .table)
   pub flushing : (ingress : ℕ) (l t : List ℕ) → Stays Such t (flushed ingress l t .table)
   pub portion : (ingress : ℕ) (l : List ℕ) (slot k : ℕ) (t : List ℕ) → Stays Such t (portioned ingress l slot k t .table)
   pub ageing : (s : ℕ) (t : List ℕ) → Stays Such t (aged s t .table)

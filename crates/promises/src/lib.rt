@@ -14,8 +14,11 @@ ghost use Rattle.flush_write.specs.Claims.{WriterExact, WriterClears, WriterLen
 ghost use Rattle.frame.specs.Claims.{HeaderLocal, LabelLocal, LabelsGood};
 ghost use Rattle.convert.specs.Claims.{ReadsSame, ExpandCompacted, CompactExpanded, ConvertRefusals, SendsExactly, RoomForCompaction, SendRoom, ControlNeverCompact};
 ghost use Rattle.convert.specs.Chosen.{ChosenSent};
-ghost use Rattle.receive.specs.Claims.{ReadRefusal, ReadingKeepsApart, ReadsParsed, ReadingLeavesAlone, ReadFlushExact, PaddedRead};
+ghost use Rattle.receive.specs.Claims.{ReadRefusal, ReadingKeepsApart, ReadsParsed, ReadingLeavesAlone, ReadFlushExact, PaddedRead, NoMapNoChange};
+ghost use Rattle.port_map.specs.Claims.{SearchInverse};
 ghost use Rattle.receive.specs.Order.{ReadsExactly};
+ghost use Rattle.ingress.specs.Cases.{MapCases};
+ghost use Rattle.ingress.specs.Claims.{IngressRefusal, MapRoundTrip};
 ghost use Rattle.promises.specs.Cases.{Cases, ControlCases};
 ghost use Rattle.promises.specs.Claims.{RefusalChangesNothing, HomesStayApart, SpoiltStays, ConfiguredStays};
 ghost use Rattle.promises.specs.Example.{InterchangeExample};
@@ -24,8 +27,8 @@ ghost use Rattle.promises.specs.Interchange.{Interchange};
 ghost use Rattle.promises.specs.Lives.{LifeAsBefore, OtherLivesStay};
 
 pub fn claims()
-    ensures demands { λ _. ⌜ Interchange × InterchangeExample × ExpandCompacted × CompactExpanded × RefusalChangesNothing × Validity × FlushExact × ReadFlushExact × PaddedFlush × PaddedRead × ReadsExactly × HomesStayApart × WidenedSame × UnmarkedAsBefore × NoneAsBefore × HomesExamples × MarkedRead × FreeSlotFound × SpoiltStays × ConfiguredStays × SendsExactly × RoomForCompaction × SendRoom × ChosenSent × ControlNeverCompact × LifeAsBefore × OtherLivesStay × Cases × ControlCases ⌝ }
-    ensures calls { λ _. ⌜ ReadRefusal × FlushRefusal × AgeingRefusal × WideningRefusal × ConvertRefusals × ReadingKeepsApart × FlushingKeepsApart × AgeingKeepsApart × LearningKeepsApart × ReadingLeavesAlone × FlushingLeavesAlone × AgeingLeavesAlone × LearningLeavesAlone ⌝ }
+    ensures demands { λ _. ⌜ Interchange × InterchangeExample × ExpandCompacted × CompactExpanded × RefusalChangesNothing × Validity × FlushExact × ReadFlushExact × PaddedFlush × PaddedRead × ReadsExactly × HomesStayApart × WidenedSame × UnmarkedAsBefore × NoneAsBefore × HomesExamples × MarkedRead × FreeSlotFound × SpoiltStays × ConfiguredStays × SendsExactly × RoomForCompaction × SendRoom × ChosenSent × ControlNeverCompact × LifeAsBefore × OtherLivesStay × SearchInverse × NoMapNoChange × MapRoundTrip × Cases × ControlCases × MapCases ⌝ }
+    ensures calls { λ _. ⌜ ReadRefusal × FlushRefusal × AgeingRefusal × WideningRefusal × ConvertRefusals × IngressRefusal × ReadingKeepsApart × FlushingKeepsApart × AgeingKeepsApart × LearningKeepsApart × ReadingLeavesAlone × FlushingLeavesAlone × AgeingLeavesAlone × LearningLeavesAlone ⌝ }
     ensures portions { λ _. ⌜ PortionExact × PortionsWhole × PortionsReach × PortionsEnd × Later × Passed × PortionRefusal × PortionKeepsApart × PortionLeavesAlone ⌝ }
     ensures laws { λ _. ⌜ Blocks × Maps × UnpackPacked × PackUnpacked × KeptWritesNothing × HeaderLocal × LabelLocal × LabelsGood × ReadsSame × ReadsParsed ⌝ }
     ensures writing { λ _. ⌜ WriterExact × WriterClears × WriterLength × WriterCalls × WriterCases ⌝ }

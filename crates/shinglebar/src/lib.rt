@@ -14,14 +14,15 @@ ghost use Rattle.portions.specs.Portion.{portioned};
 ghost use Rattle.portions.specs.Words.{portionWord};
 ghost use Rattle.flush_write.specs.Areas.{flushWritten};
 ghost use Rattle.flush_write.specs.Words.{writeWord};
-ghost use Rattle.receive.specs.Receive.{received};
+ghost use Rattle.receive.specs.Receive.{portReceived, received};
 ghost use Rattle.receive.specs.Words.{readWord, LabelFits};
 ghost use Rattle.receive.specs.declared.ReadAnswer.the-variants.{Delivered};
 ghost use Rattle.convert.specs.Compaction.{compacted};
 ghost use Rattle.convert.specs.Expansion.{expanded};
 ghost use Rattle.convert.specs.Sending.{sent};
+ghost use Rattle.ingress.specs.Ingress.{ingressed};
 ghost use Rattle.convert.specs.Words.{convertWord, sendWord};
-ghost use Rattle.shinglebar.specs.Arguments.{portSettingsOf, settingsOf, outerOf};
+ghost use Rattle.shinglebar.specs.Arguments.{portSettingsOf, settingsOf, outerOf, givenOf};
 use convert::ConvertAnswer;
 use convert::SendAnswer;
 use convert_expand::Outer;
@@ -29,6 +30,7 @@ use flush::FlushAnswer;
 use flush_write::WriteAnswer;
 use frame::Settings;
 use portions::PortionAnswer;
+use ingress::Given;
 use receive::ReadAnswer;
 use table::AgeAnswer;
 use table::FreeAnswer;
@@ -275,6 +277,37 @@ pub extern "C" fn shinglebar_receive(
     read_word(receive_call::receive(s, frame, table, out))
 }
 
+// Reading with all settings and with a port's map.
+#[no_mangle]
+pub extern "C" fn shinglebar_receive_port(
+    port: u64,
+    inner: u64,
+    nickname: u32,
+    compact: u32,
+    confidence: u32,
+    seconds: u32,
+    multihomed: u32,
+    smart: u32,
+    map: &[u8],
+    frame: &[u8],
+    table: &mut [u8],
+    out: &mut [u8],
+) -> u64
+    ensures { λ r. ⌜ onBoth r (now (table .exit)) (now (out .exit)) ≡ bothAs readWord (portReceived (portSettingsOf port inner nickname compact confidence seconds multihomed smart) (now (map .entry)) (now (frame .entry)) (now (table .entry)) (now (out .entry))) ⌝ }
+{
+    let s = port_settings(
+        port,
+        inner,
+        nickname,
+        compact,
+        confidence,
+        seconds,
+        multihomed,
+        smart,
+    );
+    read_word(receive_call::receive_port(s, map, frame, table, out))
+}
+
 fn convert_word(a: ConvertAnswer) -> u64
     ensures { λ r. ⌜ r ≡ convertWord a ⌝ }
 {
@@ -324,6 +357,39 @@ pub extern "C" fn shinglebar_expand(
         tag: tag,
     };
     convert_word(convert_expand::expand(s, u, frame, out))
+}
+
+// A native frame through a port's map.
+#[no_mangle]
+pub extern "C" fn shinglebar_ingress(
+    port: u64,
+    inner: u64,
+    nickname: u32,
+    compact: u32,
+    confidence: u32,
+    seconds: u32,
+    map: &[u8],
+    destination: u64,
+    source: u64,
+    m: u32,
+    hops: u32,
+    egress: u32,
+    ingress: u32,
+    frame: &[u8],
+    out: &mut [u8],
+) -> u64
+    ensures { λ r. ⌜ onArea r (now (out .exit)) ≡ areaAs convertWord (ingressed (settingsOf port inner nickname compact confidence seconds) (now (map .entry)) (givenOf destination source m hops egress ingress) (now (frame .entry)) (now (out .entry))) ⌝ }
+{
+    let s = settings(port, inner, nickname, compact, confidence, seconds);
+    let u = Given {
+        destination: destination,
+        source: source,
+        multicast: m,
+        hops: hops,
+        egress: egress,
+        ingress: ingress,
+    };
+    convert_word(ingress_call::ingress(s, map, u, frame, out))
 }
 
 pub fn send_word(a: SendAnswer) -> u64

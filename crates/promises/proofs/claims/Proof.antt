@@ -31,8 +31,12 @@ use Rattle.convert.proofs.Room.{room-for-compaction, send-room}
 use Rattle.convert.proofs.Sending.{sends-exactly}
 use Rattle.convert.proofs.Shown.{chosen-sent}
 use Rattle.receive.proofs.Outcomes.{read-refusal, reading-apart, reads-parsed, reading-leaves-alone, read-flush-exact}
+use Rattle.port_map.proofs.Searches.{search-inverse}
+use Rattle.receive.proofs.NoMap.{no-map-no-change}
 use Rattle.receive.proofs.Padded.{padded-read}
 use Rattle.receive.proofs.Order.{reads-exactly}
+use Rattle.ingress.proofs.Worked.{map-cases, ingress-refusal}
+use Rattle.ingress.proofs.Trip.{map-round-trip}
 use Rattle.promises.specs.Claims.{RefusalChangesNothing, HomesStayApart, SpoiltStays, ConfiguredStays}
 use Rattle.promises.proofs.Cases.{cases-hold, control-cases}
 use Rattle.promises.proofs.Example.{example-holds}
@@ -43,14 +47,14 @@ use Rattle.promises.proofs.claims.Statement.{statement}
 use Rattle.promises.proofs.claims.Tie as tie
 
 refusals : RefusalChangesNothing
-refusals = record { reading = read-refusal; flushing = flush-refusal; portion = portion-refusal; ageing = ageing-refusal; widening = widening-refusal; converting = convert-refusals }
+refusals = record { reading = read-refusal; flushing = flush-refusal; portion = portion-refusal; ageing = ageing-refusal; widening = widening-refusal; converting = convert-refusals; ingress = ingress-refusal }
 
 homes : HomesStayApart
 homes = record { reading = reading-apart; flushing = flushing-keeps-apart; portion = portion-keeps-apart; ageing = ageing-apart }
 
 stays-spoilt : SpoiltStays
 stays-spoilt = record {
-  reading = λ s f t o. reading-leaves-alone s f t o .spoilt;
+  reading = λ s m f t o. reading-leaves-alone s m f t o .spoilt;
   flushing = λ ingress l t. flushing-leaves-alone ingress l t .spoilt;
   portion = λ ingress l slot k t. portion-leaves-alone ingress l slot k t .spoilt;
   ageing = λ s t. ageing-leaves-alone s t .spoilt;
@@ -58,7 +62,7 @@ stays-spoilt = record {
 
 stays-configured : ConfiguredStays
 stays-configured = record {
-  reading = λ s f t o. reading-leaves-alone s f t o .configured;
+  reading = λ s m f t o. reading-leaves-alone s m f t o .configured;
   flushing = λ ingress l t. flushing-leaves-alone ingress l t .configured;
   portion = λ ingress l slot k t. portion-leaves-alone ingress l slot k t .configured;
   ageing = λ s t. ageing-leaves-alone s t .configured;
@@ -66,9 +70,9 @@ stays-configured = record {
 
 returns : tie.Need-returns
 returns c = (
-  (interchange, example-holds, expand-compacted, compact-expanded, refusals, validity, flush-exact, read-flush-exact, padded-flush, padded-read, reads-exactly, homes, widened-same, unmarked-as-before, none-as-before, homes-examples, marked-read, free-slot-found, stays-spoilt, stays-configured, sends-exactly, room-for-compaction, send-room, chosen-sent, control-never-compact, life-as-before, other-lives-stay, cases-hold, control-cases),
+  (interchange, example-holds, expand-compacted, compact-expanded, refusals, validity, flush-exact, read-flush-exact, padded-flush, padded-read, reads-exactly, homes, widened-same, unmarked-as-before, none-as-before, homes-examples, marked-read, free-slot-found, stays-spoilt, stays-configured, sends-exactly, room-for-compaction, send-room, chosen-sent, control-never-compact, life-as-before, other-lives-stay, search-inverse, no-map-no-change, map-round-trip, cases-hold, control-cases, map-cases),
   (
-    (read-refusal, flush-refusal, ageing-refusal, widening-refusal, convert-refusals, reading-apart, flushing-keeps-apart, ageing-apart, learning-apart, reading-leaves-alone, flushing-leaves-alone, ageing-leaves-alone, learning-leaves-alone),
+    (read-refusal, flush-refusal, ageing-refusal, widening-refusal, convert-refusals, ingress-refusal, reading-apart, flushing-keeps-apart, ageing-apart, learning-apart, reading-leaves-alone, flushing-leaves-alone, ageing-leaves-alone, learning-leaves-alone),
     (
       (portion-exact, portions-whole, portions-reach, portions-end, later, passed, portion-refusal, portion-keeps-apart, portion-leaves-alone),
       (
