@@ -39,17 +39,19 @@ static int find_changes(struct receiver *receiver, uint64_t answer, uint64_t sou
     const struct audience *audience = &receiver->options->audience;
     struct shadow *shadow = &receiver->shadow;
     unsigned kind = shinglebar_kind(answer), learning = shinglebar_learning(answer);
-    int learned = kind == SHINGLEBAR_RECEIVE_DELIVERED && learning <= SHINGLEBAR_LEARNING_REFRESHED;
-    if (learned || (kind == SHINGLEBAR_RECEIVE_FLUSHED && shinglebar_count(answer) > 0))
+    if (kind == SHINGLEBAR_RECEIVE_FLUSHED && shinglebar_count(answer) > 0)
         shadow_all(shadow, now, audience, changes);
-    if (kind != SHINGLEBAR_RECEIVE_DELIVERED || learning == SHINGLEBAR_LEARNING_FULL || changes->count > 0)
+    if (kind != SHINGLEBAR_RECEIVE_DELIVERED || learning == SHINGLEBAR_LEARNING_FULL)
         return -1;
+    int refreshed = learning == SHINGLEBAR_LEARNING_REFRESHED;
     const struct home home = {.kind = shinglebar_label_kind(answer),
                               .label = shinglebar_label(answer),
                               .mac = source,
                               .nickname = frame_ingress(frame),
                               .marked = frame_is_marked(frame, receiver->options->settings.multihomed)};
-    return shadow_judged(shadow, now, &home, learning == SHINGLEBAR_LEARNING_REFRESHED);
+    if (learning != SHINGLEBAR_LEARNING_KEPT)
+        shadow_learned(shadow, now, &home, refreshed, audience, changes);
+    return changes->count > 0 ? -1 : shadow_judged(shadow, now, &home, refreshed);
 }
 
 /* Where learning wrote or kept the same bytes, the slot is shown all the same. */
@@ -100,7 +102,7 @@ int receiver_open(struct receiver *receiver, const struct options *options)
     receiver->store.dry_run = options->dry_run;
     if (store_open(&receiver->store, options->table, options->slots) != 0)
         return 1;
-    shadow_copy(&receiver->shadow, &receiver->store.table);
+    shadow_begin(&receiver->shadow, &receiver->store.table);
     return 0;
 }
 

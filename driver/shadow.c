@@ -10,7 +10,7 @@ static int differs(const struct shadow *shadow, const struct table *now, unsigne
     return memcmp(table_slot(&shadow->table, slot), table_slot(now, slot), (size_t)slots * SHINGLEBAR_RECORD_LENGTH) != 0;
 }
 
-void shadow_copy(struct shadow *shadow, const struct table *now)
+static void copy(struct shadow *shadow, const struct table *now)
 {
     shadow->table.length = now->length;
     memcpy(shadow->table.bytes, now->bytes, now->length);
@@ -20,6 +20,28 @@ static uint16_t *guess_of(struct shadow *shadow, unsigned kind, uint32_t label, 
 {
     uint64_t mixed = (mac ^ (uint64_t)label << 24 ^ kind) * UINT64_C(0x9E3779B97F4A7C15);
     return &shadow->guess[mixed >> 32 & (SHADOW_GUESSES - 1)];
+}
+
+/* Whether the pair of a slot stands in a lower one; the guess is then this slot. */
+static int stands_lower(struct shadow *shadow, const struct table *now, unsigned slot)
+{
+    struct shinglebar_record record = table_record(now, slot);
+    if (!record_is_entry(&record))
+        return 0;
+    uint16_t *guess = guess_of(shadow, record.label_kind, record.label, record.mac);
+    struct shinglebar_record other = table_record(now, *guess);
+    int taken = *guess < slot && record_is_entry(&other) && guess_of(shadow, other.label_kind, other.label, other.mac) == guess;
+    int lower = taken && (record_holds(&other, record.label_kind, record.label, record.mac)
+                          || table_lowest(now, record.label_kind, record.label, record.mac) < (int)slot);
+    *guess = (uint16_t)slot;
+    return lower;
+}
+
+void shadow_begin(struct shadow *shadow, const struct table *now)
+{
+    copy(shadow, now);
+    for (unsigned slot = 0; slot < table_slots(now); slot++)
+        shadow->several |= stands_lower(shadow, now, slot);
 }
 
 /* A learned record that has the frame's nickname and mark is what refreshing it left. */
@@ -64,6 +86,19 @@ static void add_slot(struct shadow *shadow, const struct table *now, unsigned sl
     changes->concerning++;
 }
 
+/* A pair that stands once is refreshed where it stands. */
+void shadow_learned(struct shadow *shadow, const struct table *now, const struct home *home, int refreshed,
+                    const struct audience *audience, struct changes *changes)
+{
+    int slot = refreshed && !shadow->several ? shadow_judged(shadow, now, home, refreshed) : -1;
+    if (slot >= 0) {
+        add_slot(shadow, now, (unsigned)slot, audience, changes);
+        return;
+    }
+    shadow->several |= home->marked;
+    shadow_all(shadow, now, audience, changes);
+}
+
 void shadow_all(struct shadow *shadow, const struct table *now, const struct audience *audience, struct changes *changes)
 {
     unsigned slots = table_slots(now);
@@ -82,7 +117,7 @@ void shadow_freed(struct shadow *shadow, const struct table *now, const struct a
     for (unsigned slot = 0; slot < table_slots(now); slot++)
         if (table_slot(&shadow->table, slot)[0] != 0 && table_slot(now, slot)[0] == 0)
             add_slot(shadow, now, slot, audience, changes);
-    shadow_copy(shadow, now);
+    copy(shadow, now);
 }
 
 void change_put(struct text *to, const struct change *change)

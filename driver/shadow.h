@@ -21,22 +21,26 @@ struct changes {
     struct change list[CHANGES_NAMED];
 };
 
+/* `several` tells whether a pair may stand in several slots: then one frame can change many. */
 struct shadow {
     struct table table;
+    int several;
     uint16_t guess[SHADOW_GUESSES];
 };
 
 /* Puts the bytes of a record into a slot, and tells what that changed. */
 struct change change_make(struct table *table, unsigned slot, const uint8_t *bytes);
 
-/* Makes the copy anew. */
-void shadow_copy(struct shadow *shadow, const struct table *now);
+/* Makes the copy, of a shadow that is all zero. */
+void shadow_begin(struct shadow *shadow, const struct table *now);
 
-/* The slot that a frame was judged against where learning changed nothing: where it was refreshed by a guess that the bytes confirm. -1 if
+/* The slot that a frame was judged against, in the table after it: where the frame was refreshed by a guess that the bytes confirm. -1 if
  * there is none. */
 int shadow_judged(struct shadow *shadow, const struct table *now, const struct home *home, int refreshed);
 
-/* Adds what changed, or the slots that became free; the copy follows. */
+/* Adds what learning changed, or all that changed, or the slots that became free; the copy follows. */
+void shadow_learned(struct shadow *shadow, const struct table *now, const struct home *home, int refreshed,
+                    const struct audience *audience, struct changes *changes);
 void shadow_all(struct shadow *shadow, const struct table *now, const struct audience *audience,
                 struct changes *changes);
 void shadow_freed(struct shadow *shadow, const struct table *now, const struct audience *audience,

@@ -149,6 +149,12 @@ int table_find(const struct table *table, unsigned kind, uint32_t label, uint64_
     return found.configured >= 0 ? found.configured : found.lowest;
 }
 
+int table_lowest(const struct table *table, unsigned kind, uint32_t label, uint64_t mac)
+{
+    const struct home home = {.kind = kind, .label = label, .mac = mac};
+    return find_homes(table, &home).lowest;
+}
+
 int table_judged(const struct table *table, const struct home *home)
 {
     struct homes found = find_homes(table, home);

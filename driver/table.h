@@ -51,6 +51,9 @@ struct shinglebar_record table_record(const struct table *table, unsigned slot);
 /* Among the learned and configured slots with this label and address: the lowest configured one, else the lowest; -1 if there is none. */
 int table_find(const struct table *table, unsigned kind, uint32_t label, uint64_t mac);
 
+/* The lowest of them. */
+int table_lowest(const struct table *table, unsigned kind, uint32_t label, uint64_t mac);
+
 /* The slot that learning judges a frame against, or -1 if it fills a free one. */
 int table_judged(const struct table *table, const struct home *home);
 
