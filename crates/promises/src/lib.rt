@@ -7,6 +7,8 @@ ghost use Rattle.flush.specs.Padding.{PaddedFlush};
 ghost use Rattle.flush.specs.Validity.{Validity};
 ghost use Rattle.portions.specs.Claims.{PortionExact, PortionsWhole, PortionsReach, PortionsEnd, PortionRefusal, PortionKeepsUnique, PortionLeavesAlone};
 ghost use Rattle.portions.specs.Between.{Later, Passed};
+ghost use Rattle.models.specs.Claims.{FullModel, VlanOnly};
+ghost use Rattle.models.specs.Example.{NotPromised};
 ghost use Rattle.frame.specs.Claims.{HeaderLocal, LabelLocal, LabelsGood};
 ghost use Rattle.convert.specs.Claims.{ReadsSame, ExpandCompacted, CompactExpanded, ConvertRefusals, SendsExactly, RoomForCompaction, SendRoom, ControlNeverCompact};
 ghost use Rattle.convert.specs.Chosen.{ChosenSent};
@@ -22,5 +24,6 @@ pub fn claims()
     ensures demands { λ _. ⌜ Interchange × InterchangeExample × ExpandCompacted × CompactExpanded × RefusalChangesNothing × Validity × FlushExact × ReadFlushExact × PaddedFlush × PaddedRead × ReadsExactly × PairsStayUnique × SpoiltStays × ConfiguredStays × SendsExactly × RoomForCompaction × SendRoom × ChosenSent × ControlNeverCompact × LifeAsBefore × OtherLivesStay × Cases × ControlCases ⌝ }
     ensures calls { λ _. ⌜ ReadRefusal × FlushRefusal × AgeingRefusal × ConvertRefusals × ReadingKeepsUnique × FlushingKeepsUnique × AgeingKeepsUnique × LearningKeepsUnique × ReadingLeavesAlone × FlushingLeavesAlone × AgeingLeavesAlone × LearningLeavesAlone ⌝ }
     ensures portions { λ _. ⌜ PortionExact × PortionsWhole × PortionsReach × PortionsEnd × Later × Passed × PortionRefusal × PortionKeepsUnique × PortionLeavesAlone ⌝ }
+    ensures models { λ _. ⌜ FullModel × VlanOnly × NotPromised ⌝ }
     ensures laws { λ _. ⌜ Blocks × Maps × UnpackPacked × PackUnpacked × KeptWritesNothing × HeaderLocal × LabelLocal × LabelsGood × ReadsSame × ReadsParsed ⌝ }
 {}

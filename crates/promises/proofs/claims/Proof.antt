@@ -13,6 +13,8 @@ use Rattle.portions.proofs.Portions.{portion-exact, portion-refusal}
 use Rattle.portions.proofs.Runs.{portions-whole, portions-reach, portions-end}
 use Rattle.portions.proofs.Keeping.{portion-keeps-unique, portion-leaves-alone}
 use Rattle.portions.proofs.Between.{later, passed}
+use Rattle.models.proofs.Models.{full-model, vlan-only}
+use Rattle.models.proofs.Example.{not-promised}
 use Rattle.frame.proofs.Local.{header-local, label-local, labels-good}
 use Rattle.convert.proofs.Areas.{convert-refusals}
 use Rattle.convert.proofs.Compacting.{reads-same}
@@ -60,7 +62,10 @@ returns c = (
     (read-refusal, flush-refusal, ageing-refusal, convert-refusals, reading-unique, flushing-keeps-unique, ageing-unique, learning-unique, reading-leaves-alone, flushing-leaves-alone, ageing-leaves-alone, learning-leaves-alone),
     (
       (portion-exact, portions-whole, portions-reach, portions-end, later, passed, portion-refusal, portion-keeps-unique, portion-leaves-alone),
-      (blocks-hold, maps-hold, unpack-packed, pack-unpacked, kept-writes-nothing, header-local, label-local, labels-good, reads-same, reads-parsed),
+      (
+        (full-model, vlan-only, not-promised),
+        (blocks-hold, maps-hold, unpack-packed, pack-unpacked, kept-writes-nothing, header-local, label-local, labels-good, reads-same, reads-parsed),
+      ),
     ),
   ),
 )
