@@ -19,6 +19,6 @@ mod settings;
 mod table;
 
 pub use convert::{compact, expand, send};
-pub use flush::{flush, flush_portion};
+pub use flush::{flush, flush_portion, flush_vlan_only};
 pub use receive::receive;
 pub use table::{age, lookup, spoilt};

@@ -13,6 +13,7 @@ mod receive;
 mod record;
 mod refusal;
 mod settings;
+mod small;
 mod table;
 
 pub use convert::{compact, expand, send, WORKING_AREA};
@@ -23,6 +24,7 @@ pub use receive::{receive, receive_with};
 pub use record::{read, write, Entry, Label, Record, RECORD};
 pub use refusal::Refusal;
 pub use settings::{Settings, DEFAULT_LIFE, OLD_LIFE};
+pub use small::flush_vlan_only;
 pub use table::{age, lookup, spoilt};
 
 /// "Numbers are most significant byte first."
