@@ -59,8 +59,8 @@
 #define SHINGLEBAR_WRITTEN_LENGTH_MAX 6172
 
 /* The bytes of stack that a call takes at most: any call (a long flush takes most, so a frame that
- * brings one does), and a call that carries out no flush, which is every call but receive, flush and
- * flush_portion.
+ * brings one does), and a call that carries out no flush, which is every call but receive, flush,
+ * flush_vlan_only and flush_portion.
  * Measured on x86-64: tests/c/stack.c paints the stack of a thread, makes the calls that take most, and
  * fails where one takes more. What the dynamic loader takes when it binds memmove and memset, about
  * 3,000 bytes, is counted. */
@@ -273,6 +273,12 @@ uint64_t shinglebar_widen(const uint8_t *old, size_t old_len, uint8_t *out, size
  * matches no record. Zero bytes after a good payload, with which links pad frames, mean nothing. */
 uint64_t shinglebar_flush(uint32_t ingress, const uint8_t *payload, size_t payload_len,
                           uint8_t *table, size_t table_len);
+
+/* Carries out the payload as the VLAN-only model does, which knows the types 1, 2 and 6 and skips all
+ * others by their length, so that every MAC is meant (docs/MODELS.md). What flush accepts it accepts. The
+ * answers are those of flush. */
+uint64_t shinglebar_flush_vlan_only(uint32_t ingress, const uint8_t *payload, size_t payload_len,
+                                    uint8_t *table, size_t table_len);
 
 /* Carries out a portion of such a flush: examines the slots from `slot` on, the smaller of k and those
  * left, clears those that the whole flush would clear in this table, and answers the slot to go on from,
@@ -562,6 +568,14 @@ static inline uint64_t shinglebar_flush_any(uint32_t ingress, const uint8_t *pay
 {
     return shinglebar_flush(ingress, shinglebar_const_area(payload, payload_len), payload_len,
                             shinglebar_area(table, table_len), table_len);
+}
+
+static inline uint64_t shinglebar_flush_vlan_only_any(uint32_t ingress, const uint8_t *payload,
+                                                      size_t payload_len, uint8_t *table,
+                                                      size_t table_len)
+{
+    return shinglebar_flush_vlan_only(ingress, shinglebar_const_area(payload, payload_len), payload_len,
+                                      shinglebar_area(table, table_len), table_len);
 }
 
 static inline uint64_t shinglebar_flush_portion_any(uint32_t ingress, const uint8_t *payload,

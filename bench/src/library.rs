@@ -5,8 +5,8 @@
 
 pub use shinglebar::exports::{
     shinglebar_age, shinglebar_compact, shinglebar_expand, shinglebar_flush,
-    shinglebar_flush_portion, shinglebar_free_slot, shinglebar_lookup, shinglebar_receive,
-    shinglebar_send, shinglebar_spoilt, shinglebar_write_flush,
+    shinglebar_flush_portion, shinglebar_flush_vlan_only, shinglebar_free_slot, shinglebar_lookup,
+    shinglebar_receive, shinglebar_send, shinglebar_spoilt, shinglebar_write_flush,
 };
 
 pub type Lookup = unsafe extern "C" fn(

@@ -5,7 +5,7 @@
 //! | receive | 64 onward | |
 //! | receive | 65 delivered | 8..23 length, 24..25 learning, 32 label kind, 40..63 label |
 //! | receive | 66 other channel | |
-//! | receive, flush | 67 flushed | 8..23 records cleared |
+//! | receive, flush, flush_vlan_only | 67 flushed | 8..23 records cleared |
 //! | flush_portion | 64 portion done | 8..23 cleared, 24..39 next slot, 40..55 examined |
 //! | compact, expand, widen, write_flush | 64 written | 8..23 length |
 //! | send | 64 compacted | 8..23 length |

@@ -34,6 +34,14 @@ extern "C" {
         table_len: usize,
     ) -> u64;
 
+    pub fn shinglebar_flush_vlan_only(
+        ingress: u32,
+        payload: *const u8,
+        payload_len: usize,
+        table: *mut u8,
+        table_len: usize,
+    ) -> u64;
+
     pub fn shinglebar_flush_portion(
         ingress: u32,
         payload: *const u8,

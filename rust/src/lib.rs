@@ -10,6 +10,7 @@
 //! | [`receive`] | reads a frame: delivers a native frame and learns its source, or carries out a flush |
 //! | [`flush`] | carries out the payload of an Address Flush |
 //! | [`flush_portion`] | carries out a portion of it, at most so many slots |
+//! | [`flush_vlan_only`] | carries it out as the VLAN-only model does |
 //! | [`compact`], [`expand`] | convert between General and Compact Format |
 //! | [`send`] | chooses what to send to a far port |
 //! | [`lookup`], [`age`], [`spoilt`], [`free_slot`] | the address table |
@@ -149,6 +150,25 @@ pub fn receive(
 #[inline]
 pub fn flush(ingress: u16, payload: &[u8], table: &mut [u8]) -> Result<Flushed, Refusal> {
     answered(raw::flush(u32::from(ingress), payload, table))
+}
+
+/// Carries out the payload of an Address Flush as the VLAN-only model does: of the TLVs it knows the types
+/// 1, 2 and 6 and skips all others by their length, so that every MAC is meant. What [`flush`] accepts it
+/// accepts, and of VLAN records it clears at least those that [`flush`] clears.
+///
+/// ```
+/// use shinglebar::{Flushed, Refusal};
+///
+/// // All labels, and a list of MACs of one byte: corrupt to the full model.
+/// let payload = [0x00, 0x00, 0x06, 0x00, 0x07, 0x01, 0x00];
+/// let mut table = [0; shinglebar::RECORD_LENGTH];
+/// assert_eq!(shinglebar::flush(0x1234, &payload, &mut table), Err(Refusal::Payload));
+/// let flushed = shinglebar::flush_vlan_only(0x1234, &payload, &mut table);
+/// assert_eq!(flushed, Ok(Flushed { count: 0 }));
+/// ```
+#[inline]
+pub fn flush_vlan_only(ingress: u16, payload: &[u8], table: &mut [u8]) -> Result<Flushed, Refusal> {
+    answered(raw::flush_vlan_only(u32::from(ingress), payload, table))
 }
 
 /// Carries out a portion of an Address Flush: examines at most `k` slots from `slot` on, and says

@@ -75,6 +75,22 @@ pub fn flush(ingress: u32, payload: &[u8], table: &mut [u8]) -> u64 {
     }
 }
 
+/// Carries out the payload of an Address Flush as the VLAN-only model does.
+#[inline]
+pub fn flush_vlan_only(ingress: u32, payload: &[u8], table: &mut [u8]) -> u64 {
+    // SAFETY: two slices: neither is null, each is as long as said, and the one that is lent for
+    // writing overlaps nothing, being `&mut`.
+    unsafe {
+        exports::shinglebar_flush_vlan_only(
+            ingress,
+            payload.as_ptr(),
+            payload.len(),
+            table.as_mut_ptr(),
+            table.len(),
+        )
+    }
+}
+
 /// Carries out a portion of a flush: at most `k` slots from the slot on.
 #[inline]
 pub fn flush_portion(ingress: u32, payload: &[u8], slot: u64, k: u64, table: &mut [u8]) -> u64 {

@@ -24,6 +24,8 @@ int main(void)
     for (at = 0; at < sizeof table; at++) {
         expect("byte", table[at], 0);
     }
+    expect("VLAN-only, both NULL", shinglebar_flush_vlan_only_any(0x1234, NULL, 0, NULL, 0), 2);
+    expect("VLAN-only, payload NULL", shinglebar_flush_vlan_only_any(0x1234, NULL, 0, table, sizeof table), 15);
     expect("portion, both NULL", shinglebar_flush_portion_any(0x1234, NULL, 0, 0, 1, NULL, 0), 2);
     expect("portion, payload NULL",
            shinglebar_flush_portion_any(0x1234, NULL, 0, 0, 1, table, sizeof table), 15);

@@ -151,6 +151,11 @@ static uint64_t call_flush(void)
     return shinglebar_flush(0x1234, payload, payload_length, table, sizeof table);
 }
 
+static uint64_t call_vlan_only(void)
+{
+    return shinglebar_flush_vlan_only(0x1234, payload, payload_length, table, sizeof table);
+}
+
 static uint64_t call_portion(void)
 {
     return shinglebar_flush_portion(0x1234, payload, payload_length, 0, sizeof table, table, sizeof table);
@@ -278,7 +283,7 @@ static void flushes(void)
                                      1u << 6, 1u << 7, 1u << 7 | 1u << 6, 1u << 8 | 1u << 6, 0x1FE};
     static const size_t ROOMS[] = {40, 144, 160, 768, 800, 3000, 9170, 9290, 9320, PAYLOAD_MAX};
     static const unsigned NICKNAMES[] = {0, 1, 2, 255};
-    size_t flush = 0, portion = 0, receive = 0, took, t, r, n;
+    size_t flush = 0, portion = 0, vlan_only = 0, receive = 0, took, t, r, n;
     for (t = 0; t < sizeof TYPES / sizeof TYPES[0]; t++)
         for (r = 0; r < sizeof ROOMS / sizeof ROOMS[0]; r++)
             for (n = 0; n < sizeof NICKNAMES / sizeof NICKNAMES[0]; n++) {
@@ -287,6 +292,8 @@ static void flushes(void)
                 flush = took > flush ? took : flush;
                 took = taken("flush_portion", call_portion, SHINGLEBAR_FLUSH_PORTION_DONE);
                 portion = took > portion ? took : portion;
+                took = taken("flush_vlan_only", call_vlan_only, SHINGLEBAR_FLUSH_FLUSHED);
+                vlan_only = took > vlan_only ? took : vlan_only;
                 if (payload_length > sizeof frame - 46)
                     continue;
                 make_flush_frame();
@@ -295,6 +302,7 @@ static void flushes(void)
             }
     within("flush", flush, SHINGLEBAR_STACK_MAX);
     within("flush_portion", portion, SHINGLEBAR_STACK_MAX);
+    within("flush_vlan_only", vlan_only, SHINGLEBAR_STACK_MAX);
     within("receive with a flush", receive, SHINGLEBAR_STACK_MAX);
 }
 

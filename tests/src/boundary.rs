@@ -52,6 +52,19 @@ pub fn flush(lender: &mut impl Lend, ingress: u32, payload: &[u8], table: &mut [
     ))
 }
 
+pub fn flush_vlan_only(
+    lender: &mut impl Lend,
+    ingress: u32,
+    payload: &[u8],
+    table: &mut [u8],
+) -> u64 {
+    known::<Flushed>(lender.lend(
+        ("payload", payload),
+        [("table", table)],
+        |payload, [table]| raw::flush_vlan_only(ingress, payload, table),
+    ))
+}
+
 pub fn flush_portion(
     lender: &mut impl Lend,
     ingress: u32,

@@ -97,6 +97,27 @@ pub fn flush(lender: &mut impl Lend, ingress: u32, payload: &[u8], table: &mut [
     paper
 }
 
+pub fn flush_vlan_only(
+    lender: &mut impl Lend,
+    ingress: u32,
+    payload: &[u8],
+    table: &mut [u8],
+) -> u64 {
+    let given = table.to_vec();
+    let mut after = table.to_vec();
+    let library = boundary::flush_vlan_only(lender, ingress, payload, &mut after);
+    let paper = reference::flush_vlan_only(ingress, payload, table);
+    assert!(
+        library == paper && after == table,
+        "flush_vlan_only: {}{}ingress {ingress:#x}\npayload {}\ntable {}",
+        words(library, paper),
+        difference("table", &after, table),
+        hex(payload),
+        hex(&given)
+    );
+    paper
+}
+
 pub fn flush_portion(
     lender: &mut impl Lend,
     ingress: u32,

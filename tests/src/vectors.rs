@@ -69,6 +69,10 @@ enum Call {
         slot: u64,
         k: u64,
     },
+    VlanOnly {
+        ingress: u32,
+        payload: Vec<u8>,
+    },
 }
 
 /// The number of the search for a free slot (2026-04).
@@ -90,6 +94,7 @@ pub const ANSWERS: &[(u8, Answers)] = &[
     (FREE_SLOT, run::FREE_SLOT),
     (WIDEN, run::WIDEN),
     (0x25, run::PORTION),
+    (0x27, run::FLUSH),
 ];
 
 fn settings_bytes(settings: &Settings) -> Vec<u8> {
@@ -186,6 +191,7 @@ impl Call {
             Call::Send { .. } => 8,
             Call::Widen { .. } => WIDEN,
             Call::Portion { .. } => 0x25,
+            Call::VlanOnly { .. } => 0x27,
         }
     }
 
@@ -202,7 +208,8 @@ impl Call {
             | Call::Lookup { .. }
             | Call::Spoilt
             | Call::FreeSlot
-            | Call::Portion { .. } => 0,
+            | Call::Portion { .. }
+            | Call::VlanOnly { .. } => 0,
         }
     }
 
@@ -239,7 +246,9 @@ impl Call {
                 frame,
             ]
             .concat(),
-            Call::Flush { ingress, payload } => [&ingress.to_be_bytes()[..], payload].concat(),
+            Call::Flush { ingress, payload } | Call::VlanOnly { ingress, payload } => {
+                [&ingress.to_be_bytes()[..], payload].concat()
+            }
             Call::Age { seconds } => seconds.to_be_bytes().to_vec(),
             Call::Lookup { kind, label, mac } => [
                 &kind.to_be_bytes()[..],
@@ -283,6 +292,9 @@ impl Call {
                 slot,
                 k,
             } => reference::flush_portion(*ingress, payload, *slot, *k, table),
+            Call::VlanOnly { ingress, payload } => {
+                reference::flush_vlan_only(*ingress, payload, table)
+            }
             Call::Compact {
                 settings,
                 room,
@@ -496,6 +508,21 @@ fn offer_portions(replay: &mut Replay) {
     }
 }
 
+/// The VLAN-only model (2026-07): the message that only it carries out, and any.
+fn offer_vlan_only(replay: &mut Replay) {
+    for case in 0..2000 {
+        let random = &mut Random::for_case(2607, case);
+        let pool = Pool::new(random);
+        let table = small_table(random, &pool);
+        let payload = match case {
+            0 => vec![0x00, 0x00, 0x06, 0x00, 0x07, 0x01, 0x00],
+            _ => generate::payload(random, &pool),
+        };
+        let ingress = u32::from(pool.nicknames[0]);
+        replay.offer(table, &Call::VlanOnly { ingress, payload });
+    }
+}
+
 /// The input and the output of the program; always the same ones.
 pub fn files() -> (String, String) {
     let mut replay = Replay {
@@ -531,6 +558,7 @@ pub fn files() -> (String, String) {
         replay.offer(replay.table.clone(), &call);
     }
     offer_portions(&mut replay);
+    offer_vlan_only(&mut replay);
     let mut case = 0;
     while !replay.is_whole() {
         assert!(

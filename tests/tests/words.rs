@@ -421,7 +421,7 @@ fn a_word_that_is_no_answer_is_not_taken_for_one() {
     check_words::<Portioned>(
         "flush_portion",
         run::PORTION,
-        &[bits(64, 0xFF_FFFF_FFFF_FF00, 0x0000_0100_0100_0040)],
+        &[bits(64, 0x001F_FF1F_FF1F_FF00, 0x0000_0100_0100_0040)],
     );
     check_words::<Compacted>("compact", run::COMPACT, &[bits(64, ONE_VALUE, 0x1040)]);
     check_words::<Expanded>("expand", run::EXPAND, &[bits(64, ONE_VALUE, 0x1040)]);

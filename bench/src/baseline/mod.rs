@@ -21,7 +21,7 @@ mod table;
 mod write;
 
 pub use convert::{compact, expand, send};
-pub use flush::{flush, flush_portion};
+pub use flush::{flush, flush_portion, flush_vlan_only};
 pub use receive::receive;
 pub use table::{age, free_slot, lookup, spoilt};
 pub use write::write_flush;

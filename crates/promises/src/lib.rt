@@ -11,6 +11,8 @@ ghost use Rattle.portions.specs.Claims.{PortionExact, PortionsWhole, PortionsRe
 ghost use Rattle.portions.specs.Between.{Later, Passed};
 ghost use Rattle.flush_write.specs.Cases.{WriterCases};
 ghost use Rattle.flush_write.specs.Claims.{WriterExact, WriterClears, WriterLength, WriterCalls};
+ghost use Rattle.models.specs.Claims.{FullModel, VlanOnly};
+ghost use Rattle.models.specs.Example.{NotPromised};
 ghost use Rattle.frame.specs.Claims.{HeaderLocal, LabelLocal, LabelsGood};
 ghost use Rattle.convert.specs.Claims.{ReadsSame, ExpandCompacted, CompactExpanded, ConvertRefusals, SendsExactly, RoomForCompaction, SendRoom, ControlNeverCompact};
 ghost use Rattle.convert.specs.Chosen.{ChosenSent};
@@ -30,6 +32,7 @@ pub fn claims()
     ensures demands { λ _. ⌜ Interchange × InterchangeExample × ExpandCompacted × CompactExpanded × RefusalChangesNothing × Validity × FlushExact × ReadFlushExact × PaddedFlush × PaddedRead × ReadsExactly × HomesStayApart × WidenedSame × UnmarkedAsBefore × NoneAsBefore × HomesExamples × MarkedRead × FreeSlotFound × SpoiltStays × ConfiguredStays × SendsExactly × RoomForCompaction × SendRoom × ChosenSent × ControlNeverCompact × LifeAsBefore × OtherLivesStay × SearchInverse × NoMapNoChange × MapRoundTrip × Cases × ControlCases × MapCases ⌝ }
     ensures calls { λ _. ⌜ ReadRefusal × FlushRefusal × AgeingRefusal × WideningRefusal × ConvertRefusals × IngressRefusal × ReadingKeepsApart × FlushingKeepsApart × AgeingKeepsApart × LearningKeepsApart × ReadingLeavesAlone × FlushingLeavesAlone × AgeingLeavesAlone × LearningLeavesAlone ⌝ }
     ensures portions { λ _. ⌜ PortionExact × PortionsWhole × PortionsReach × PortionsEnd × Later × Passed × PortionRefusal × PortionKeepsApart × PortionLeavesAlone ⌝ }
+    ensures models { λ _. ⌜ FullModel × VlanOnly × NotPromised ⌝ }
     ensures laws { λ _. ⌜ Blocks × Maps × UnpackPacked × PackUnpacked × KeptWritesNothing × HeaderLocal × LabelLocal × LabelsGood × ReadsSame × ReadsParsed ⌝ }
     ensures writing { λ _. ⌜ WriterExact × WriterClears × WriterLength × WriterCalls × WriterCases ⌝ }
 {}

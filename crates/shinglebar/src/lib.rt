@@ -10,6 +10,7 @@ ghost use Rattle.table.specs.Widening.{widened};
 ghost use Rattle.table.specs.Words.{lookupWord, ageWord, spoiltWord, freeWord, widenWord, learningNumber};
 ghost use Rattle.flush.specs.Flush.{flushed};
 ghost use Rattle.flush.specs.Words.{flushWord};
+ghost use Rattle.models.specs.Models.{flushedVlanOnly};
 ghost use Rattle.portions.specs.Portion.{portioned};
 ghost use Rattle.portions.specs.Words.{portionWord};
 ghost use Rattle.flush_write.specs.Areas.{flushWritten};
@@ -140,6 +141,13 @@ pub extern "C" fn shinglebar_flush(ingress: u32, payload: &[u8], table: &mut [u8
     ensures { λ r. ⌜ onTable r (now (table .exit)) ≡ tableAs flushWord (flushed ingress (now (payload .entry)) (now (table .entry))) ⌝ }
 {
     flush_word(flush_call::flush(ingress, payload, table))
+}
+
+#[no_mangle]
+pub extern "C" fn shinglebar_flush_vlan_only(ingress: u32, payload: &[u8], table: &mut [u8]) -> u64
+    ensures { λ r. ⌜ onTable r (now (table .exit)) ≡ tableAs flushWord (flushedVlanOnly ingress (now (payload .entry)) (now (table .entry))) ⌝ }
+{
+    flush_word(models_call::flush_vlan_only(ingress, payload, table))
 }
 
 fn portion_word(a: PortionAnswer) -> u64

@@ -67,6 +67,15 @@ fn take_byte(rest: &mut &[u8]) -> Result<u8, Refusal> {
 
 /// "Payload: K-nicks (1 byte), that many 2-byte nicknames, K-VLBs (1 byte)."
 pub(super) fn read_payload(ingress: u32, payload: &[u8]) -> Result<Meant, Refusal> {
+    read_payload_of(|_| true, ingress, payload)
+}
+
+/// The same of a box that implements these types; others are "skipped by length (house rule)".
+pub(super) fn read_payload_of(
+    implements: fn(u8) -> bool,
+    ingress: u32,
+    payload: &[u8],
+) -> Result<Meant, Refusal> {
     let mut rest = payload;
     let mut meant = Meant::default();
 
@@ -91,7 +100,9 @@ pub(super) fn read_payload(ingress: u32, payload: &[u8]) -> Result<Meant, Refusa
             let kind = take_byte(&mut rest)?;
             let length = usize::from(take_byte(&mut rest)?);
             let value = take(&mut rest, length)?;
-            read_value(&mut meant, kind, value)?;
+            if implements(kind) {
+                read_value(&mut meant, kind, value)?;
+            }
         }
     }
     Ok(meant)

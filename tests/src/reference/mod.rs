@@ -14,6 +14,7 @@ mod receive;
 mod record;
 mod refusal;
 mod settings;
+mod small;
 mod table;
 mod write;
 
@@ -26,6 +27,7 @@ pub use receive::{receive, receive_homes, receive_with};
 pub use record::{read, write, Entry, Label, Record, OLD_RECORD, RECORD, SLOTS, TABLE};
 pub use refusal::Refusal;
 pub use settings::{Settings, DEFAULT_LIFE, OLD_LIFE};
+pub use small::flush_vlan_only;
 pub use table::{age, free_slot, lookup, spoilt};
 pub use write::{write_flush, Block, Lists};
 

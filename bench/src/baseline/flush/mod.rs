@@ -41,19 +41,43 @@ pub unsafe extern "C" fn flush(
     clear(ingress, payload, slots).unwrap_or_else(|refusal| refusal)
 }
 
+/// The flush of a box that knows VLANs and all labels alone.
+#[inline(never)]
+pub unsafe extern "C" fn flush_vlan_only(
+    ingress: u32,
+    payload: *const u8,
+    payload_len: usize,
+    table: *mut u8,
+    table_len: usize,
+) -> u64 {
+    let Some(slots) = slots_mut(table, table_len) else {
+        return refusal::TABLE_LENGTH;
+    };
+    let payload = slice::from_raw_parts(payload, payload_len);
+    match Payload::judged_small(payload) {
+        Some(payload) => clear_judged(ingress, &payload, slots),
+        None => refusal::PAYLOAD,
+    }
+}
+
 /// Clears what the payload means, and gives the answer.
 pub fn clear(ingress: u32, payload: &[u8], slots: &mut [Slot]) -> Result<u64, u64> {
     let payload = Payload::judged(payload).ok_or(refusal::PAYLOAD)?;
+    Ok(clear_judged(ingress, &payload, slots))
+}
+
+#[inline(always)]
+fn clear_judged(ingress: u32, payload: &Payload, slots: &mut [Slot]) -> u64 {
     let cleared = if payload.names_labels() {
         match payload.nicknames {
-            [] => clear_one(ingress, &payload, slots),
-            [one] => clear_one(u32::from(u16::from_be_bytes(*one)), &payload, slots),
-            several => clear_of(&Several::new(several), &payload, slots),
+            [] => clear_one(ingress, payload, slots),
+            [one] => clear_one(u32::from(u16::from_be_bytes(*one)), payload, slots),
+            several => clear_of(&Several::new(several), payload, slots),
         }
     } else {
         0
     };
-    Ok(FLUSHED | cleared << 8)
+    FLUSHED | cleared << 8
 }
 
 /// Clears for one nickname, which may be none that a record holds.

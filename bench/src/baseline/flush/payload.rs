@@ -23,6 +23,17 @@ impl<'a> Payload<'a> {
     /// None if the payload is corrupt.
     #[inline(always)]
     pub fn judged(payload: &'a [u8]) -> Option<Payload<'a>> {
+        Payload::judged_by(payload, types)
+    }
+
+    /// The same of a box that knows VLANs and all labels alone.
+    #[inline(always)]
+    pub fn judged_small(payload: &'a [u8]) -> Option<Payload<'a>> {
+        Payload::judged_by(payload, small_types)
+    }
+
+    #[inline(always)]
+    fn judged_by(payload: &'a [u8], types: impl Fn(&[u8]) -> Option<u16>) -> Option<Payload<'a>> {
         let (count, rest) = payload.split_first()?;
         let (nicknames, rest) = rest.split_at_checked(2 * usize::from(*count))?;
         let (count, rest) = rest.split_first()?;
@@ -95,6 +106,37 @@ fn types(mut tlvs: &[u8]) -> Option<u16> {
         types |= 1_u16.checked_shl(u32::from(*kind)).unwrap_or(0) & NAMING;
     }
     // A lone last zero is padding.
+    (matches!(tlvs, [] | [0]) && types & CORRUPT == 0).then_some(types)
+}
+
+/// What an empty TLV adds for a box that knows VLANs and all labels alone.
+const SMALL_EMPTY: [u16; 256] = {
+    let mut types = [0; 256];
+    types[ALL_LABELS as usize] = 1 << ALL_LABELS;
+    types[VLAN_MAP as usize] = CORRUPT;
+    types
+};
+
+/// The types that it knows; others are skipped by length.
+#[inline(never)]
+fn small_types(mut tlvs: &[u8]) -> Option<u16> {
+    let mut types = 0;
+    loop {
+        while let [kind, 0, rest @ ..] = tlvs {
+            types |= SMALL_EMPTY[usize::from(*kind)];
+            tlvs = rest;
+        }
+        let [kind, length, rest @ ..] = tlvs else {
+            break;
+        };
+        tlvs = rest.get(usize::from(*length)..)?;
+        if matches!(*kind, VLAN_BLOCKS | VLAN_MAP | ALL_LABELS) {
+            if !length_good(*kind, *length) {
+                return None;
+            }
+            types |= 1 << kind;
+        }
+    }
     (matches!(tlvs, [] | [0]) && types & CORRUPT == 0).then_some(types)
 }
 

@@ -2,6 +2,7 @@
 //! whose nicknames no record has.
 
 mod portions;
+mod small;
 mod worst;
 
 use crate::baseline;
@@ -36,6 +37,7 @@ pub fn run(report: &Report) {
     many_nicknames(report);
     worst::rows(report);
     portions::rows(report);
+    small::rows(report);
     growth_with_table(report);
     worst::growth(report);
     worst::unknown_nicknames(report);

@@ -243,6 +243,18 @@ pub fn labels() -> (Vec<Tlv>, Vec<Entry>) {
     TYPE_4_LABELS.message(LENGTH)
 }
 
+/// The longest messages of labels, which the small model skips, of VLAN blocks, and of empty unknown TLVs.
+pub fn longest() -> [(&'static str, Vec<Tlv>, Vec<Entry>); 3] {
+    let (labels, first) = TYPE_4_LABELS.message(LENGTH);
+    let (blocks, second) = TYPE_1_BLOCKS.message(LENGTH);
+    let (empty, third) = empty_tlvs();
+    [
+        ("9,000 bytes of type 4 labels", labels, first),
+        ("9,000 bytes of type 1 blocks", blocks, second),
+        ("9,000 bytes of empty unknown TLVs, type 6", empty, third),
+    ]
+}
+
 pub fn rows(report: &Report) {
     for worst in &WORST {
         let (tlvs, entries) = worst.message(LENGTH);

@@ -23,6 +23,8 @@ use Rattle.flush_write.proofs.Clears.{writer-clears}
 use Rattle.flush_write.proofs.Bounds.{writer-length}
 use Rattle.flush_write.proofs.Calls.{writer-calls}
 use Rattle.flush_write.proofs.Worked.{writer-cases}
+use Rattle.models.proofs.Models.{full-model, vlan-only}
+use Rattle.models.proofs.Example.{not-promised}
 use Rattle.frame.proofs.Local.{header-local, label-local, labels-good}
 use Rattle.convert.proofs.Areas.{convert-refusals}
 use Rattle.convert.proofs.Compacting.{reads-same}
@@ -76,8 +78,11 @@ returns c = (
     (
       (portion-exact, portions-whole, portions-reach, portions-end, later, passed, portion-refusal, portion-keeps-apart, portion-leaves-alone),
       (
-        (blocks-hold, maps-hold, unpack-packed, pack-unpacked, kept-writes-nothing, header-local, label-local, labels-good, reads-same, reads-parsed),
-        (writer-exact, writer-clears, writer-length, writer-calls, writer-cases),
+        (full-model, vlan-only, not-promised),
+        (
+          (blocks-hold, maps-hold, unpack-packed, pack-unpacked, kept-writes-nothing, header-local, label-local, labels-good, reads-same, reads-parsed),
+          (writer-exact, writer-clears, writer-length, writer-calls, writer-cases),
+        ),
       ),
     ),
   ),

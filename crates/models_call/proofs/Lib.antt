@@ -1,0 +1,3 @@
+-- Laws of the small model's flush.
+pub mod Marks
+pub mod Calls
