@@ -10,6 +10,7 @@ ghost use Rattle.convert.specs.Claims.{ReadsSame, ExpandCompacted, CompactExpan
 ghost use Rattle.convert.specs.Chosen.{ChosenSent};
 ghost use Rattle.receive.specs.Claims.{ReadRefusal, ReadingKeepsUnique, ReadsParsed, ReadingLeavesAlone, ReadFlushExact, PaddedRead};
 ghost use Rattle.receive.specs.Order.{ReadsExactly};
+ghost use Rattle.watch.specs.Claims.{StopNeverShortened, StopRunsOut, SendingWhileStopped, RefusedWatchStays, WatchCases};
 ghost use Rattle.promises.specs.Cases.{Cases, ControlCases};
 ghost use Rattle.promises.specs.Claims.{RefusalChangesNothing, PairsStayUnique, SpoiltStays, ConfiguredStays};
 ghost use Rattle.promises.specs.Example.{InterchangeExample};
@@ -20,4 +21,5 @@ pub fn claims()
     ensures demands { λ _. ⌜ Interchange × InterchangeExample × ExpandCompacted × CompactExpanded × RefusalChangesNothing × Validity × FlushExact × ReadFlushExact × PaddedFlush × PaddedRead × ReadsExactly × PairsStayUnique × SpoiltStays × ConfiguredStays × SendsExactly × RoomForCompaction × SendRoom × ChosenSent × ControlNeverCompact × LifeAsBefore × OtherLivesStay × Cases × ControlCases ⌝ }
     ensures calls { λ _. ⌜ ReadRefusal × FlushRefusal × AgeingRefusal × ConvertRefusals × ReadingKeepsUnique × FlushingKeepsUnique × AgeingKeepsUnique × LearningKeepsUnique × ReadingLeavesAlone × FlushingLeavesAlone × AgeingLeavesAlone × LearningLeavesAlone ⌝ }
     ensures laws { λ _. ⌜ Blocks × Maps × UnpackPacked × PackUnpacked × KeptWritesNothing × HeaderLocal × LabelLocal × LabelsGood × ReadsSame × ReadsParsed ⌝ }
+    ensures watching { λ _. ⌜ StopNeverShortened × StopRunsOut × SendingWhileStopped × RefusedWatchStays × WatchCases ⌝ }
 {}

@@ -19,6 +19,8 @@ use Rattle.convert.proofs.Shown.{chosen-sent}
 use Rattle.receive.proofs.Outcomes.{read-refusal, reading-unique, reads-parsed, reading-leaves-alone, read-flush-exact}
 use Rattle.receive.proofs.Padded.{padded-read}
 use Rattle.receive.proofs.Order.{reads-exactly}
+use Rattle.watch.proofs.Stops.{stop-never-shortened, stop-runs-out, watch-cases}
+use Rattle.watch.proofs.Sends.{sending-while-stopped, refused-watch-stays}
 use Rattle.promises.specs.Claims.{RefusalChangesNothing, PairsStayUnique, SpoiltStays, ConfiguredStays}
 use Rattle.promises.proofs.Cases.{cases-hold, control-cases}
 use Rattle.promises.proofs.Example.{example-holds}
@@ -52,7 +54,10 @@ returns c = (
   (interchange, example-holds, expand-compacted, compact-expanded, refusals, validity, flush-exact, read-flush-exact, padded-flush, padded-read, reads-exactly, pairs, stays-spoilt, stays-configured, sends-exactly, room-for-compaction, send-room, chosen-sent, control-never-compact, life-as-before, other-lives-stay, cases-hold, control-cases),
   (
     (read-refusal, flush-refusal, ageing-refusal, convert-refusals, reading-unique, flushing-keeps-unique, ageing-unique, learning-unique, reading-leaves-alone, flushing-leaves-alone, ageing-leaves-alone, learning-leaves-alone),
-    (blocks-hold, maps-hold, unpack-packed, pack-unpacked, kept-writes-nothing, header-local, label-local, labels-good, reads-same, reads-parsed),
+    (
+      (blocks-hold, maps-hold, unpack-packed, pack-unpacked, kept-writes-nothing, header-local, label-local, labels-good, reads-same, reads-parsed),
+      (stop-never-shortened, stop-runs-out, sending-while-stopped, refused-watch-stays, watch-cases),
+    ),
   ),
 )
 
