@@ -28,6 +28,8 @@ use table::Learning;
 use table::LookupAnswer;
 use table::SpoiltAnswer;
 
+pub mod watched;
+
 fn lookup_word(a: LookupAnswer) -> u64
     ensures { λ r. ⌜ r ≡ lookupWord a ⌝ }
 {
