@@ -7,12 +7,13 @@
 //! | receive | 66 other channel | |
 //! | receive, flush | 67 flushed | 8..23 records cleared |
 //! | compact, expand | 64 written | 8..23 length |
-//! | send | 64 compacted | 8..23 length |
-//! | send | 65 the frame itself | |
+//! | send, send_watched | 64 compacted | 8..23 length |
+//! | send, send_watched | 65 the frame itself | |
 //! | lookup | 64 found | 8..23 nickname |
 //! | spoilt | 64 slot | 8..23 slot |
 //! | lookup, spoilt | 65 none | |
 //! | age | 64 done | |
+//! | watch_reset, _tick, _event | 64 | 8..39 seconds left |
 //!
 //! All other bits are 0. A refusal is its number alone.
 

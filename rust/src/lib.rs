@@ -11,6 +11,7 @@
 //! | [`flush`] | carries out the payload of an Address Flush |
 //! | [`compact`], [`expand`] | convert between General and Compact Format |
 //! | [`send`] | chooses what to send to a far port |
+//! | [`send_watched`], [`Watch`] | the same at a port that stops compacting when the link looks shared |
 //! | [`lookup`], [`age`], [`spoilt`] | the address table |
 //!
 //! Each takes any bytes. A [`Refusal`] has changed nothing; an area keeps its bytes behind what a
@@ -59,6 +60,7 @@ pub mod exports;
 pub mod raw;
 mod refusal;
 mod values;
+mod watch;
 
 pub use answer::{
     decode, encode, Aged, Answer, Compacted, Expanded, Flushed, Found, Learning, Received, Sent,
@@ -66,6 +68,7 @@ pub use answer::{
 };
 pub use refusal::Refusal;
 pub use values::{Label, Mac, Outer, Settings};
+pub use watch::{send_watched, Event, Left, Watch};
 
 /// The version of the package, which is that of the library's header.
 pub const VERSION: &str = env!("CARGO_PKG_VERSION");

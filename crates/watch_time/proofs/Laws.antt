@@ -27,14 +27,9 @@ module _ (last clock d : ℕ) (l : last < 2 ^ 32) (r : clock < 2 ^ 32) (k : d < 
   passed-back h = rw (is-difference, le-ltb d goneBack h)
 
 -- what is left after a reading
-module _ (left reading clock d : ℕ) (e : d ≡ passed reading clock) where
-  pub ticked-on : watchOf (left - d) clock ≡ ticked clock (watchOf left reading)
-  unfolding ticked
-  ticked-on = ap (λ (p : ℕ). watchOf (left - p) clock) e
-
-  pub ticked-out : left ≤ d → watchOf 0 clock ≡ ticked clock (watchOf left reading)
-  unfolding ticked
-  ticked-out h = let none : 0 ≡ left - d = omega arith in ap (λ (n : ℕ). watchOf n clock) none ∙ ticked-on
+pub ticked-on : (left reading clock d r : ℕ) → d ≡ passed reading clock → r ≡ left - d → watchOf r clock ≡ ticked clock (watchOf left reading)
+unfolding ticked
+ticked-on left reading clock d r e h = ap (λ (n : ℕ). watchOf n clock) (h ∙ ap (λ (p : ℕ). left - p) e)
 
 -- the stop of each event
 pub stop-native : (kind time : ℕ) → kind ≡ nativeFrame → leastStop ≡ stopOf kind time

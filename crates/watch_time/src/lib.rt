@@ -1,4 +1,5 @@
 // The watch's arithmetic, by value: the time passed, a reading, the stop of an event, an event.
+ghost use Prim.Native.Nat.{_-_};
 ghost use mathlib.Core.Path.{_≡_};
 ghost use Rattle.numbers.specs.Numberings.{atLeast};
 ghost use Rattle.watch.specs.Time.{watchOf, passed, ticked};
@@ -30,19 +31,22 @@ fn elapsed(last: u32, clock: u32) -> u32
     0
 }
 
-// The watch after a reading: the time passed is taken off, not below 0.
+// Seconds taken off, not below 0.
+fn less(left: u32, seconds: u32) -> u32
+    ensures { λ r. ⌜ r ≡ left - seconds ⌝ }
+{
+    if seconds < left {
+        return left - seconds;
+    }
+    0
+}
+
+// The watch after a reading: the time passed is taken off, and the reading kept.
 pub fn tick(left: u32, reading: u32, clock: u32) -> Watch
     ensures { λ r. ⌜ r ≡ ticked clock (watchOf left reading) ⌝ }
 {
-    let seconds = elapsed(reading, clock);
-    if seconds < left {
-        return Watch {
-            left: left - seconds,
-            reading: clock,
-        };
-    }
     Watch {
-        left: 0,
+        left: less(left, elapsed(reading, clock)),
         reading: clock,
     }
 }

@@ -13,6 +13,7 @@ mod record;
 mod refusal;
 mod settings;
 mod table;
+mod watch;
 
 pub use convert::{compact, expand, send, WORKING_AREA};
 pub use flush::flush;
@@ -22,6 +23,7 @@ pub use record::{read, write, Entry, Label, Record, RECORD};
 pub use refusal::Refusal;
 pub use settings::{Settings, DEFAULT_LIFE, OLD_LIFE};
 pub use table::{age, lookup, spoilt};
+pub use watch::{send_watched, watch_event, watch_reset, watch_tick, Watch};
 
 /// "Numbers are most significant byte first."
 fn number(bytes: &[u8]) -> u64 {

@@ -1,6 +1,6 @@
--- `watch_time::tick` meets its contract: what passed is taken off, or all of it.
+-- `watch_time::tick` meets its contract: what passed is taken off.
 -- Assumes nothing.
-use Rattle.watch_time.proofs.Laws.{ticked-on, ticked-out}
+use Rattle.watch_time.proofs.Laws.{ticked-on}
 use borrow.Author.Needs.{needs}
 use Rattle.watch_time.proofs.tick.Statement.{statement}
 use Rattle.watch_time.proofs.tick.Tie as tie
@@ -8,8 +8,5 @@ use Rattle.watch_time.proofs.tick.Tie as tie
 returns : tie.Need-returns
 returns c = search ticked-on
 
-returns-2 : tie.Need-returns-2
-returns-2 c = search ticked-out
-
 pub tick-spec : {M : Type 1} → statement M
-tick-spec = tie.close (tie.spec (λ c κs. search needs) (λ c. search needs) returns returns-2)
+tick-spec = tie.close (tie.spec (λ c κs. search needs) (λ c κs. search needs) returns)
