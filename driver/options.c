@@ -72,6 +72,7 @@ static const struct option OPTIONS[] = {
     {"--dry-run", NULL, "the table file is read and not written", FLAG,
      RECEIVE | AGE | LIVE | SET | UNSET, 0, AT(dry_run), 0, 0},
     {"--json", NULL, "a JSON object for each line, with the same facts", FLAG, WITH_ANY, 0, AT(json), 0, 0},
+    {"--watch", "FILE", "the port's watch: `live` writes it, `send` goes by it", TEXT, LIVE | SEND, 0, AT(watch), 0, 0},
     {"--quiet", NULL, "no line for each frame", FLAG, WITH_CAPTURE | LIVE, 0, AT(quiet), 0, 0},
 };
 #define OPTION_COUNT (sizeof OPTIONS / sizeof OPTIONS[0])
@@ -107,9 +108,12 @@ static const struct {
      "Needs CAP_NET_RAW. Listens only, in promiscuous mode, until --frames, --for, SIGINT, SIGTERM or SIGHUP; then writes\n"
      "the table and --out. The table is also written while it runs: every --save seconds, on SIGUSR1, and where the\n"
      "interface or standard output fails. It ages as time passes, first by the time since it was last aged. An interface\n"
-     "that goes down is waited for. Output as for `receive`. Exit status 3 if frames were lost.\n"},
+     "that goes down is waited for. Output as for `receive`. Exit status 3 if frames were lost.\n"
+     "With --watch a bridge BPDU, an LLDP notice of a bridge, router or station and a native frame stop compaction, and a\n"
+     "line tells where a stop begins. An unexpected Hello is for whoever knows the adjacency to report.\n"},
     {SEND, "send", "sends the General frames of a capture out of a Linux interface",
-     "Needs CAP_NET_RAW. The settings are the far port's: a frame is compacted where it may be, if --compact is on.\n"},
+     "Needs CAP_NET_RAW. The settings are the far port's: a frame is compacted where it may be, if --compact is on.\n"
+     "While the watch of --watch has seconds left, which `live` on the same machine writes, no frame is compacted.\n"},
 };
 #define COMMAND_COUNT (sizeof COMMANDS / sizeof COMMANDS[0])
 
@@ -278,6 +282,8 @@ static int check_options(unsigned given, struct options *options)
     options->tagged = options->tag != 0;
     if (is_standard(options->table))
         return bad_usage("--table is a file, not standard input or output");
+    if (is_standard(options->watch))
+        return bad_usage("--watch is a file, not standard input or output");
     options->audience.is_one = options->command & (RECEIVE | LIVE) && given & 1u << find_option("--mac", RECEIVE);
     if (options->source >> 40 & 1)
         return bad_usage("--source is a group address");

@@ -44,6 +44,7 @@ struct options {
     int no_ageing;
     int dry_run;
     uint32_t save;
+    const char *watch;
 };
 
 /* Reads the command line: -1 if the command is to be carried out, else the exit status (help, or bad usage, which is said). */

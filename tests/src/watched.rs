@@ -3,14 +3,44 @@
 
 #![allow(unsafe_code)]
 
+use std::collections::BTreeMap;
+
 use shinglebar::{decode, encode, exports, Answer, Left, Sent, Watch};
 
 use crate::boundary::numbers;
 use crate::compare::hex;
+use crate::generate::{self, Pool};
 use crate::lend::Lend;
 use crate::pages::Pages;
 use crate::random::Random;
-use crate::reference::{self, Settings};
+use crate::reference::{self, Settings, WORKING_AREA};
+use crate::run::{self, Answers};
+
+pub const HELLO: u32 = 1;
+pub const BPDU: u32 = 2;
+pub const LLDP: u32 = 3;
+
+pub const WATCH: Answers = &[(1, "refusal 1: unknown kind"), (64, "seconds left")];
+
+/// Readings around the turns of the clock.
+pub const EDGES: [u32; 16] = [
+    0,
+    1,
+    2,
+    9,
+    10,
+    11,
+    0x7FFF_FFFE,
+    0x7FFF_FFFF,
+    0x8000_0000,
+    0x8000_0001,
+    0x8000_0002,
+    0xFFFF_FFF0,
+    0xFFFF_FFFD,
+    0xFFFF_FFFE,
+    0xFFFF_FFFF,
+    0x1234_5678,
+];
 
 /// A call on a watch.
 #[derive(Clone, Debug)]
@@ -178,4 +208,141 @@ pub fn compare(place: &mut impl Place, watch: &mut Watch, now: u32, call: &mut C
         }
     );
     word
+}
+
+/// A reading: a little later, at an edge, back, far away.
+pub fn later(random: &mut Random, reading: u32) -> u32 {
+    match random.below(8) {
+        0 => random.pick(&EDGES),
+        1 => random.number() as u32,
+        2 => reading.wrapping_sub(random.below(40) as u32),
+        3 => reading.wrapping_add(0x8000_0000 - 2 + random.below(4) as u32),
+        4 => reading,
+        _ => reading.wrapping_add(random.below(30) as u32),
+    }
+}
+
+/// A frame to send to a far port, with a working area; refusals among them.
+fn send(random: &mut Random) -> Call {
+    let pool = Pool::new(random);
+    let mut settings = match random.below(4) {
+        0 => generate::settings(random, &pool),
+        _ => generate::good_settings(random, &pool),
+    };
+    settings.compact = random.pick(&[0, 1, 1, 1, 1, 2]);
+    let mut frame = generate::good_frame(random, &pool, &settings);
+    frame.compact = random.one_in(20);
+    let mut frame = frame.bytes();
+    if random.one_in(4) {
+        frame = generate::damage(random, frame);
+    }
+    let work = match random.below(10) {
+        0 => random.bytes(WORKING_AREA - 1),
+        1 => random.bytes(0),
+        _ => random.bytes(WORKING_AREA),
+    };
+    Call::Send {
+        settings,
+        frame,
+        work,
+    }
+}
+
+impl Call {
+    pub fn random(random: &mut Random) -> Call {
+        match random.below(12) {
+            0 => Call::Reset,
+            1 | 2 => Call::Tick,
+            3..=6 => Call::Event {
+                kind: random.pick(&[0, HELLO, HELLO, BPDU, BPDU, LLDP, 4, 0xFFFF_FFFF]),
+                time: random.pick(&[0, 4, 5, 6, 640, 641, 1000, 0xFFFF, 20]),
+            },
+            _ => send(random),
+        }
+    }
+}
+
+/// The calls of the program `replay`, and the answers that each must give in some vector.
+pub const ANSWERS: &[(u8, Answers)] = &[(0x60, WATCH), (0x61, run::SEND)];
+
+/// How many vectors of one answer are kept.
+const OF_EACH: usize = 2;
+
+/// The number and the bytes of a call for the program.
+fn line(watch: &Watch, now: u32, call: &Call) -> (u8, Vec<u8>) {
+    let three = [watch.left, watch.reading, now]
+        .map(u32::to_be_bytes)
+        .concat();
+    let small = |which: u8, kind: u32, time: u16| {
+        let rest = [&[which][..], &kind.to_be_bytes(), &time.to_be_bytes()].concat();
+        (0x60, [&three[..], &rest].concat())
+    };
+    match call {
+        Call::Reset => small(0, 0, 0),
+        Call::Tick => small(1, 0, 0),
+        Call::Event { kind, time } => small(2, *kind, *time),
+        Call::Send {
+            settings,
+            frame,
+            work,
+        } => {
+            let numbers = crate::vectors::settings_bytes(settings);
+            let room = (work.len() as u16).to_be_bytes();
+            (0x61, [&three[..], &numbers, &room, frame].concat())
+        }
+    }
+}
+
+/// Calls for the program `replay` with what the second implementation says they give: number, bytes, word,
+/// working area and watch. First the cases of the request.
+pub fn vectors(area: &mut [u8]) -> Vec<(u8, Vec<u8>, u64, Vec<u8>, [u32; 2])> {
+    let event = |kind, time| (Watch::new(7), 7, Call::Event { kind, time });
+    let tick = |reading, now| (Watch { left: 30, reading }, now, Call::Tick);
+    let mut offered = vec![
+        event(HELLO, 3),
+        event(HELLO, 6),
+        event(BPDU, 512),
+        event(BPDU, 641),
+        event(BPDU, 65_535),
+        event(LLDP, 65_535),
+        tick(0xFFFF_FFF0, 0x0000_000A),
+        tick(100, 99),
+        tick(0, 0x8000_0000),
+    ];
+    let named = offered.len();
+    for case in 0..4000 {
+        let random = &mut Random::for_case(2606, case);
+        let left = random.pick(&[0, 0, 5, 40]);
+        let watch = Watch { left, reading: 100 };
+        offered.push((watch, 100 + random.below(20) as u32, Call::random(random)));
+    }
+    let mut kept = BTreeMap::new();
+    let mut vectors = Vec::new();
+    for (place, (watch, now, mut call)) in offered.into_iter().enumerate() {
+        let (number, body) = line(&watch, now, &call);
+        let mut after = reference::Watch {
+            left: i64::from(watch.left),
+            reading: i64::from(watch.reading),
+        };
+        if let Call::Send { work, .. } = &mut call {
+            let length = work.len();
+            work.copy_from_slice(&area[..length]);
+        }
+        let word = paper(&mut after, now, &mut call);
+        let count = kept
+            .entry((number, word as u8, watch.left > 0))
+            .or_insert(0);
+        if body.len() > 1024 || (place >= named && *count >= OF_EACH) {
+            continue;
+        }
+        *count += 1;
+        let work = match call {
+            Call::Send { work, .. } => work,
+            _ => Vec::new(),
+        };
+        area[..work.len()].copy_from_slice(&work);
+        let watch = [after.left as u32, after.reading as u32];
+        vectors.push((number, body, word, work, watch));
+    }
+    vectors
 }

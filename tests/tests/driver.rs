@@ -2179,11 +2179,16 @@ fn each_command_has_help_on_each_of_its_options() {
                 "--out",
                 "--mac",
                 "--json",
+                "--watch",
                 "--quiet",
             ],
             true,
         ),
-        ("send", &["--interface", "--json", "--quiet"], true),
+        (
+            "send",
+            &["--interface", "--json", "--watch", "--quiet"],
+            true,
+        ),
     ];
     let all = good(&run_in(&folder, &["--help"]));
     for (command, options, with_settings) in commands {

@@ -1,38 +1,16 @@
 //! The watch (2026-06), compared through the C boundary.
 
+use std::fs;
+use std::path::Path;
+use std::process::Command;
+
 use shinglebar::Watch;
-use shinglebar_tests::generate::{self, Pool};
+use shinglebar_tests::c_program;
 use shinglebar_tests::pages::Pages;
 use shinglebar_tests::random::Random;
-use shinglebar_tests::reference::{Settings, WORKING_AREA};
-use shinglebar_tests::run::{self, Answers, Tally};
-use shinglebar_tests::watched::{compare, Call, Place};
-
-const HELLO: u32 = 1;
-const BPDU: u32 = 2;
-const LLDP: u32 = 3;
-
-/// Readings around the turns of the clock.
-const EDGES: [u32; 16] = [
-    0,
-    1,
-    2,
-    9,
-    10,
-    11,
-    0x7FFF_FFFE,
-    0x7FFF_FFFF,
-    0x8000_0000,
-    0x8000_0001,
-    0x8000_0002,
-    0xFFFF_FFF0,
-    0xFFFF_FFFD,
-    0xFFFF_FFFE,
-    0xFFFF_FFFF,
-    0x1234_5678,
-];
-
-const WATCH: Answers = &[(1, "refusal 1: unknown kind"), (64, "seconds left")];
+use shinglebar_tests::reference::Settings;
+use shinglebar_tests::run::{self, Tally};
+use shinglebar_tests::watched::{self, compare, Call, Place, BPDU, EDGES, HELLO, LLDP, WATCH};
 
 fn event(watch: &mut Watch, now: u32, kind: u32, time: u16) -> u64 {
     compare(
@@ -97,7 +75,10 @@ fn readings_around_the_turns_of_the_clock_take_off_what_the_paper_says() {
                     Call::Reset,
                     Call::Tick,
                     Call::Event { kind: 0, time: 3 },
-                    Call::Event { kind: BPDU, time: 900 },
+                    Call::Event {
+                        kind: BPDU,
+                        time: 900,
+                    },
                     Call::Event { kind: 4, time: 900 },
                 ] {
                     let mut watch = Watch { left, reading };
@@ -105,56 +86,6 @@ fn readings_around_the_turns_of_the_clock_take_off_what_the_paper_says() {
                 }
             }
         }
-    }
-}
-
-/// A reading: a little later, at an edge, back, far away.
-fn later(random: &mut Random, reading: u32) -> u32 {
-    match random.below(8) {
-        0 => random.pick(&EDGES),
-        1 => random.number() as u32,
-        2 => reading.wrapping_sub(random.below(40) as u32),
-        3 => reading.wrapping_add(0x8000_0000 - 2 + random.below(4) as u32),
-        4 => reading,
-        _ => reading.wrapping_add(random.below(30) as u32),
-    }
-}
-
-/// A frame to send to a far port, with a working area; refusals among them.
-fn send(random: &mut Random) -> Call {
-    let pool = Pool::new(random);
-    let mut settings = match random.below(4) {
-        0 => generate::settings(random, &pool),
-        _ => generate::good_settings(random, &pool),
-    };
-    settings.compact = random.pick(&[0, 1, 1, 1, 1, 2]);
-    let mut frame = generate::good_frame(random, &pool, &settings);
-    frame.compact = random.one_in(20);
-    let mut frame = frame.bytes();
-    if random.one_in(4) {
-        frame = generate::damage(random, frame);
-    }
-    let work = match random.below(10) {
-        0 => random.bytes(WORKING_AREA - 1),
-        1 => random.bytes(0),
-        _ => random.bytes(WORKING_AREA),
-    };
-    Call::Send {
-        settings,
-        frame,
-        work,
-    }
-}
-
-fn call(random: &mut Random) -> Call {
-    match random.below(12) {
-        0 => Call::Reset,
-        1 | 2 => Call::Tick,
-        3..=6 => Call::Event {
-            kind: random.pick(&[0, HELLO, HELLO, BPDU, BPDU, LLDP, 4, 0xFFFF_FFFF]),
-            time: random.pick(&[0, 4, 5, 6, 640, 641, 1000, 0xFFFF, 20]),
-        },
-        _ => send(random),
     }
 }
 
@@ -187,9 +118,9 @@ fn list(place: &mut impl Place, random: &mut Random, tally: &mut Tally, length: 
         },
     };
     for _ in 0..length {
-        let now = later(random, watch.reading);
+        let now = watched::later(random, watch.reading);
         let before = watch;
-        let mut made = call(random);
+        let mut made = Call::random(random);
         let difference = now.wrapping_sub(before.reading);
         let passed = if difference < 1 << 31 { difference } else { 0 };
         let left = before.left.saturating_sub(passed);
@@ -274,4 +205,42 @@ fn the_calls_on_a_watch_touch_only_what_they_are_lent() {
             }
         },
     );
+}
+
+#[test]
+fn the_fuzz_target_of_the_watch_accepts_random_calls() {
+    let made = Path::new(env!("OUT_DIR"));
+    let program = made.join("fuzz_watch");
+    let status = Command::new("cc")
+        .current_dir(Path::new(env!("CARGO_MANIFEST_DIR")).join(".."))
+        .args([
+            "-std=c99",
+            "-pedantic",
+            "-O2",
+            "-Wall",
+            "-Wextra",
+            "-Werror",
+        ])
+        .args(["-Iinclude", "fuzz/watch.c", "fuzz/main.c"])
+        .args([env!("SHINGLEBAR_ARCHIVE"), "-o"])
+        .arg(&program)
+        .status()
+        .expect("cc can be run");
+    assert!(status.success());
+    let inputs: Vec<_> = (0..40)
+        .map(|case| {
+            let random = &mut Random::for_case(2606, case);
+            let input = made.join(format!("fuzz_watch_{case}"));
+            let length = random.length(0, 4000);
+            fs::write(&input, random.bytes(length)).expect("an input");
+            input
+        })
+        .collect();
+    let status = Command::new(&program).args(&inputs).status();
+    assert!(status.expect("the target runs").success());
+}
+
+#[test]
+fn the_driver_tells_what_says_that_a_link_is_shared() {
+    c_program::compile_and_run("notice.c");
 }

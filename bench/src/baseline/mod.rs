@@ -17,8 +17,10 @@ mod record;
 mod refusal;
 mod settings;
 mod table;
+mod watch;
 
 pub use convert::{compact, expand, send};
 pub use flush::flush;
 pub use receive::receive;
 pub use table::{age, lookup, spoilt};
+pub use watch::{send_unwatched, send_watched, watch_event};

@@ -10,6 +10,8 @@ mod flush;
 mod receive;
 #[cfg(feature = "table")]
 mod table;
+#[cfg(feature = "convert")]
+mod watch;
 
 const STAGES: &[fn(&Report)] = &[
     #[cfg(feature = "table")]
@@ -20,6 +22,8 @@ const STAGES: &[fn(&Report)] = &[
     receive::run,
     #[cfg(feature = "convert")]
     convert::run,
+    #[cfg(feature = "convert")]
+    watch::run,
 ];
 
 pub fn run(report: &Report) {

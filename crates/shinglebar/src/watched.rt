@@ -38,7 +38,7 @@ fn shown(left: u32, reading: u32) -> Held
     }
 }
 
-fn reset(clock: u32) -> Held
+pub fn reset(clock: u32) -> Held
     ensures { λ r. ⌜ onWatch (r .word) (watchOf (r .left) (r .reading)) ≡ watchAs watchWord (resetTo clock) ⌝ }
 {
     shown(0, clock)
@@ -54,7 +54,7 @@ pub extern "C" fn shinglebar_watch_reset(watch: &mut Watch, clock: u32) -> u64
     t.word
 }
 
-fn tick(left: u32, reading: u32, clock: u32) -> Held
+pub fn tick(left: u32, reading: u32, clock: u32) -> Held
     ensures { λ r. ⌜ onWatch (r .word) (watchOf (r .left) (r .reading)) ≡ watchAs watchWord (tickedTo clock (watchOf left reading)) ⌝ }
 {
     let w = watch_time::tick(left, reading, clock);
@@ -71,7 +71,7 @@ pub extern "C" fn shinglebar_watch_tick(watch: &mut Watch, clock: u32) -> u64
     t.word
 }
 
-fn event(left: u32, reading: u32, clock: u32, kind: u32, time: u16) -> Held
+pub fn event(left: u32, reading: u32, clock: u32, kind: u32, time: u16) -> Held
     ensures { λ r. ⌜ onWatch (r .word) (watchOf (r .left) (r .reading)) ≡ watchAs watchWord (evented clock kind time (watchOf left reading)) ⌝ }
 {
     let k = watch_time::event(left, reading, clock, kind, time);
@@ -93,7 +93,7 @@ pub extern "C" fn shinglebar_watch_event(watch: &mut Watch, clock: u32, kind: u3
     t.word
 }
 
-fn send(
+pub fn send(
     port: u64,
     inner: u64,
     nickname: u32,

@@ -36,7 +36,11 @@ impl Watch {
         };
         // "a difference of 2^31 or more is taken as a clock gone back, with no time passed and the new
         // reading kept"
-        let passed = if difference >= TURN / 2 { 0 } else { difference };
+        let passed = if difference >= TURN / 2 {
+            0
+        } else {
+            difference
+        };
         Watch {
             left: (self.left - passed).max(0),
             reading: now,
