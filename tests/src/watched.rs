@@ -230,7 +230,10 @@ fn send(random: &mut Random) -> Call {
         _ => generate::good_settings(random, &pool),
     };
     settings.compact = random.pick(&[0, 1, 1, 1, 1, 2]);
-    let mut frame = generate::good_frame(random, &pool, &settings);
+    let mut frame = match random.below(3) {
+        0 => generate::frame(random, &pool, &settings),
+        _ => generate::good_frame(random, &pool, &settings),
+    };
     frame.compact = random.one_in(20);
     let mut frame = frame.bytes();
     if random.one_in(4) {
@@ -266,7 +269,7 @@ impl Call {
 pub const ANSWERS: &[(u8, Answers)] = &[(0x60, WATCH), (0x61, run::SEND)];
 
 /// How many vectors of one answer are kept.
-const OF_EACH: usize = 2;
+const OF_EACH: usize = 1;
 
 /// The number and the bytes of a call for the program.
 fn line(watch: &Watch, now: u32, call: &Call) -> (u8, Vec<u8>) {
@@ -310,7 +313,7 @@ pub fn vectors(area: &mut [u8]) -> Vec<(u8, Vec<u8>, u64, Vec<u8>, [u32; 2])> {
         tick(0, 0x8000_0000),
     ];
     let named = offered.len();
-    for case in 0..4000 {
+    for case in 0..20_000 {
         let random = &mut Random::for_case(2606, case);
         let left = random.pick(&[0, 0, 5, 40]);
         let watch = Watch { left, reading: 100 };

@@ -23,4 +23,4 @@ pub use convert::{compact, expand, send};
 pub use flush::flush;
 pub use receive::receive;
 pub use table::{age, lookup, spoilt};
-pub use watch::{send_unwatched, send_watched, watch_event};
+pub use watch::{send_watched, watch_event};

@@ -2,7 +2,6 @@
 
 use std::slice;
 
-use shinglebar::exports;
 use shinglebar::Watch;
 
 use super::convert::sent;
@@ -65,25 +64,4 @@ pub unsafe extern "C" fn send_watched(
         }
         Err(refusal) => refusal,
     }
-}
-
-/// The library's send, which has no watch.
-#[inline(never)]
-pub unsafe extern "C" fn send_unwatched(
-    port: u64,
-    inner: u64,
-    nickname: u32,
-    compact: u32,
-    confidence: u32,
-    seconds: u32,
-    _: *mut Watch,
-    _: u32,
-    frame: *const u8,
-    frame_len: usize,
-    work: *mut u8,
-    work_len: usize,
-) -> u64 {
-    exports::shinglebar_send(
-        port, inner, nickname, compact, confidence, seconds, frame, frame_len, work, work_len,
-    )
 }

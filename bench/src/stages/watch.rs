@@ -1,4 +1,4 @@
-//! The watch of a sending port.
+//! The watch of a sending port. The rows of watched sending stand beside those of sending with the same frames.
 
 use shinglebar::exports::{shinglebar_send_watched, shinglebar_watch_event};
 use shinglebar::Watch;
@@ -36,12 +36,6 @@ const SEND: Pair<Send> = Pair {
     baseline: baseline::send_watched,
 };
 
-/// Beside the library's own send.
-const BESIDE: Pair<Send> = Pair {
-    ours: shinglebar_send_watched,
-    baseline: baseline::send_unwatched,
-};
-
 const FRAME: Frame = Frame {
     inner_destination: 0x0200_0000_000D,
     inner_source: 0x001B_2104_0506,
@@ -76,8 +70,6 @@ pub fn run(report: &Report) {
         let compacted = 64 | (length as u64 - 12) << 8;
         let no_stop = format!("watched send: {name} bytes, no stop");
         send(report, &no_stop, SEND, 0, length, compacted);
-        let beside = format!("watched send: {name} bytes, beside send");
-        send(report, &beside, BESIDE, 0, length, compacted);
     }
     send(
         report,
