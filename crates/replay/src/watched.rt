@@ -25,7 +25,13 @@ fn watch_call(b: &[u8]) -> Held
     if call == 1 {
         return shinglebar::watched::tick(left, reading, clock);
     }
-    shinglebar::watched::event(left, reading, clock, numbers::be4(b, 13) as u32, numbers::be2(b, 17) as u16)
+    shinglebar::watched::event(
+        left,
+        reading,
+        clock,
+        numbers::be4(b, 13) as u32,
+        numbers::be2(b, 17) as u16,
+    )
 }
 
 // 60: reset, tick or event.
