@@ -6,9 +6,11 @@
 #include "commands.h"
 #include "interface.h"
 #include "message.h"
+#include "notice.h"
 #include "path.h"
 #include "process.h"
 #include "receiver.h"
+#include "watch.h"
 
 #define WAIT_MILLISECONDS 100
 #define LOST_STATUS 3
@@ -18,6 +20,7 @@ struct live {
     const struct options *options;
     struct receiver receiver;
     struct interface interface;
+    struct watch watch;
     uint64_t passed, saved, end;
 };
 
@@ -78,6 +81,21 @@ static void listening_print(struct live *live)
     line_out(line);
 }
 
+/* What a frame says of the link, where a watch is kept; a line tells where a stop begins. 0, or 1 if the file fails, which is said. */
+static int watch_frame(struct live *live, const struct captured *frame)
+{
+    char state[80];
+    int kind;
+    if (live->options->watch == NULL)
+        return 0;
+    kind = watch_see(&live->watch, frame->bytes, frame->length);
+    if (kind >= 0) {
+        snprintf(state, sizeof state, "%s: no compaction for %lu seconds", notice_words(kind), (unsigned long)live->watch.now.left);
+        state_print(live, state);
+    }
+    return kind == -2;
+}
+
 /* Reads what has come: 0, or 1 if the interface or the output capture fails, which is said. */
 static int take_frames(struct live *live)
 {
@@ -97,7 +115,8 @@ static int take_frames(struct live *live)
         break;
     }
     for (unsigned i = 0; i < live->interface.count; i++)
-        if (receiver_take(&live->receiver, live->interface.frames[i]) != 0)
+        if (receiver_take(&live->receiver, live->interface.frames[i]) != 0
+            || watch_frame(live, live->interface.frames[i]) != 0)
             return 1;
     return 0;
 }
@@ -175,7 +194,8 @@ static int keep(struct live *live)
 static int run(struct live *live)
 {
     const struct options *options = live->options;
-    if (receiver_open(&live->receiver, options) != 0 || interface_open(&live->interface, options->interface) != 0
+    if (receiver_open(&live->receiver, options) != 0 || watch_open(&live->watch, options->watch, 1) != 0
+        || interface_open(&live->interface, options->interface) != 0
         || capture_create(&live->receiver.out, options->out, live->receiver.form) != 0)
         return 1;
     int status = listen_on(live);
@@ -188,11 +208,13 @@ int live_command(const struct options *options)
     static struct live live;
     live.options = options;
     live.interface.file = -1;
+    live.watch.file = -1;
     live.receiver.form.nanoseconds = 1;
     live.receiver.is_live = 1;
     if (same_file(options->out, options->table))
         return bad_usage("--table and --out are different files");
     int status = run(&live);
+    watch_close(&live.watch);
     interface_close(&live.interface);
     receiver_close(&live.receiver);
     return status;

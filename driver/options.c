@@ -85,6 +85,7 @@ static const struct option OPTIONS[] = {
     {"--json", NULL, "a JSON object for each line, with the same facts", FLAG, WITH_ANY, 0, AT(json), 0, 0},
     {"--portion", "K", "flushes in portions of K slots, one after each frame, 1 to 4096", NUMBER, RECEIVE | LIVE, 0,
      AT(portion), 1, TABLE_SLOTS_MAX},
+    {"--watch", "FILE", "the port's watch: `live` writes it, `send` goes by it", TEXT, LIVE | SEND, 0, AT(watch), 0, 0},
     {"--quiet", NULL, "no line for each frame", FLAG, WITH_CAPTURE | LIVE, 0, AT(quiet), 0, 0},
 };
 #define OPTION_COUNT (sizeof OPTIONS / sizeof OPTIONS[0])
@@ -121,13 +122,16 @@ static const struct {
      "Needs CAP_NET_RAW. Listens only, in promiscuous mode, until --frames, --for, SIGINT, SIGTERM or SIGHUP; then writes\n"
      "the table and --out. The table is also written while it runs: every --save seconds, on SIGUSR1, and where the\n"
      "interface or standard output fails. It ages as time passes, first by the time since it was last aged. An interface\n"
-     "that goes down is waited for. Output as for `receive`. Exit status 3 if frames were lost.\n"},
+     "that goes down is waited for. Output as for `receive`. Exit status 3 if frames were lost.\n"
+     "With --watch a bridge BPDU, an LLDP notice of a bridge, router or station and a native frame stop compaction, and a\n"
+     "line tells where a stop begins. An unexpected Hello is for whoever knows the adjacency to report.\n"},
     {WIDEN, "widen", "makes a table of records of 14 bytes one of 15",
      "For the tables of versions before 2026-12: each record gets a zero byte, and the second that the table was aged to\n"
      "stays. A file says its width by its length. Where both widths have that length (multiples of 210 bytes), a table of\n"
      "15 bytes has the line `shinglebar table 15` in front of its records; without it only `widen` takes the file.\n"},
     {SEND, "send", "sends the General frames of a capture out of a Linux interface",
-     "Needs CAP_NET_RAW. The settings are the far port's: a frame is compacted where it may be, if --compact is on.\n"},
+     "Needs CAP_NET_RAW. The settings are the far port's: a frame is compacted where it may be, if --compact is on.\n"
+     "While the watch of --watch has seconds left, which `live` on the same machine writes, no frame is compacted.\n"},
     {WRITE, "write", "writes an Address Flush from lists",
      "--nickname, --vlan, --fgl and --mac may be given up to 255 times each; a block is A-B, both ends included, or A alone.\n"
      "The payload goes to --payload, a General frame with it to all switches to the capture --out, which needs --source and\n"
@@ -333,6 +337,8 @@ static int check_options(uint64_t given, struct options *options)
     options->tagged = options->tag != 0;
     if (is_standard(options->table))
         return bad_usage("--table is a file, not standard input or output");
+    if (is_standard(options->watch))
+        return bad_usage("--watch is a file, not standard input or output");
     options->audience.is_one = options->command & (RECEIVE | LIVE) && (given & BIT(find_option("--mac", RECEIVE))) != 0;
     if (options->command == WRITE && options->payload == NULL && options->out == NULL)
         return bad_usage("one of --payload and --out is needed");

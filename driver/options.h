@@ -52,6 +52,7 @@ struct options {
     const char *payload;
     uint32_t ingress;
     struct lists lists;
+    const char *watch;
 };
 
 /* Reads the command line: -1 if the command is to be carried out, else the exit status (help, or bad usage, which is said). */

@@ -13,6 +13,7 @@
 #include "message.h"
 #include "process.h"
 #include "shinglebar.h"
+#include "watch.h"
 
 static void line_print(struct text *line, const struct options *options, unsigned long number,
                        const struct captured *captured, uint64_t answer)
@@ -36,11 +37,14 @@ static void line_print(struct text *line, const struct options *options, unsigne
 }
 
 /* Sends what the library chooses: the frame itself, the compacted one, or nothing where it refuses. 0, or 1 and said. */
-static int send_frame(int file, const struct options *options, const struct captured *frame, unsigned long number,
-                      uint64_t *answer)
+static int send_frame(int file, const struct options *options, struct watch *watch, const struct captured *frame,
+                      unsigned long number, uint64_t *answer)
 {
     static uint8_t work[SHINGLEBAR_COMPACT_LENGTH_MAX];
-    *answer = shinglebar_send(SETTINGS(&options->settings), frame->bytes, frame->length, work, sizeof work);
+    if (watch_read(watch) != 0)
+        return 1;
+    *answer = shinglebar_send_watched(SETTINGS(&options->settings), &watch->now, watch_clock(), frame->bytes,
+                                      frame->length, work, sizeof work);
     int compacted = shinglebar_kind(*answer) == SHINGLEBAR_SEND_COMPACTED;
     const uint8_t *bytes = compacted ? work : frame->bytes;
     size_t length = compacted ? shinglebar_written_length(*answer) : frame->length;
@@ -63,7 +67,7 @@ static void totals_print(struct text *line, unsigned long sent, unsigned long fr
     line_out(line);
 }
 
-static int send_all(int file, const struct options *options, struct capture_reader *reader)
+static int send_all(int file, const struct options *options, struct watch *watch, struct capture_reader *reader)
 {
     static struct captured frame;
     static struct text line;
@@ -72,7 +76,7 @@ static int send_all(int file, const struct options *options, struct capture_read
     line.json = options->json;
     while ((step = capture_next(reader, &frame)) == CAPTURE_FRAME) {
         uint64_t answer;
-        if (send_frame(file, options, &frame, reader->number, &answer) != 0)
+        if (send_frame(file, options, watch, &frame, reader->number, &answer) != 0)
             return 1;
         sent += !shinglebar_is_refusal(answer);
         if (!options->quiet)
@@ -85,10 +89,12 @@ static int send_all(int file, const struct options *options, struct capture_read
 int send_command(const struct options *options)
 {
     struct capture_reader reader;
+    struct watch watch;
     if (capture_open(&reader, options->capture) != 0)
         return 1;
-    int file = interface_to_send(options->interface);
-    int status = file < 0 || send_all(file, options, &reader);
+    int file = watch_open(&watch, options->watch, 0) == 0 ? interface_to_send(options->interface) : -1;
+    int status = file < 0 || send_all(file, options, &watch, &reader);
+    watch_close(&watch);
     if (file >= 0)
         close(file);
     capture_close(&reader);

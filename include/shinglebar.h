@@ -30,7 +30,7 @@
  *
  * Bridge messages. A frame with 01-80-C2-00-00-00 to 0F or 21 in front answers 5 in receive, with Compact
  * on too, and in compact, send and expand. A driver whose port watches for a shared link may report such a
- * frame to the watch. To these inner destinations send answers the received frame itself.
+ * frame to the watch (shinglebar_watch_event). To these inner destinations send answers the received frame itself.
  *
  * docs/FORMATS.md has the layouts of records, frames and flush payloads, and the order of refusals.
  * SHINGLEBAR_VERSION is the one version of archive, header, driver, pkg-config file and Rust package.
@@ -153,6 +153,23 @@ enum shinglebar_send_kind {
     SHINGLEBAR_SEND_ITSELF = 65
 };
 
+enum shinglebar_watch_kind {
+    /* shinglebar_seconds_left */
+    SHINGLEBAR_WATCH_LEFT = 64
+};
+
+/* What says that a link is shared, and for how long compaction stops; never under ten seconds. */
+enum shinglebar_watch_event_kind {
+    /* a frame of no RBridge and no bridge: ten seconds, its time is not read */
+    SHINGLEBAR_EVENT_NATIVE_FRAME = 0,
+    /* a TRILL Hello other than the neighbour's: twice its holding time in seconds */
+    SHINGLEBAR_EVENT_UNEXPECTED_HELLO = 1,
+    /* a bridge BPDU: four times its Hello Time in 1/256 second, rounded up */
+    SHINGLEBAR_EVENT_BRIDGE_BPDU = 2,
+    /* an LLDP message of a bridge, router or station: twice its TTL in seconds */
+    SHINGLEBAR_EVENT_LLDP_NOTICE = 3
+};
+
 enum shinglebar_lookup_kind {
     /* shinglebar_nickname */
     SHINGLEBAR_LOOKUP_FOUND = 64,
@@ -231,6 +248,19 @@ struct shinglebar_record {
     unsigned confidence; /* 0 to 255 */
     unsigned seconds;    /* 0 to 8191 */
     unsigned multihomed; /* 0 or 1 */
+};
+
+/*
+ * The watch of a sending port: the seconds for which compaction is still stopped, and the reading of the
+ * clock at which that was so. Any two numbers are a watch; { 0, reading } is a fresh one. Each call brings
+ * the clock's reading in seconds, 32 bits that start again at zero after the top value, and first takes off
+ * the time passed; a difference of 2^31 or more is a clock gone back, with no time passed and the new
+ * reading kept. A call that refuses leaves the watch as it was. A watch is aligned as a uint32_t is, and
+ * threads that share one need a lock of theirs.
+ */
+struct shinglebar_watch {
+    uint32_t left;
+    uint32_t reading;
 };
 
 #ifdef __cplusplus
@@ -323,6 +353,24 @@ uint64_t shinglebar_write_flush(const uint8_t *nicknames, size_t nicknames_len, 
                                 size_t vlans_len, const uint8_t *fine, size_t fine_len,
                                 const uint8_t *macs, size_t macs_len, uint8_t *out, size_t out_len);
 
+/* No stop, and the reading brought. */
+uint64_t shinglebar_watch_reset(struct shinglebar_watch *watch, uint32_t now);
+
+/* Takes off the time passed. */
+uint64_t shinglebar_watch_tick(struct shinglebar_watch *watch, uint32_t now);
+
+/* Reports an event with its 16-bit time: the larger of what is left and the event's stop. `kind` is one of
+ * enum shinglebar_watch_event_kind; another is refusal 1. */
+uint64_t shinglebar_watch_event(struct shinglebar_watch *watch, uint32_t now, uint32_t kind,
+                                uint16_t time);
+
+/* shinglebar_send at a port with a watch: while seconds are left it answers as with the far port's Compact
+ * off. Settings are judged as they arrive. */
+uint64_t shinglebar_send_watched(uint64_t port, uint64_t inner, uint32_t nickname, uint32_t compact,
+                                 uint32_t confidence, uint32_t seconds,
+                                 struct shinglebar_watch *watch, uint32_t now, const uint8_t *frame,
+                                 size_t frame_len, uint8_t *work, size_t work_len);
+
 #endif /* SHINGLEBAR_TABLE_ONLY */
 
 #ifdef __cplusplus
@@ -397,6 +445,12 @@ static inline unsigned shinglebar_examined(uint64_t result)
 static inline size_t shinglebar_written_length(uint64_t result)
 {
     return (size_t)((result >> 8) & 0xFFFFu);
+}
+
+/* Of SHINGLEBAR_WATCH_LEFT: the seconds left. */
+static inline uint32_t shinglebar_seconds_left(uint64_t result)
+{
+    return (uint32_t)((result >> 8) & 0xFFFFFFFFu);
 }
 
 /* Of SHINGLEBAR_LOOKUP_FOUND: the nickname. */
@@ -640,6 +694,17 @@ static inline uint64_t shinglebar_write_flush_any(const uint8_t *nicknames, size
                                   shinglebar_const_area(fine, fine_len), fine_len,
                                   shinglebar_const_area(macs, macs_len), macs_len,
                                   shinglebar_area(out, out_len), out_len);
+}
+
+static inline uint64_t shinglebar_send_watched_any(uint64_t port, uint64_t inner, uint32_t nickname,
+                                                   uint32_t compact, uint32_t confidence,
+                                                   uint32_t seconds, struct shinglebar_watch *watch,
+                                                   uint32_t now, const uint8_t *frame,
+                                                   size_t frame_len, uint8_t *work, size_t work_len)
+{
+    return shinglebar_send_watched(port, inner, nickname, compact, confidence, seconds, watch, now,
+                                   shinglebar_const_area(frame, frame_len), frame_len,
+                                   shinglebar_area(work, work_len), work_len);
 }
 
 #endif /* SHINGLEBAR_TABLE_ONLY */

@@ -8,14 +8,15 @@
 //! | receive, flush, flush_vlan_only | 67 flushed | 8..23 records cleared |
 //! | flush_portion | 64 portion done | 8..23 cleared, 24..39 next slot, 40..55 examined |
 //! | compact, expand, widen, write_flush | 64 written | 8..23 length |
-//! | send | 64 compacted | 8..23 length |
-//! | send | 65 the frame itself | |
+//! | send, send_watched | 64 compacted | 8..23 length |
+//! | send, send_watched | 65 the frame itself | |
 //! | lookup | 64 found | 8..23 nickname |
 //! | spoilt | 64 slot | 8..23 slot |
 //! | lookup, spoilt | 65 none | |
 //! | free slot | 64 slot | 8..23 slot; 32..47 unpacked |
 //! | free slot | 65 none | 32..47 unpacked |
 //! | age | 64 done | |
+//! | watch_reset, _tick, _event | 64 | 8..39 seconds left |
 //!
 //! All other bits are 0. A refusal is its number alone.
 

@@ -10,6 +10,8 @@
 
 #![allow(missing_docs)]
 
+use crate::Watch;
+
 extern "C" {
     pub fn shinglebar_receive(
         port: u64,
@@ -122,5 +124,26 @@ extern "C" {
         macs_len: usize,
         out: *mut u8,
         out_len: usize,
+    ) -> u64;
+
+    pub fn shinglebar_watch_reset(watch: *mut Watch, now: u32) -> u64;
+
+    pub fn shinglebar_watch_tick(watch: *mut Watch, now: u32) -> u64;
+
+    pub fn shinglebar_watch_event(watch: *mut Watch, now: u32, kind: u32, time: u16) -> u64;
+
+    pub fn shinglebar_send_watched(
+        port: u64,
+        inner: u64,
+        nickname: u32,
+        compact: u32,
+        confidence: u32,
+        seconds: u32,
+        watch: *mut Watch,
+        now: u32,
+        frame: *const u8,
+        frame_len: usize,
+        work: *mut u8,
+        work_len: usize,
     ) -> u64;
 }

@@ -13,6 +13,7 @@
 //! | [`flush_vlan_only`] | carries it out as the VLAN-only model does |
 //! | [`compact`], [`expand`] | convert between General and Compact Format |
 //! | [`send`] | chooses what to send to a far port |
+//! | [`send_watched`], [`Watch`] | the same at a port that stops compacting when the link looks shared |
 //! | [`lookup`], [`age`], [`spoilt`], [`free_slot`] | the address table |
 //! | [`widen`] | makes an older table, of records of 14 bytes, one of 15 |
 //! | [`write_flush`] | writes the payload of an Address Flush |
@@ -64,6 +65,7 @@ pub mod raw;
 mod refusal;
 mod values;
 mod write;
+mod watch;
 
 pub use answer::{
     decode, encode, Aged, Answer, Compacted, Expanded, Flushed, Found, FreeSlot, Learning,
@@ -73,6 +75,7 @@ pub use answer::{
 pub use refusal::Refusal;
 pub use values::{Label, Mac, Outer, Settings};
 pub use write::{write_flush, Asked};
+pub use watch::{send_watched, Event, Left, Watch};
 
 /// The version of the package, which is that of the library's header.
 pub const VERSION: &str = env!("CARGO_PKG_VERSION");

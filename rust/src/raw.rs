@@ -6,6 +6,7 @@
 #![allow(unsafe_code)]
 
 use crate::exports;
+use crate::Watch;
 
 /// The settings of a port as the C boundary passes them: any numbers. Those out of range are
 /// refusal 1.
@@ -235,6 +236,56 @@ pub fn write_flush(
             macs.len(),
             out.as_mut_ptr(),
             out.len(),
+        )
+    }
+}
+
+/// Resets a watch.
+#[inline]
+pub fn watch_reset(watch: &mut Watch, now: u32) -> u64 {
+    // SAFETY: a watch that is lent for writing to this call alone.
+    unsafe { exports::shinglebar_watch_reset(watch, now) }
+}
+
+/// Takes the time passed off a watch.
+#[inline]
+pub fn watch_tick(watch: &mut Watch, now: u32) -> u64 {
+    // SAFETY: a watch that is lent for writing to this call alone.
+    unsafe { exports::shinglebar_watch_tick(watch, now) }
+}
+
+/// Reports an event to a watch. `kind` is 0 to 3; any other is refusal 1.
+#[inline]
+pub fn watch_event(watch: &mut Watch, now: u32, kind: u32, time: u16) -> u64 {
+    // SAFETY: a watch that is lent for writing to this call alone.
+    unsafe { exports::shinglebar_watch_event(watch, now, kind, time) }
+}
+
+/// Chooses what to send to a far port, at a port with a watch.
+#[inline]
+pub fn send_watched(
+    far: &Settings,
+    watch: &mut Watch,
+    now: u32,
+    frame: &[u8],
+    work: &mut [u8],
+) -> u64 {
+    // SAFETY: two slices: neither is null, each is as long as said; the working area and the watch,
+    // which are lent for writing, overlap nothing, being `&mut`.
+    unsafe {
+        exports::shinglebar_send_watched(
+            far.port,
+            far.inner,
+            far.nickname,
+            far.compact,
+            far.confidence,
+            far.seconds,
+            watch,
+            now,
+            frame.as_ptr(),
+            frame.len(),
+            work.as_mut_ptr(),
+            work.len(),
         )
     }
 }

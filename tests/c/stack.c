@@ -176,6 +176,18 @@ static uint64_t call_send(void)
     return shinglebar_send(SETTINGS, frame, frame_length, out, sizeof out);
 }
 
+static uint64_t call_send_watched(void)
+{
+    static struct shinglebar_watch watch;
+    return shinglebar_send_watched(SETTINGS, &watch, 1, frame, frame_length, out, sizeof out);
+}
+
+static uint64_t call_watch_event(void)
+{
+    static struct shinglebar_watch watch;
+    return shinglebar_watch_event(&watch, 1, SHINGLEBAR_EVENT_BRIDGE_BPDU, 641);
+}
+
 static uint64_t call_lookup(void)
 {
     return shinglebar_lookup(SHINGLEBAR_LABEL_VLAN, 10, (uint64_t)1 << 40, table, sizeof table);
@@ -313,6 +325,8 @@ static void others(void)
     within("receive without a flush", taken("receive", call_receive, SHINGLEBAR_RECEIVE_DELIVERED), most);
     within("compact", taken("compact", call_compact, SHINGLEBAR_COMPACT_WRITTEN), most);
     within("send", taken("send", call_send, SHINGLEBAR_SEND_COMPACTED), most);
+    within("send watched", taken("send watched", call_send_watched, SHINGLEBAR_SEND_COMPACTED), most);
+    within("watch event", taken("watch event", call_watch_event, SHINGLEBAR_WATCH_LEFT), most);
     make_frame(1);
     within("receive without a flush, Compact", taken("receive", call_receive, SHINGLEBAR_RECEIVE_DELIVERED), most);
     within("expand", taken("expand", call_expand, SHINGLEBAR_EXPAND_WRITTEN), most);

@@ -11,7 +11,7 @@ use shinglebar::{
 use crate::lend::Lend;
 use crate::reference::Settings;
 
-fn numbers(settings: &Settings) -> raw::Settings {
+pub(crate) fn numbers(settings: &Settings) -> raw::Settings {
     raw::Settings {
         port: settings.port,
         inner: settings.inner,

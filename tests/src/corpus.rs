@@ -62,6 +62,10 @@ pub fn files(stdin: &str, stdout: &str) -> BTreeMap<String, Vec<u8>> {
             continue;
         }
         let result = results.next().expect("a line of stdout for each call");
+        // Calls that have a target of their own (fuzz/watch.c).
+        if usize::from(call) >= NAMES.len() {
+            continue;
+        }
         let answer = bytes(part(result, 0))[7];
         // Document 02's calls have targets of their own.
         let Some(name) = NAMES.get(usize::from(call)) else {

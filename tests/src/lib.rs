@@ -44,3 +44,4 @@ pub mod random;
 pub mod reference;
 pub mod run;
 pub mod vectors;
+pub mod watched;

@@ -8,6 +8,7 @@ use crate::generate::{self, Pool};
 use crate::random::Random;
 use crate::reference::{self, write, Entry, Label, Settings, OLD_RECORD, RECORD};
 use crate::run::{self, Answers};
+use crate::watched;
 
 /// What the program's input and table hold at most, and its output or working area.
 const ROOM: usize = 1024;
@@ -97,7 +98,7 @@ pub const ANSWERS: &[(u8, Answers)] = &[
     (0x27, run::FLUSH),
 ];
 
-fn settings_bytes(settings: &Settings) -> Vec<u8> {
+pub(crate) fn settings_bytes(settings: &Settings) -> Vec<u8> {
     let mut bytes = Vec::new();
     bytes.extend(settings.port.to_be_bytes());
     bytes.extend(settings.inner.to_be_bytes());
@@ -576,6 +577,12 @@ pub fn files() -> (String, String) {
         let call = Call::random(random, &pool, &table);
         replay.offer(table, &call);
         case += 1;
+    }
+    // The watch (2026-06), by value.
+    for (number, body, word, work, [left, reading]) in watched::vectors(&mut replay.area) {
+        replay.input += &input_line(number, &body);
+        let (table, work) = (hex(&replay.table), hex(&work));
+        replay.output += &format!("{word:016x} {table} {work} {left:08x}{reading:08x}\n");
     }
     (replay.input, replay.output)
 }

@@ -2184,11 +2184,16 @@ fn each_command_has_help_on_each_of_its_options() {
                 "--out",
                 "--mac",
                 "--json",
+                "--watch",
                 "--quiet",
             ],
             true,
         ),
-        ("send", &["--interface", "--json", "--quiet"], true),
+        (
+            "send",
+            &["--interface", "--json", "--watch", "--quiet"],
+            true,
+        ),
     ];
     let all = good(&run_in(&folder, &["--help"]));
     for (command, options, with_settings) in commands {
@@ -2230,6 +2235,36 @@ fn a_missing_interface_is_said() {
         bad(&output, 1, "interface none0: No such device");
         assert_eq!(names(&folder), ["in"]);
     }
+}
+
+#[test]
+fn a_watch_that_is_missing_or_is_none_is_said() {
+    let folder = folder("watch");
+    fs::write(folder.join("in"), USUAL.header()).expect("a capture");
+    for (watch, said) in [
+        ("none", "none: No such file or directory"),
+        ("empty", "empty is no watch"),
+        ("short", "short is no watch"),
+        ("large", "large is no watch"),
+        ("long", "long is no watch"),
+    ] {
+        let text = match watch {
+            "empty" => "",
+            "short" => "11 3976\n",
+            "large" => "4294967296 0000003976\n",
+            "long" => "0000000011 0000003976\n\n",
+            _ => "",
+        };
+        if watch != "none" {
+            fs::write(folder.join(watch), text).expect("a watch");
+        }
+        let words = ["send", "in", "--interface", "none0", "--watch", watch];
+        bad(&run_in(&folder, &[&words[..], &SETTINGS].concat()), 1, said);
+    }
+    fs::write(folder.join("good"), "0000000011 0000003976\n").expect("a watch");
+    let words = ["send", "in", "--interface", "none0", "--watch", "good"];
+    let output = run_in(&folder, &[&words[..], &SETTINGS].concat());
+    bad(&output, 1, "interface none0: No such device");
 }
 
 #[test]

@@ -5,7 +5,7 @@ use std::collections::BTreeSet;
 use std::fs;
 use std::path::Path;
 
-use shinglebar_tests::vectors;
+use shinglebar_tests::{vectors, watched};
 
 fn file(name: &str) -> String {
     let path = Path::new(env!("CARGO_MANIFEST_DIR"))
@@ -44,6 +44,7 @@ fn every_answer_of_every_call_occurs() {
     let found: BTreeSet<(u8, u8)> = calls.into_iter().zip(answers).collect();
     let wanted: BTreeSet<(u8, u8)> = vectors::ANSWERS
         .iter()
+        .chain(watched::ANSWERS)
         .flat_map(|(call, answers)| answers.iter().map(|(answer, _)| (*call, *answer)))
         .collect();
     assert_eq!(found, wanted);

@@ -103,7 +103,7 @@ fn compacted(port: &Port, frame: &[u8], out: &mut [u8]) -> Result<u64, u64> {
 }
 
 #[inline(always)]
-fn sent(port: &Port, frame: &[u8], work: &mut [u8]) -> Result<u64, u64> {
+pub(super) fn sent(port: &Port, frame: &[u8], work: &mut [u8]) -> Result<u64, u64> {
     if work.len() < WORKING_AREA {
         return Err(refusal::OUTPUT_LENGTH);
     }

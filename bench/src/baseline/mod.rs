@@ -19,9 +19,11 @@ mod refusal;
 mod settings;
 mod table;
 mod write;
+mod watch;
 
 pub use convert::{compact, expand, send};
 pub use flush::{flush, flush_portion, flush_vlan_only};
 pub use receive::receive;
 pub use table::{age, free_slot, lookup, spoilt};
+pub use watch::{send_watched, watch_event};
 pub use write::write_flush;

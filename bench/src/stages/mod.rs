@@ -12,6 +12,8 @@ mod receive;
 mod table;
 #[cfg(feature = "flush")]
 mod write;
+#[cfg(feature = "convert")]
+mod watch;
 
 const STAGES: &[fn(&Report)] = &[
     #[cfg(feature = "table")]
@@ -24,6 +26,8 @@ const STAGES: &[fn(&Report)] = &[
     convert::run,
     #[cfg(feature = "flush")]
     write::run,
+    #[cfg(feature = "convert")]
+    watch::run,
 ];
 
 pub fn run(report: &Report) {

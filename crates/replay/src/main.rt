@@ -1,6 +1,9 @@
 ghost use Prim.Native.Nat.{_≤_};
 ghost use lib.ListN.{length};
 use frame::Settings;
+
+mod watched;
+
 // Replays calls on one table: reads them from standard input in hex, and writes each answer and the bytes it left. docs/REPLAY.md
 // describes the form.
 
@@ -353,6 +356,12 @@ fn replay_call(kind: u64, b: &[u8], table: &mut [u8], area: &mut [u8]) -> bool {
     }
     if kind == 0x25 {
         return replay_portion(b, table);
+    }
+    if kind == 0x60 {
+        return watched::replay_watch(b, table);
+    }
+    if kind == 0x61 {
+        return watched::replay_send(b, table, area);
     }
     false
 }

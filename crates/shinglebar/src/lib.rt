@@ -41,6 +41,8 @@ use table::LookupAnswer;
 use table::SpoiltAnswer;
 use table::WidenAnswer;
 
+pub mod watched;
+
 fn lookup_word(a: LookupAnswer) -> u64
     ensures { λ r. ⌜ r ≡ lookupWord a ⌝ }
 {

@@ -17,6 +17,7 @@ mod settings;
 mod small;
 mod table;
 mod write;
+mod watch;
 
 pub use convert::{compact, expand, send, WORKING_AREA};
 pub use flush::flush;
@@ -29,6 +30,7 @@ pub use refusal::Refusal;
 pub use settings::{Settings, DEFAULT_LIFE, OLD_LIFE};
 pub use small::flush_vlan_only;
 pub use table::{age, free_slot, lookup, spoilt};
+pub use watch::{send_watched, watch_event, watch_reset, watch_tick, Watch};
 pub use write::{write_flush, Block, Lists};
 
 /// "Numbers are most significant byte first."

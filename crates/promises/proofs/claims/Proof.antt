@@ -37,6 +37,8 @@ use Rattle.port_map.proofs.Searches.{search-inverse}
 use Rattle.receive.proofs.NoMap.{no-map-no-change}
 use Rattle.receive.proofs.Padded.{padded-read}
 use Rattle.receive.proofs.Order.{reads-exactly}
+use Rattle.watch.proofs.Stops.{stop-never-shortened, stop-runs-out, watch-cases}
+use Rattle.watch.proofs.Sends.{sending-while-stopped, refused-watch-stays}
 use Rattle.ingress.proofs.Worked.{map-cases, ingress-refusal}
 use Rattle.ingress.proofs.Trip.{map-round-trip}
 use Rattle.promises.specs.Claims.{RefusalChangesNothing, HomesStayApart, SpoiltStays, ConfiguredStays}
@@ -81,7 +83,10 @@ returns c = (
         (full-model, vlan-only, not-promised),
         (
           (blocks-hold, maps-hold, unpack-packed, pack-unpacked, kept-writes-nothing, header-local, label-local, labels-good, reads-same, reads-parsed),
-          (writer-exact, writer-clears, writer-length, writer-calls, writer-cases),
+          (
+            (writer-exact, writer-clears, writer-length, writer-calls, writer-cases),
+            (stop-never-shortened, stop-runs-out, sending-while-stopped, refused-watch-stays, watch-cases),
+          ),
         ),
       ),
     ),
