@@ -369,11 +369,13 @@ static inline const char *shinglebar_refusal_string(uint64_t result)
         "flush payload corrupt",
         "output area shorter than the result",
         "frame may not be compacted",
-        "a General frame given where Compact is required"
+        "a General frame given where Compact is required",
+        "no refusal",
+        "no refusal",
+        "no refusal",
+        "no refusal",
+        "lists that cannot be written as a flush"
     };
-    if (result == SHINGLEBAR_REFUSAL_LISTS) {
-        return "lists that cannot be written as a flush";
-    }
     return words[result < sizeof words / sizeof words[0] ? (size_t)result : 0];
 }
 

@@ -50,11 +50,12 @@ fn records_are_packed_and_unpacked_as_the_library_does() {
 
 #[test]
 fn the_refusal_strings_are_the_words_of_the_rust_package_and_of_the_readme() {
-    let mut wanted = String::from("0 no refusal\n");
-    for refusal in Refusal::ALL {
-        wanted += &format!("{} {refusal}\n", refusal.number());
+    let mut wanted = String::new();
+    for number in 0..32 {
+        let words = Refusal::from_number(number).map_or("no refusal", Refusal::words);
+        wanted += &format!("{number} {words}\n");
     }
-    wanted += "19 no refusal\nonward no refusal\nwide no refusal\n";
+    wanted += "onward no refusal\nwide no refusal\n";
     for printed in c_program::compile_and_run("strings.c") {
         assert_eq!(printed, wanted);
     }
