@@ -58,7 +58,17 @@ enum Call {
         room: usize,
         frame: Vec<u8>,
     },
+    Write {
+        nicknames: Vec<u8>,
+        vlans: Vec<u8>,
+        fine: Vec<u8>,
+        macs: Vec<u8>,
+        room: usize,
+    },
 }
+
+/// The number of writing a flush.
+pub const WRITE: u8 = 0x13;
 
 /// The calls' numbers, and the answers that each must give in some vector.
 pub const ANSWERS: &[(u8, Answers)] = &[
@@ -70,6 +80,7 @@ pub const ANSWERS: &[(u8, Answers)] = &[
     (6, run::COMPACT),
     (7, run::EXPAND),
     (8, run::SEND),
+    (WRITE, run::WRITE),
 ];
 
 fn settings_bytes(settings: &Settings) -> Vec<u8> {
@@ -162,6 +173,7 @@ impl Call {
             Call::Compact { .. } => 6,
             Call::Expand { .. } => 7,
             Call::Send { .. } => 8,
+            Call::Write { .. } => WRITE,
         }
     }
 
@@ -171,7 +183,8 @@ impl Call {
             Call::Receive { room, .. }
             | Call::Compact { room, .. }
             | Call::Expand { room, .. }
-            | Call::Send { room, .. } => *room,
+            | Call::Send { room, .. }
+            | Call::Write { room, .. } => *room,
             Call::Flush { .. } | Call::Age { .. } | Call::Lookup { .. } | Call::Spoilt => 0,
         }
     }
@@ -218,6 +231,23 @@ impl Call {
             ]
             .concat(),
             Call::Spoilt => Vec::new(),
+            Call::Write {
+                nicknames,
+                vlans,
+                fine,
+                macs,
+                room,
+            } => [
+                &length(nicknames.len())[..],
+                &length(vlans.len()),
+                &length(fine.len()),
+                &length(*room),
+                nicknames,
+                vlans,
+                fine,
+                macs,
+            ]
+            .concat(),
         }
     }
 
@@ -251,6 +281,13 @@ impl Call {
                 room,
                 frame,
             } => reference::send(settings, frame, &mut area[..*room]),
+            Call::Write {
+                nicknames,
+                vlans,
+                fine,
+                macs,
+                room,
+            } => reference::write_flush(nicknames, vlans, fine, macs, &mut area[..*room]),
         }
     }
 
@@ -322,6 +359,7 @@ impl Replay {
         self.vectors >= AT_LEAST
             && ANSWERS
                 .iter()
+                .filter(|(number, _)| *number != WRITE)
                 .all(|(number, answers)| answers.iter().all(|(answer, _)| kept(*number, *answer)))
     }
 }
@@ -379,6 +417,41 @@ fn control_calls(room: usize) -> Vec<Call> {
     captures::control().into_iter().flat_map(calls).collect()
 }
 
+/// Flushes to write (2026-03): the two of the request; both sides of a full TLV of each kind; one short area; what is refused.
+fn write_calls() -> Vec<Call> {
+    let many = |count: u64, width: usize| -> Vec<u8> {
+        let numbers = (1..=count).flat_map(|at| [at, at + 1]);
+        let bytes = numbers.flat_map(|number| number.to_be_bytes()[8 - width..].to_vec());
+        bytes.collect()
+    };
+    let write = |nicknames: &[u8], v: &[u8], f: &[u8], m: &[u8], room: usize| Call::Write {
+        nicknames: nicknames.to_vec(),
+        vlans: v.to_vec(),
+        fine: f.to_vec(),
+        macs: m.to_vec(),
+        room,
+    };
+    let vlans = [0, 10, 0, 12];
+    let mac = [0, 0, 2, 0, 0, 0, 0, 1, 0, 0, 2, 0, 0, 0, 0, 1];
+    vec![
+        write(&[0x12, 0x34], &vlans, &[], &[], 8),
+        write(&[], &vlans, &[], &mac, 22),
+        write(&[], &vlans, &[], &mac, 21),
+        write(&[], &many(63, 2), &many(1, 4), &[], 300),
+        write(&[], &many(64, 2), &many(1, 4), &[], 300),
+        write(&[], &[], &many(42, 4), &[], 300),
+        write(&[], &[], &many(43, 4), &[], 300),
+        write(&[], &vlans, &[], &many(21, 8), 300),
+        write(&[], &vlans, &[], &many(22, 8), 300),
+        write(&[], &[], &[], &mac, 22),
+        write(&[], &[0, 12, 0, 10], &[], &[], 22),
+        write(&[], &[0, 0, 0, 10], &[], &[], 22),
+        write(&[], &[0, 10, 0x0F, 0xFF], &[], &[], 22),
+        write(&[], &[], &[0, 0, 0, 0, 1, 0, 0, 0], &[], 22),
+        write(&[], &vlans[..3], &[], &[], 22),
+    ]
+}
+
 /// The input and the output of the program; always the same ones.
 pub fn files() -> (String, String) {
     let mut replay = Replay {
@@ -426,6 +499,9 @@ pub fn files() -> (String, String) {
         let call = Call::random(random, &pool, &table);
         replay.offer(table, &call);
         case += 1;
+    }
+    for call in write_calls() {
+        replay.offer(replay.table.clone(), &call);
     }
     (replay.input, replay.output)
 }
