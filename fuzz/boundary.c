@@ -23,7 +23,7 @@
 #include "shinglebar.h"
 
 static const char *const names[CALLS] = {"send",   "receive", "flush",   "age",
-                                         "lookup", "spoilt",  "compact", "expand"};
+                                         "lookup", "spoilt",  "compact", "expand", "write"};
 
 /* What a call can give: its refusals, a bit for each, and its kinds with the bits of their values. */
 #define REFUSAL(name) (1u << SHINGLEBAR_REFUSAL_##name)
@@ -62,6 +62,7 @@ static const struct answers {
     [SPOILT] = {TABLE_REFUSALS, {{SHINGLEBAR_SPOILT_SLOT, ONE_VALUE}, {SHINGLEBAR_SPOILT_NONE, 0}}},
     [COMPACT] = {COMPACT_REFUSALS, {{SHINGLEBAR_COMPACT_WRITTEN, ONE_VALUE}}},
     [EXPAND] = {FRAME_REFUSALS | REFUSAL(GENERAL), {{SHINGLEBAR_EXPAND_WRITTEN, ONE_VALUE}}},
+    [WRITE] = {REFUSAL(LISTS) | REFUSAL(OUTPUT_LENGTH), {{SHINGLEBAR_WRITE_FLUSH_WRITTEN, ONE_VALUE}}},
 };
 
 /* The archive has no coverage counters. These stand in for them: libFuzzer keeps an input that gives a
@@ -103,6 +104,8 @@ struct region {
 };
 
 static struct region frames, tables, outs;
+/* The lists of VLAN and of fine-grained blocks; nicknames lie where a table does, MAC blocks where a frame does. */
+static struct region vlan_lists, fine_lists;
 static uint8_t pattern[1 << 16];
 
 static void must(int holds, const char *what)
@@ -142,6 +145,8 @@ int LLVMFuzzerInitialize(int *count, char ***arguments)
     make_region(&frames);
     make_region(&tables);
     make_region(&outs);
+    make_region(&vlan_lists);
+    make_region(&fine_lists);
     for (size_t at = 0; at < sizeof pattern; at++)
         pattern[at] = (uint8_t)(at * 167 + 13);
     atexit(print_tally);
@@ -211,7 +216,7 @@ static void check_word(enum call call, uint64_t word)
     tally[call][low]++;
     reached[call][low] = 1;
     if (shinglebar_is_refusal(word)) {
-        check(word <= 18 && (answers[call].refusals >> word & 1), call, word, "no refusal of it");
+        check(word <= 31 && (answers[call].refusals >> word & 1), call, word, "no refusal of it");
         return;
     }
     for (unsigned at = 0; at < 4; at++) {
@@ -362,12 +367,40 @@ static void bring_into_ranges(struct numbers *it)
         it->tag = it->tag % 0xFFE + 1;
 }
 
+/* Writing a flush: a refusal has changed nothing, and what is written is a payload that flush accepts. */
+static int write_one(struct input *input, int side)
+{
+    size_t nicknames_length = (size_t)number(input, 2), vlans_length = (size_t)number(input, 2);
+    size_t fine_length = (size_t)number(input, 2), room = (size_t)number(input, 2);
+    struct area nicknames = some(input, &tables, side, nicknames_length);
+    struct area vlans = some(input, &vlan_lists, side, vlans_length);
+    struct area fine = some(input, &fine_lists, side, fine_length);
+    struct area macs = some(input, &frames, side, input->left);
+    struct area out = lend(&outs, side, pattern, room);
+    uint64_t word = shinglebar_write_flush(nicknames.read, nicknames.length, vlans.read, vlans.length, fine.read,
+                                           fine.length, macs.read, macs.length, out.write, out.length);
+    check_word(WRITE, word);
+    if (shinglebar_is_refusal(word)) {
+        check(kept(&out, 0), WRITE, word, "the area is changed");
+        return 0;
+    }
+    size_t written = shinglebar_written_length(word);
+    uint8_t slot[SHINGLEBAR_RECORD_LENGTH] = {0};
+    check(written <= out.length && written <= SHINGLEBAR_WRITTEN_LENGTH_MAX, WRITE, word, "too long");
+    check(kept(&out, written), WRITE, word, "the area is changed behind what is written");
+    check(shinglebar_flush(1, out.read, written, slot, sizeof slot) == SHINGLEBAR_FLUSH_FLUSHED, WRITE, word,
+          "flush does not accept what is written");
+    return 0;
+}
+
 int LLVMFuzzerTestOneInput(const uint8_t *bytes, size_t length)
 {
     struct input input = {bytes, length};
     unsigned selector = (unsigned)number(&input, 1);
-    enum call call = (enum call)(selector & 7);
+    enum call call = call_of(selector);
     int side = selector >> 3 & 1;
+    if (call == WRITE)
+        return write_one(&input, side);
     int as_they_are = selector >> 4 & 1;
     struct numbers it = read_numbers(call, &input);
     size_t table_length = has_table(call) ? (size_t)number(&input, 2) : 0;

@@ -3,15 +3,25 @@
 
 use std::collections::BTreeMap;
 
+use crate::vectors::WRITE;
+
 /// The calls' numbers are those of docs/REPLAY.md.
 const NAMES: [&str; 9] = [
     "table", "receive", "flush", "age", "lookup", "spoilt", "compact", "expand", "send",
 ];
 const TABLE: u8 = 0;
 
+/// The name of a call.
+fn name(call: u8) -> &'static str {
+    match call {
+        WRITE => "write",
+        _ => NAMES[usize::from(call)],
+    }
+}
+
 /// The numbers in front of the frame, payload or table: settings are 32 bytes, an area's length 2.
 fn numbers_length(call: u8) -> usize {
-    match NAMES[usize::from(call)] {
+    match name(call) {
         "receive" | "compact" | "send" => 32 + 2,
         "expand" => 32 + 8 + 4 + 4 + 2,
         "flush" => 4,
@@ -22,7 +32,7 @@ fn numbers_length(call: u8) -> usize {
 }
 
 fn has_table(call: u8) -> bool {
-    !matches!(NAMES[usize::from(call)], "compact" | "expand" | "send")
+    !matches!(name(call), "compact" | "expand" | "send" | "write")
 }
 
 fn bytes(hex: &str) -> Vec<u8> {
@@ -40,7 +50,8 @@ fn part(line: &str, at: usize) -> &str {
 fn input(call: u8, answer: u8, body: &[u8], table: &[u8]) -> Vec<u8> {
     let (numbers, rest) = body.split_at(numbers_length(call));
     let as_they_are = matches!(answer, 1 | 2);
-    let mut input = vec![call & 7 | u8::from(as_they_are) << 4];
+    let selector = if call == WRITE { 0x20 } else { call & 7 };
+    let mut input = vec![selector | u8::from(as_they_are) << 4];
     input.extend(numbers);
     if has_table(call) {
         input.extend((table.len() as u16).to_be_bytes());
@@ -67,8 +78,8 @@ pub fn files(stdin: &str, stdout: &str) -> BTreeMap<String, Vec<u8>> {
             continue;
         }
         let answer = bytes(part(result, 0))[7];
-        // Document 02's calls have targets of their own.
-        let Some(name) = NAMES.get(usize::from(call)) else {
+        // Some of document 02's calls have targets of their own.
+        let Some(name) = name(call) else {
             table = bytes(part(result, 1));
             continue;
         };

@@ -103,6 +103,12 @@ pub const SEND: Answers = &[
     (65, "the frame itself"),
 ];
 
+pub const WRITE: Answers = &[
+    (16, "refusal 16: output area"),
+    (23, "refusal 23: lists"),
+    (64, "written"),
+];
+
 /// Counts the answers of a call, and situations by name.
 pub struct Tally {
     words: [u64; 256],

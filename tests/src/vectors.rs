@@ -74,6 +74,13 @@ enum Call {
         ingress: u32,
         payload: Vec<u8>,
     },
+    Write {
+        nicknames: Vec<u8>,
+        vlans: Vec<u8>,
+        fine: Vec<u8>,
+        macs: Vec<u8>,
+        room: usize,
+    },
 }
 
 /// The number of the search for a free slot (2026-04).
@@ -81,6 +88,9 @@ const FREE_SLOT: u8 = 0x24;
 
 /// The number of widening, which is that of its request.
 const WIDEN: u8 = 0x12;
+
+/// The number of writing a flush.
+pub const WRITE: u8 = 0x13;
 
 /// The calls' numbers, and the answers that each must give in some vector.
 pub const ANSWERS: &[(u8, Answers)] = &[
@@ -96,6 +106,7 @@ pub const ANSWERS: &[(u8, Answers)] = &[
     (WIDEN, run::WIDEN),
     (0x25, run::PORTION),
     (0x27, run::FLUSH),
+    (WRITE, run::WRITE),
 ];
 
 pub(crate) fn settings_bytes(settings: &Settings) -> Vec<u8> {
@@ -193,6 +204,7 @@ impl Call {
             Call::Widen { .. } => WIDEN,
             Call::Portion { .. } => 0x25,
             Call::VlanOnly { .. } => 0x27,
+            Call::Write { .. } => WRITE,
         }
     }
 
@@ -203,7 +215,8 @@ impl Call {
             | Call::Compact { room, .. }
             | Call::Expand { room, .. }
             | Call::Send { room, .. }
-            | Call::Widen { room, .. } => *room,
+            | Call::Widen { room, .. }
+            | Call::Write { room, .. } => *room,
             Call::Flush { .. }
             | Call::Age { .. }
             | Call::Lookup { .. }
@@ -271,6 +284,23 @@ impl Call {
                 payload,
             ]
             .concat(),
+            Call::Write {
+                nicknames,
+                vlans,
+                fine,
+                macs,
+                room,
+            } => [
+                &length(nicknames.len())[..],
+                &length(vlans.len()),
+                &length(fine.len()),
+                &length(*room),
+                nicknames,
+                vlans,
+                fine,
+                macs,
+            ]
+            .concat(),
         }
     }
 
@@ -315,6 +345,13 @@ impl Call {
                 frame,
             } => reference::send(settings, frame, &mut area[..*room]),
             Call::Widen { room, old } => reference::widen(old, &mut area[..*room]),
+            Call::Write {
+                nicknames,
+                vlans,
+                fine,
+                macs,
+                room,
+            } => reference::write_flush(nicknames, vlans, fine, macs, &mut area[..*room]),
         }
     }
 
@@ -386,6 +423,7 @@ impl Replay {
         self.vectors >= AT_LEAST
             && ANSWERS
                 .iter()
+                .filter(|(number, _)| *number != WRITE)
                 .all(|(number, answers)| answers.iter().all(|(answer, _)| kept(*number, *answer)))
     }
 }
@@ -524,6 +562,41 @@ fn offer_vlan_only(replay: &mut Replay) {
     }
 }
 
+/// Flushes to write (2026-03): the two of the request; both sides of a full TLV of each kind; one short area; what is refused.
+fn write_calls() -> Vec<Call> {
+    let many = |count: u64, width: usize| -> Vec<u8> {
+        let numbers = (1..=count).flat_map(|at| [at, at + 1]);
+        let bytes = numbers.flat_map(|number| number.to_be_bytes()[8 - width..].to_vec());
+        bytes.collect()
+    };
+    let write = |nicknames: &[u8], v: &[u8], f: &[u8], m: &[u8], room: usize| Call::Write {
+        nicknames: nicknames.to_vec(),
+        vlans: v.to_vec(),
+        fine: f.to_vec(),
+        macs: m.to_vec(),
+        room,
+    };
+    let vlans = [0, 10, 0, 12];
+    let mac = [0, 0, 2, 0, 0, 0, 0, 1, 0, 0, 2, 0, 0, 0, 0, 1];
+    vec![
+        write(&[0x12, 0x34], &vlans, &[], &[], 8),
+        write(&[], &vlans, &[], &mac, 22),
+        write(&[], &vlans, &[], &mac, 21),
+        write(&[], &many(63, 2), &many(1, 4), &[], 300),
+        write(&[], &many(64, 2), &many(1, 4), &[], 300),
+        write(&[], &[], &many(42, 4), &[], 300),
+        write(&[], &[], &many(43, 4), &[], 300),
+        write(&[], &vlans, &[], &many(21, 8), 300),
+        write(&[], &vlans, &[], &many(22, 8), 300),
+        write(&[], &[], &[], &mac, 22),
+        write(&[], &[0, 12, 0, 10], &[], &[], 22),
+        write(&[], &[0, 0, 0, 10], &[], &[], 22),
+        write(&[], &[0, 10, 0x0F, 0xFF], &[], &[], 22),
+        write(&[], &[], &[0, 0, 0, 0, 1, 0, 0, 0], &[], 22),
+        write(&[], &vlans[..3], &[], &[], 22),
+    ]
+}
+
 /// The input and the output of the program; always the same ones.
 pub fn files() -> (String, String) {
     let mut replay = Replay {
@@ -583,6 +656,9 @@ pub fn files() -> (String, String) {
         replay.input += &input_line(number, &body);
         let (table, work) = (hex(&replay.table), hex(&work));
         replay.output += &format!("{word:016x} {table} {work} {left:08x}{reading:08x}\n");
+    }
+    for call in write_calls() {
+        replay.offer(replay.table.clone(), &call);
     }
     (replay.input, replay.output)
 }

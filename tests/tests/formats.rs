@@ -73,7 +73,7 @@ fn the_order_of_refusals_has_every_number_and_a_definition_in_each_row() {
         };
         assert_eq!(step, (at + 1).to_string());
         assert!(!cited(definition).is_empty(), "{cells:?}");
-        assert!(calls.split(' ').all(|call| "RCSEFT".contains(call)));
+        assert!(calls.split(' ').all(|call| "RCSEFTW".contains(call)));
         for number in refusals.split(", ") {
             numbers.insert(number.parse::<u8>().expect("a number"));
         }

@@ -200,7 +200,7 @@ fn write_flush_touches_only_what_it_is_lent() {
     run::cases(
         "write_flush_touches_only_what_it_is_lent",
         SHARE,
-        &[(16, "refusal 16"), (23, "refusal 23"), (64, "written")],
+        run::WRITE,
         &[],
         |random, tally| {
             let count = random.length(0, 8);

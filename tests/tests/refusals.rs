@@ -345,6 +345,13 @@ fn of_two_tests_that_fail_the_one_in_the_higher_row_gives_the_number() {
     assert_eq!(raw::age(1, &mut [0; RECORD - 1]), number(4));
     assert_eq!(raw::spoilt(&[0; RECORD - 1]), number(4));
     tried.extend([(4, 'F'), (36, 'F'), (4, 'T')]);
+    let write =
+        |vlans: &[u8], room: usize| raw::write_flush(&[], vlans, &[], &[], &mut [0; 6][..room]);
+    assert_eq!(write(&[0, 10, 0, 12], 6), 64 | 6 << 8);
+    assert_eq!(write(&[0, 12, 0, 10], 0), number(38));
+    assert_eq!(write(&[0, 12, 0, 10], 6), number(38));
+    assert_eq!(write(&[0, 10, 0, 12], 5), number(39));
+    tried.extend([(38, 'W'), (39, 'W')]);
 
     // every step was tried at every call that it names, and at no other
     let named = rows.iter().enumerate().flat_map(|(at, cells)| {

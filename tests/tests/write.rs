@@ -6,13 +6,7 @@ use shinglebar_tests::compare;
 use shinglebar_tests::generate::{self, Pool};
 use shinglebar_tests::random::Random;
 use shinglebar_tests::reference::{self, Block, Label, Lists, Record, RECORD};
-use shinglebar_tests::run::{self, Answers, Tally};
-
-const WRITE: Answers = &[
-    (16, "refusal 16: output area"),
-    (23, "refusal 23: lists"),
-    (64, "written"),
-];
+use shinglebar_tests::run::{self, Tally};
 
 /// The longest payload.
 const LONGEST: usize = 6172;
@@ -203,7 +197,7 @@ fn write_flush_answers_and_writes_as_the_paper_says() {
     run::cases(
         "write_flush_answers_and_writes_as_the_paper_says",
         4,
-        WRITE,
+        run::WRITE,
         &wanted,
         |random, tally| {
             let pool = Pool::new(random);

@@ -6,17 +6,29 @@ const LISTS: u64 = 23;
 const OUTPUT_LENGTH: u64 = 16;
 const MOST: usize = 255;
 
+/// The number of K bytes, by one load.
+#[inline(always)]
+fn number<const K: usize>(bytes: &[u8]) -> u64 {
+    match *bytes {
+        [a, b] => u64::from(u16::from_be_bytes([a, b])),
+        [a, b, c, d] => u64::from(u32::from_be_bytes([a, b, c, d])),
+        [a, b, c, d, e, f, g, h] => u64::from_be_bytes([a, b, c, d, e, f, g, h]),
+        _ => 0,
+    }
+}
+
 /// Whether a list is whole blocks, not too many, each within low and high.
 #[inline(always)]
 fn good<const K: usize>(list: &[u8], low: u64, high: u64) -> bool {
-    if list.len() % (2 * K) != 0 || list.len() / (2 * K) > MOST {
+    if list.len() % (2 * K) != 0 || list.len() > MOST * 2 * K {
         return false;
     }
-    let number = |bytes: &[u8]| bytes.iter().fold(0, |sum, &b| sum << 8 | u64::from(b));
-    list.chunks_exact(2 * K).fold(true, |good, block| {
-        let (start, end) = (number(&block[..K]), number(&block[K..]));
-        good & (low <= start) & (start <= end) & (end <= high)
-    })
+    let mut good = true;
+    for block in list.chunks_exact(2 * K) {
+        let (start, end) = (number::<K>(&block[..K]), number::<K>(&block[K..]));
+        good &= (low <= start) & (start <= end) & (end <= high);
+    }
+    good
 }
 
 /// The bytes of n blocks in TLVs.
@@ -27,6 +39,10 @@ fn tlvs(n: usize, size: usize) -> usize {
 #[inline(always)]
 fn put<'a, const K: usize, const SIZE: usize>(list: &[u8], out: &'a mut [u8]) -> &'a mut [u8] {
     let (here, rest) = out.split_at_mut(list.len() / K * SIZE);
+    if K == SIZE {
+        here.copy_from_slice(list);
+        return rest;
+    }
     for (from, to) in list.chunks_exact(K).zip(here.chunks_exact_mut(SIZE)) {
         to.copy_from_slice(&from[K - SIZE..]);
     }

@@ -7,6 +7,9 @@ mod watched;
 // Replays calls on one table: reads them from standard input in hex, and writes each answer and the bytes it left. docs/REPLAY.md
 // describes the form.
 
+// The number of the call that writes a flush.
+const WRITE: u64 = 0x13;
+
 // The first byte of an area; 256 where it has none.
 fn first(b: &[u8]) -> u64 {
     if b.len() < 1 {
@@ -322,6 +325,32 @@ fn replay_portion(b: &[u8], table: &mut [u8]) -> bool {
     true
 }
 
+// 13: the lengths of the lists of nicknames, VLAN blocks and fine-grained blocks, the output area's length, the four lists.
+fn write_lists(b: &[u8], n: usize, v: usize, f: usize, table: &[u8], out: &mut [u8])
+    requires { ⌜ ((8 ≤ n) × (n ≤ v)) × ((v ≤ f) × (f ≤ length (now b))) ⌝ }
+{
+    let word = shinglebar::shinglebar_write_flush(&b[8..n], &b[n..v], &b[v..f], &b[f..], out);
+    print_call(word, table, out);
+}
+
+fn replay_write(b: &[u8], table: &[u8], area: &mut [u8]) -> bool {
+    if b.len() < 8 {
+        return false;
+    }
+    let n = 8 + numbers::be2(b, 0) as usize;
+    let v = n + numbers::be2(b, 2) as usize;
+    let f = v + numbers::be2(b, 4) as usize;
+    let room = numbers::be2(b, 6) as usize;
+    if b.len() < f {
+        return false;
+    }
+    if area.len() < room {
+        return false;
+    }
+    write_lists(b, n, v, f, table, &mut area[0..room]);
+    true
+}
+
 // Makes a call and writes what it gave; false where there is no such call.
 fn replay_call(kind: u64, b: &[u8], table: &mut [u8], area: &mut [u8]) -> bool {
     if kind == 1 {
@@ -362,6 +391,9 @@ fn replay_call(kind: u64, b: &[u8], table: &mut [u8], area: &mut [u8]) -> bool {
     }
     if kind == 0x61 {
         return watched::replay_send(b, table, area);
+    }
+    if kind == WRITE {
+        return replay_write(b, table, area);
     }
     false
 }
