@@ -1,17 +1,18 @@
 -- Laws of the small model's flush call: refused, or cleared.
 -- Assumes nothing.
 use Prim.Native.Nat.{ℕ, _+_, _-_, _*_, _≤_}
-use mathlib.Core.Bool.{Bool, true, false}
+use mathlib.Core.Bool.{Bool, true, false, not, _&&_, _||_}
 use mathlib.Core.List.{List}
-use mathlib.Core.Path.{_≡_, ap, _∙_}
+use mathlib.Core.Path.{_≡_, sym, ap, _∙_}
 use native.Mathlib.Nat.{add-sub-cancel-left}
 use native.Mathlib.Omega.{arith}
-use lib.Dec.{leb}
+use lib.Dec.{eqb, leb}
 use lib.ListN.{length, take, drop}
-use borrow.Author.Tests.{leb-true}
+use borrow.Author.Tests.{leb-true, eqb-true, not-true}
 use Rattle.numbers.specs.Result.{got, check, andThen, settled}
 use Rattle.numbers.specs.Refusals.{payload-corrupt, table-length-bad}
 use Rattle.numbers.specs.After.{OnTable, onTable}
+use Rattle.numbers.proofs.Truth.{and-both, or-either, both-true}
 use Rattle.numbers.proofs.Answers.{check-got}
 use Rattle.table.specs.Slots.{mostSlots, tableGood, slotsOf, countSlots}
 use Rattle.flush.specs.Payload.{vlanTypes, nickBytes, blockCount, behind, blockBytes, piecesOf, made, payloadOf}
@@ -28,9 +29,10 @@ use Rattle.flush_marks.specs.Marks.{Chosen, clearedMarks}
 use Rattle.flush_marks.proofs.Clearing.{cleared-whole}
 use Rattle.flush_marks.proofs.Filters.{chosen-same}
 use Rattle.flush_call.specs.Clearing.{payloadFrom}
+use Rattle.flush_call.proofs.Tests.{either-neither}
 use Rattle.flush_call.proofs.Calls.{range-cleared, whole-within, count-few, flush-slots}
 use Rattle.models.specs.Models.{flushedBy, flushedVlanOnly}
-use Rattle.models_call.proofs.Marks.{first-exact}
+use Rattle.models_call.proofs.Marks.{first-exact, slot-none, none-cleared}
 
 -- ---- the marked slots cleared
 
@@ -40,6 +42,14 @@ module _ (n : ℕ) (r : List ℕ) (f : Kinds) (noted : Noted vlanTypes n (pieces
   vlans-cleared few chosen c u e =
       range-cleared _ 0 (slotsOf t) t m (whole-within t few) (chosen-same _ _ 0 (slotsOf t) t m (first-exact n r f noted nicks ingress) chosen) c u e
       ∙ cleared-whole (slotMeant vlanTypes (payloadFrom nicks n r) ingress) t
+
+-- no label is named
+pub nothing-meant : (n : ℕ) (r : List ℕ) (f : Kinds) → Noted vlanTypes n (piecesOf n r) f → (nicks : List ℕ) (ingress : ℕ) (t : List ℕ) → eqb n 0 && not (f .every || f .vlans) ≡ true
+    → onTable 0 t ≡ clearedBy (slotMeant vlanTypes (payloadFrom nicks n r) ingress) t
+nothing-meant n r f noted nicks ingress t h =
+    let a = both-true (eqb n 0) (not (f .every || f .vlans)) (sym (and-both _ _) ∙ h) in
+    let b = either-neither (f .every) (f .vlans) (sym (or-either (f .every) (f .vlans)) ∙ not-true _ (a .1)) in
+    none-cleared _ (slot-none n r f noted (eqb-true n 0 (a .0)) (b .0) (b .1) nicks ingress) t
 
 pub small-refused : (ingress : ℕ) (l t : List ℕ) (g : Bool) → g ≡ tableGood t → g ≡ false → onTable (answer.Refused table-length-bad) t ≡ flushedVlanOnly ingress l t
 unfolding flushedBy settled check

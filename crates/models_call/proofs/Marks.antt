@@ -1,21 +1,28 @@
 -- Laws of the small model's marks: what was noted at its types, and that the first pass tests what it means.
 -- Assumes nothing.
-use Prim.Native.Nat.{ℕ}
+use Prim.Native.Nat.{ℕ, zero, suc, _+_, _*_}
 use mathlib.Core.Bool.{Bool, true, false}
 use mathlib.Core.List.{List, [], _∷_}
 use mathlib.Core.Logic.{⊎-elim}
 use mathlib.Core.Path.{_≡_, refl, sym, ap, _∙_}
 use lib.Dec.{eqb}
+use lib.ListN.{length, drop, take-append-drop}
+use borrow.Author.Tests.{eq-eqb}
 use Rattle.numbers.specs.Tests.{pick, both, either, anyOf}
+use Rattle.numbers.specs.After.{onTable}
+use Rattle.numbers.proofs.Truth.{both-left, both-right}
 use Rattle.table.specs.Record.{recordOf, kindOf, labelOf, macOf, nicknameOf, vlanKind, labelFrom, entryOf, unpacked, isLearned}
+use Rattle.table.specs.Slots.{slotBytes, slotsOf, slotAt, putSlot, onSlots, countSlots}
+use Rattle.table.specs.declared.Label.{Label}
 use Rattle.table.specs.declared.Label.the-variants.{Vlan, Fine}
 use Rattle.table.specs.declared.Slot.{Slot}
 use Rattle.table.specs.declared.Slot.the-variants.{Free, Spoilt, Learned, Configured}
 use Rattle.table.proofs.Contents.{learned-entry}
-use Rattle.flush.specs.Payload.{everyType, vlanTypes, Piece, tlv, block, stump, piecesOf, Payload}
-use Rattle.flush.specs.Meaning.{fineIn, bringsLabel, nicknameMeant, labelMeant, macMeant, entryMeant}
-use Rattle.flush.specs.Flush.{heldMeant, slotMeant}
+use Rattle.flush.specs.Payload.{everyType, vlanTypes, Piece, tlv, block, stump, tlvEnd, tlvsFrom, tlvs, piecesOf, Payload}
+use Rattle.flush.specs.Meaning.{labelIn, fineIn, bringsLabel, nicknameMeant, labelMeant, macMeant, entryMeant}
+use Rattle.flush.specs.Flush.{heldMeant, slotMeant, clearedSlot, clearedBy}
 use Rattle.flush.proofs.Lists.{false-true}
+use Rattle.flush.proofs.Flushing.{cleared-miss}
 use Rattle.flush_payload.specs.Judging.{everyKind, listKind, mapKind, ofKind, Noted}
 use Rattle.flush_payload.specs.Judging as judging
 use Rattle.flush_payload.specs.declared.Kinds.{Kinds}
@@ -23,6 +30,7 @@ use Rattle.flush_vlans.specs.Vlans.{VlansNoted}
 use Rattle.flush_marks.specs.Filters.{slotNamed}
 use Rattle.flush_nicknames.specs.First.{kindMeant, fineNoted, slotFirst}
 use Rattle.flush_call.specs.Clearing.{payloadFrom}
+use Rattle.flush_call.proofs.Tests.{either-neither}
 use Rattle.models.proofs.Meaning.{any-same, label-same, every-mac, small-types}
 
 -- ---- the types that both models implement
@@ -150,3 +158,63 @@ module _ (n : ℕ) (r : List ℕ) (f : Kinds) (noted : Noted vlanTypes n (pieces
         ∙ ap (λ (c : Bool). both learned (both named (both c true))) (label-exact s _ refl)
         ∙ ap (λ (c : Bool). both learned (both named (both (labelMeant vlanTypes ps (labelFrom (kindOf (recordOf s)) (labelOf (recordOf s)))) c))) (sym (every-mac ps (macOf (recordOf s))))
         ∙ sym (by-learned s (isLearned (unpacked s)) refl)
+
+-- ---- TLVs of other types bring no label
+
+abbrev noneMeant : Label → List Piece → Type 0
+noneMeant x ps = anyOf (ofKind vlanTypes everyKind) ps ≡ false → anyOf (ofKind vlanTypes judging.vlanKind) ps ≡ false → anyOf (bringsLabel vlanTypes x) ps ≡ false
+
+skipped : (k : ℕ) → both (vlanTypes k) (everyKind k) ≡ false → both (vlanTypes k) (judging.vlanKind k) ≡ false → vlanTypes k ≡ false
+unfolding either
+skipped k e v =
+    let six : eqb k 6 ≡ false = sym (by-every (eqb k 1) (eqb k 2) (eqb k 6)) ∙ e in
+    let two = either-neither (eqb k 1) (eqb k 2) (sym (by-vlans (eqb k 1) (eqb k 2) (eqb k 6)) ∙ v) in
+    rw (two .0, two .1, six)
+
+none-case : (x : Label) (a b : Bool) (k : ℕ) (v : List ℕ) (ps : List Piece) → noneMeant x ps → noneMeant x (pick a [] (pick b (tlv k v ∷ ps) (stump ∷ [])))
+unfolding pick anyOf ofKind either bringsLabel
+none-case x true b k v ps later e g = refl
+none-case x false false k v ps later e g = refl
+none-case x false true k v ps later e g =
+    let every = either-neither (both (vlanTypes k) (everyKind k)) _ e in
+    let vlans = either-neither (both (vlanTypes k) (judging.vlanKind k)) _ g in
+    rw (both-left (vlanTypes k) (labelIn x k v) (skipped k (every .0) (vlans .0))) (later (every .1) (vlans .1))
+
+tlvs-none : (x : Label) (n : ℕ) (l : List ℕ) → noneMeant x (tlvsFrom n l)
+unfolding tlvsFrom anyOf
+tlvs-none x zero l e g = refl
+tlvs-none x (suc n) l e g = none-case x _ _ _ _ (tlvsFrom n (drop (tlvEnd l) l)) (tlvs-none x n (drop (tlvEnd l) l)) e g
+
+module _ (n : ℕ) (r : List ℕ) (f : Kinds) (noted : Noted vlanTypes n (piecesOf n r) f) (z : n ≡ 0) (every : f .every ≡ false) (vlans : f .vlans ≡ false) (nicks : List ℕ) (ingress : ℕ) where
+  label-none : (x : Label) → labelMeant vlanTypes (piecesOf n r) x ≡ false
+  unfolding labelMeant piecesOf pick tlvs
+  label-none x =
+      let e = sym (noted .every) ∙ every in
+      let g = sym (noted .vlans) ∙ vlans in
+      rw (eq-eqb n 0 z) (tlvs-none x (length r) r (rw (eq-eqb n 0 z) at e) (rw (eq-eqb n 0 z) at g))
+
+  pub slot-none : (s : List ℕ) → slotMeant vlanTypes (payloadFrom nicks n r) ingress s ≡ false
+  unfolding entryMeant
+  slot-none s =
+      by-learned n r f noted nicks ingress s (isLearned (unpacked s)) refl
+      ∙ both-right (isLearned (unpacked s)) _ (both-right (nicknameMeant ingress nicks (entryOf (recordOf s) .nickname)) _ (both-left _ _ (label-none (entryOf (recordOf s) .label))))
+
+-- ---- where nothing is meant nothing is cleared
+
+put-back : (u : List ℕ) (k : ℕ) → putSlot k (slotAt k u) u ≡ u
+put-back u k = rw (take-append-drop slotBytes (drop (slotBytes * k) u)) (take-append-drop (slotBytes * k) u)
+
+module _ (meant : List ℕ → Bool) (none : (s : List ℕ) → meant s ≡ false) (t : List ℕ) where
+  on-none : (n : ℕ) → onSlots (clearedSlot meant) 0 n t ≡ t
+  unfolding onSlots
+  on-none zero = refl
+  on-none (suc n) = rw (on-none n, cleared-miss meant (slotAt (0 + n) t) (none (slotAt (0 + n) t))) (put-back t (0 + n))
+
+  count-none : (n : ℕ) → countSlots meant 0 n t ≡ 0
+  unfolding countSlots pick
+  count-none zero = refl
+  count-none (suc n) = rw (count-none n, none (slotAt (0 + n) t))
+
+  pub none-cleared : onTable 0 t ≡ clearedBy meant t
+  unfolding clearedBy
+  none-cleared = rw (on-none (slotsOf t), count-none (slotsOf t))

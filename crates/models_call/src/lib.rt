@@ -19,11 +19,14 @@ use numbers::refusals::PAYLOAD_CORRUPT;
 use numbers::refusals::TABLE_LENGTH_BAD;
 use table::SLOT_BYTES;
 
-// Clears the slots that a good payload means to the small model.
+// Clears the slots that a good payload means to the small model. Where it names no label there is nothing to do.
 fn clear_vlans(ingress: u32, nicks: &[u8], rest: &[u8], f: Kinds, table: &mut [u8]) -> usize
     requires { ⌜ (slotsOf (now table) ≤ mostSlots) × ((blockBytes * f .blocks ≤ length (now rest)) × Noted vlanTypes (f .blocks) (piecesOf (f .blocks) (now rest)) f) ⌝ }
     ensures { λ n. ⌜ onTable n (now (table .exit)) ≡ clearedBy (slotMeant vlanTypes (payloadFrom (now (nicks .entry)) (f .blocks) (now (rest .entry))) ingress) (now (table .entry)) ⌝ }
 {
+    if (f.blocks == 0) & !(f.every | f.vlans) {
+        return 0;
+    }
     let n = table.len() / SLOT_BYTES;
     let mut marks = [0u8; MARK_BYTES];
     flush_nicknames::mark(ingress, nicks, rest, f, table, 0, n, &mut marks);

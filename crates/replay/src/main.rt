@@ -351,6 +351,16 @@ fn replay_write(b: &[u8], table: &[u8], area: &mut [u8]) -> bool {
     true
 }
 
+// 27: the ingress nickname, the payload.
+fn replay_vlan_only(b: &[u8], table: &mut [u8]) -> bool {
+    if b.len() < 4 {
+        return false;
+    }
+    let word = shinglebar::shinglebar_flush_vlan_only(numbers::be4(b, 0) as u32, &b[4..], table);
+    print_call(word, table, &b[..0]);
+    true
+}
+
 // Makes a call and writes what it gave; false where there is no such call.
 fn replay_call(kind: u64, b: &[u8], table: &mut [u8], area: &mut [u8]) -> bool {
     if kind == 1 {
@@ -394,6 +404,9 @@ fn replay_call(kind: u64, b: &[u8], table: &mut [u8], area: &mut [u8]) -> bool {
     }
     if kind == WRITE {
         return replay_write(b, table, area);
+    }
+    if kind == 0x27 {
+        return replay_vlan_only(b, table);
     }
     false
 }
