@@ -21,7 +21,7 @@ size_t LLVMFuzzerCustomMutator(uint8_t *bytes, size_t length, size_t most, unsig
 {
     if (length == 0)
         return LLVMFuzzerMutate(bytes, length, most);
-    enum call call = (enum call)(bytes[0] & 7);
+    enum call call = call_of(bytes[0]);
     size_t numbers = numbers_length(call), table = 0, front = 1 + numbers;
     if (has_table(call))
         front += 2;

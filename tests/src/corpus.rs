@@ -8,12 +8,32 @@ const NAMES: [&str; 9] = [
     "table", "receive", "flush", "age", "lookup", "spoilt", "compact", "expand", "send",
 ];
 const TABLE: u8 = 0;
+/// Widening, whose number is that of its request.
+const WIDEN: u8 = 0x12;
+
+fn name_of(call: u8) -> &'static str {
+    match call {
+        WIDEN => "widen",
+        _ => NAMES[usize::from(call)],
+    }
+}
+
+/// The call in the bits of the fuzz target's selector: send is 0, and widening the one behind the others.
+fn selector(call: u8) -> u8 {
+    let number = match name_of(call) {
+        "send" => 0,
+        "widen" => 8,
+        _ => call,
+    };
+    number & 7 | (number >> 3) << 5
+}
 
 /// The numbers in front of the frame, payload or table: settings are 32 bytes, an area's length 2.
 fn numbers_length(call: u8) -> usize {
-    match NAMES[usize::from(call)] {
+    match name_of(call) {
         "receive" | "compact" | "send" => 32 + 2,
         "expand" => 32 + 8 + 4 + 4 + 2,
+        "widen" => 2,
         "flush" => 4,
         "age" => 2,
         "lookup" => 4 + 4 + 8,
@@ -22,7 +42,7 @@ fn numbers_length(call: u8) -> usize {
 }
 
 fn has_table(call: u8) -> bool {
-    !matches!(NAMES[usize::from(call)], "compact" | "expand" | "send")
+    !matches!(name_of(call), "compact" | "expand" | "send" | "widen")
 }
 
 fn bytes(hex: &str) -> Vec<u8> {
@@ -40,7 +60,7 @@ fn part(line: &str, at: usize) -> &str {
 fn input(call: u8, answer: u8, body: &[u8], table: &[u8]) -> Vec<u8> {
     let (numbers, rest) = body.split_at(numbers_length(call));
     let as_they_are = matches!(answer, 1 | 2);
-    let mut input = vec![call & 7 | u8::from(as_they_are) << 4];
+    let mut input = vec![selector(call) | u8::from(as_they_are) << 4];
     input.extend(numbers);
     if has_table(call) {
         input.extend((table.len() as u16).to_be_bytes());
@@ -63,7 +83,7 @@ pub fn files(stdin: &str, stdout: &str) -> BTreeMap<String, Vec<u8>> {
         }
         let result = results.next().expect("a line of stdout for each call");
         let answer = bytes(part(result, 0))[7];
-        let name = format!("{}-{answer:02}", NAMES[usize::from(call)]);
+        let name = format!("{}-{answer:02}", name_of(call));
         let input = input(call, answer, &body, &table);
         let kept = files.entry(name).or_insert_with(|| input.clone());
         if input.len() < kept.len() {

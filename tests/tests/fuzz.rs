@@ -79,7 +79,7 @@ fn the_target_accepts_its_corpus_and_reaches_every_answer() {
     let output = run_on_corpus(&program, "");
     let told = String::from_utf8_lossy(&output.stderr);
     assert!(output.status.success(), "{}\n{told}", output.status);
-    let calls: [(&str, Answers); 8] = [
+    let calls: [(&str, Answers); 9] = [
         ("send", run::SEND),
         ("receive", run::RECEIVE),
         ("flush", run::FLUSH),
@@ -88,6 +88,7 @@ fn the_target_accepts_its_corpus_and_reaches_every_answer() {
         ("spoilt", run::SPOILT),
         ("compact", run::COMPACT),
         ("expand", run::EXPAND),
+        ("widen", run::WIDEN),
     ];
     // A file for each answer, and each run twice.
     let mut expected = String::new();
