@@ -9,8 +9,10 @@
  * - the word is one that the call can give, with no bit beside those of its values;
  * - a refusal, onward, another channel and "the frame itself" have changed no byte of any area;
  * - an output or working area has kept its bytes behind what was written;
- * - delivery has changed at most one record; a flush has freed as many learned records as it says, and
- *   changed no other; ageing has changed none but learned records.
+ * - delivery has changed at most one record, but for learned ones that it has freed where it refreshed another; a
+ *   flush has freed as many learned records as it says, and changed no other; ageing has changed none but
+ *   learned records;
+ * - widening has written each record of the older table and a zero byte.
  */
 #define _GNU_SOURCE
 #include <stdio.h>
@@ -23,7 +25,7 @@
 #include "shinglebar.h"
 
 static const char *const names[CALLS] = {"send",   "receive", "flush",   "age",
-                                         "lookup", "spoilt",  "compact", "expand", "write"};
+                                         "lookup", "spoilt",  "compact", "expand", "widen"};
 
 /* What a call can give: its refusals, a bit for each, and its kinds with the bits of their values. */
 #define REFUSAL(name) (1u << SHINGLEBAR_REFUSAL_##name)
@@ -56,13 +58,13 @@ static const struct answers {
                   {SHINGLEBAR_RECEIVE_DELIVERED, DELIVERED_VALUES},
                   {SHINGLEBAR_RECEIVE_OTHER_CHANNEL, 0},
                   {SHINGLEBAR_RECEIVE_FLUSHED, ONE_VALUE}}},
+    [WIDEN] = {TABLE_REFUSALS | REFUSAL(OUTPUT_LENGTH), {{SHINGLEBAR_WIDEN_WRITTEN, ONE_VALUE}}},
     [FLUSH] = {TABLE_REFUSALS | REFUSAL(PAYLOAD), {{SHINGLEBAR_FLUSH_FLUSHED, ONE_VALUE}}},
     [AGE] = {TABLE_REFUSALS, {{SHINGLEBAR_AGE_DONE, 0}}},
     [LOOKUP] = {TABLE_REFUSALS, {{SHINGLEBAR_LOOKUP_FOUND, ONE_VALUE}, {SHINGLEBAR_LOOKUP_NONE, 0}}},
     [SPOILT] = {TABLE_REFUSALS, {{SHINGLEBAR_SPOILT_SLOT, ONE_VALUE}, {SHINGLEBAR_SPOILT_NONE, 0}}},
     [COMPACT] = {COMPACT_REFUSALS, {{SHINGLEBAR_COMPACT_WRITTEN, ONE_VALUE}}},
     [EXPAND] = {FRAME_REFUSALS | REFUSAL(GENERAL), {{SHINGLEBAR_EXPAND_WRITTEN, ONE_VALUE}}},
-    [WRITE] = {REFUSAL(LISTS) | REFUSAL(OUTPUT_LENGTH), {{SHINGLEBAR_WRITE_FLUSH_WRITTEN, ONE_VALUE}}},
 };
 
 /* The archive has no coverage counters. These stand in for them: libFuzzer keeps an input that gives a
@@ -104,8 +106,6 @@ struct region {
 };
 
 static struct region frames, tables, outs;
-/* The lists of VLAN and of fine-grained blocks; nicknames lie where a table does, MAC blocks where a frame does. */
-static struct region vlan_lists, fine_lists;
 static uint8_t pattern[1 << 16];
 
 static void must(int holds, const char *what)
@@ -145,8 +145,6 @@ int LLVMFuzzerInitialize(int *count, char ***arguments)
     make_region(&frames);
     make_region(&tables);
     make_region(&outs);
-    make_region(&vlan_lists);
-    make_region(&fine_lists);
     for (size_t at = 0; at < sizeof pattern; at++)
         pattern[at] = (uint8_t)(at * 167 + 13);
     atexit(print_tally);
@@ -216,7 +214,7 @@ static void check_word(enum call call, uint64_t word)
     tally[call][low]++;
     reached[call][low] = 1;
     if (shinglebar_is_refusal(word)) {
-        check(word <= 31 && (answers[call].refusals >> word & 1), call, word, "no refusal of it");
+        check(word <= 18 && (answers[call].refusals >> word & 1), call, word, "no refusal of it");
         return;
     }
     for (unsigned at = 0; at < 4; at++) {
@@ -275,7 +273,9 @@ static void check_receive(uint64_t word, const struct area *table, const struct 
     case SHINGLEBAR_RECEIVE_DELIVERED:
         check_written(RECEIVE, word, out, shinglebar_native_length(word));
         count_changes(table, &changed, &freed, &not_learned);
-        check(changed <= 1, RECEIVE, word, "more than one record is changed");
+        check(changed <= 1 + freed, RECEIVE, word, "more than one record is changed");
+        check(freed == 0 || shinglebar_learning(word) == SHINGLEBAR_LEARNING_REFRESHED, RECEIVE, word,
+              "a record is freed though none was refreshed");
         check(changed == 0 || shinglebar_learning(word) <= SHINGLEBAR_LEARNING_REFRESHED, RECEIVE,
               word, "a record is changed though nothing was learned");
         check(shinglebar_label_kind(word) == SHINGLEBAR_LABEL_FINE_GRAINED ||
@@ -311,6 +311,23 @@ static void check_conversion(enum call call, uint64_t word, const struct area *o
         check(kept(out, 0), call, word, "the area is changed");
 }
 
+/* What widening has written: each record of the older table and a zero byte. */
+static void check_widened(uint64_t word, const struct area *old, const struct area *out)
+{
+    size_t length = shinglebar_written_length(word), at;
+    if (shinglebar_kind(word) != SHINGLEBAR_WIDEN_WRITTEN) {
+        check(kept(out, 0), WIDEN, word, "the area is changed");
+        return;
+    }
+    check(length == old->length / SHINGLEBAR_OLD_RECORD_LENGTH * SHINGLEBAR_RECORD_LENGTH, WIDEN, word, "another length");
+    check(length <= out->length && kept(out, length), WIDEN, word, "the area is changed behind what is written");
+    for (at = 0; at < length; at++) {
+        size_t record = at / SHINGLEBAR_RECORD_LENGTH, byte = at % SHINGLEBAR_RECORD_LENGTH;
+        uint8_t wanted = byte < SHINGLEBAR_OLD_RECORD_LENGTH ? old->read[record * SHINGLEBAR_OLD_RECORD_LENGTH + byte] : 0;
+        check(out->write[at] == wanted, WIDEN, word, "a byte is none of the older table's");
+    }
+}
+
 /* The numbers of an input, with the names of the header. */
 struct numbers {
     uint64_t port, inner, outer_source, mac;
@@ -334,6 +351,8 @@ static struct numbers read_numbers(enum call call, struct input *input)
             it.tagged = (uint32_t)number(input, 4);
             it.tag = (uint32_t)number(input, 4);
         }
+        it.room = (size_t)number(input, 2);
+    } else if (call == WIDEN) {
         it.room = (size_t)number(input, 2);
     } else if (call == FLUSH) {
         it.ingress = (uint32_t)number(input, 4);
@@ -367,40 +386,12 @@ static void bring_into_ranges(struct numbers *it)
         it->tag = it->tag % 0xFFE + 1;
 }
 
-/* Writing a flush: a refusal has changed nothing, and what is written is a payload that flush accepts. */
-static int write_one(struct input *input, int side)
-{
-    size_t nicknames_length = (size_t)number(input, 2), vlans_length = (size_t)number(input, 2);
-    size_t fine_length = (size_t)number(input, 2), room = (size_t)number(input, 2);
-    struct area nicknames = some(input, &tables, side, nicknames_length);
-    struct area vlans = some(input, &vlan_lists, side, vlans_length);
-    struct area fine = some(input, &fine_lists, side, fine_length);
-    struct area macs = some(input, &frames, side, input->left);
-    struct area out = lend(&outs, side, pattern, room);
-    uint64_t word = shinglebar_write_flush(nicknames.read, nicknames.length, vlans.read, vlans.length, fine.read,
-                                           fine.length, macs.read, macs.length, out.write, out.length);
-    check_word(WRITE, word);
-    if (shinglebar_is_refusal(word)) {
-        check(kept(&out, 0), WRITE, word, "the area is changed");
-        return 0;
-    }
-    size_t written = shinglebar_written_length(word);
-    uint8_t slot[SHINGLEBAR_RECORD_LENGTH] = {0};
-    check(written <= out.length && written <= SHINGLEBAR_WRITTEN_LENGTH_MAX, WRITE, word, "too long");
-    check(kept(&out, written), WRITE, word, "the area is changed behind what is written");
-    check(shinglebar_flush(1, out.read, written, slot, sizeof slot) == SHINGLEBAR_FLUSH_FLUSHED, WRITE, word,
-          "flush does not accept what is written");
-    return 0;
-}
-
 int LLVMFuzzerTestOneInput(const uint8_t *bytes, size_t length)
 {
     struct input input = {bytes, length};
     unsigned selector = (unsigned)number(&input, 1);
     enum call call = call_of(selector);
     int side = selector >> 3 & 1;
-    if (call == WRITE)
-        return write_one(&input, side);
     int as_they_are = selector >> 4 & 1;
     struct numbers it = read_numbers(call, &input);
     size_t table_length = has_table(call) ? (size_t)number(&input, 2) : 0;
@@ -420,6 +411,9 @@ int LLVMFuzzerTestOneInput(const uint8_t *bytes, size_t length)
         word = shinglebar_receive(it.port, it.inner, it.nickname, it.compact, it.confidence,
                                   it.seconds, frame.read, frame.length, table.write, table.length,
                                   out.write, out.length);
+        break;
+    case WIDEN:
+        word = shinglebar_widen(frame.read, frame.length, out.write, out.length);
         break;
     case FLUSH:
         word = shinglebar_flush(it.ingress, frame.read, frame.length, table.write, table.length);
@@ -452,6 +446,9 @@ int LLVMFuzzerTestOneInput(const uint8_t *bytes, size_t length)
     switch (call) {
     case RECEIVE:
         check_receive(word, &table, &out);
+        break;
+    case WIDEN:
+        check_widened(word, &frame, &out);
         break;
     case FLUSH:
         if (shinglebar_is_refusal(word))

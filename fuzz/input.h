@@ -3,18 +3,16 @@
  *
  * An input is a call: the numbers are those of docs/REPLAY.md, most significant byte first.
  *
- *   1 byte    selector: low three bits the call (1 receive, 2 flush, 3 age, 4 lookup, 5 spoilt, 6 compact,
- *             7 expand, 0 send); bit 3 the side of the areas that touches memory which cannot be accessed;
+ *   1 byte    selector: low three bits, and bits 5 to 7 above them, the call (0 send, 1 receive, 2 flush, 3 age,
+ *             4 lookup, 5 spoilt, 6 compact, 7 expand, 8 widen; of a number above, the low three bits); bit 3 the side of the areas that touches memory which cannot be accessed;
  *             bit 4 says that settings, outer source, tag and table length are taken as they are, else they
- *             are first brought into their ranges, where few random numbers are; bit 5 says that the call is
- *             write_flush, whatever the low bits say
+ *             are first brought into their ranges, where few random numbers are
  *   numbers   receive, compact, send: settings (32), length of the output or working area (2)
  *             expand: settings (32), outer source (8), tagged (4), tag (4), length of the output area (2)
+ *             widen: length of the output area (2)
  *             flush: ingress nickname (4); age: seconds (2); lookup: label kind (4), label (4), address (8)
- *             write_flush: lengths of the nicknames, the VLAN blocks and the fine-grained blocks (2 each), length
- *             of the output area (2); then the three lists, and the MAC blocks as the rest
- *   table     length (2) and bytes; not for compact, expand and send
- *   the rest  the frame or payload; for age, lookup and spoilt it is left over
+ *   table     length (2) and bytes; not for compact, expand, send and widen
+ *   the rest  the frame, payload or older table; for age, lookup and spoilt it is left over
  *
  * Bytes that are missing in a number are 0; a table ends where the input ends. So every input is a call.
  */
@@ -23,17 +21,17 @@
 
 #include <stddef.h>
 
-enum call { SEND, RECEIVE, FLUSH, AGE, LOOKUP, SPOILT, COMPACT, EXPAND, WRITE, CALLS };
+enum call { SEND, RECEIVE, FLUSH, AGE, LOOKUP, SPOILT, COMPACT, EXPAND, WIDEN, CALLS };
 
-/* The call that a selector names. */
 static inline enum call call_of(unsigned selector)
 {
-    return selector >> 5 & 1 ? WRITE : (enum call)(selector & 7);
+    unsigned number = (selector & 7) | (selector >> 5 & 7) << 3;
+    return (enum call)(number < CALLS ? number : number & 7);
 }
 
 static inline int has_table(enum call call)
 {
-    return call != COMPACT && call != EXPAND && call != SEND && call != WRITE;
+    return call != COMPACT && call != EXPAND && call != SEND && call != WIDEN;
 }
 
 /* The bytes of a call's numbers. */
@@ -46,14 +44,14 @@ static inline size_t numbers_length(enum call call)
         return 32 + 2;
     case EXPAND:
         return 32 + 8 + 4 + 4 + 2;
+    case WIDEN:
+        return 2;
     case FLUSH:
         return 4;
     case AGE:
         return 2;
     case LOOKUP:
         return 4 + 4 + 8;
-    case WRITE:
-        return 2 + 2 + 2 + 2;
     default:
         return 0;
     }

@@ -3,27 +3,37 @@
 
 use std::collections::BTreeMap;
 
-use crate::vectors::WRITE;
-
 /// The calls' numbers are those of docs/REPLAY.md.
 const NAMES: [&str; 9] = [
     "table", "receive", "flush", "age", "lookup", "spoilt", "compact", "expand", "send",
 ];
 const TABLE: u8 = 0;
+/// Widening, whose number is that of its request.
+const WIDEN: u8 = 0x12;
 
-/// The name of a call.
-fn name(call: u8) -> &'static str {
+fn name_of(call: u8) -> &'static str {
     match call {
-        WRITE => "write",
+        WIDEN => "widen",
         _ => NAMES[usize::from(call)],
     }
 }
 
+/// The call in the bits of the fuzz target's selector: send is 0, and widening the one behind the others.
+fn selector(call: u8) -> u8 {
+    let number = match name_of(call) {
+        "send" => 0,
+        "widen" => 8,
+        _ => call,
+    };
+    number & 7 | (number >> 3) << 5
+}
+
 /// The numbers in front of the frame, payload or table: settings are 32 bytes, an area's length 2.
 fn numbers_length(call: u8) -> usize {
-    match name(call) {
+    match name_of(call) {
         "receive" | "compact" | "send" => 32 + 2,
         "expand" => 32 + 8 + 4 + 4 + 2,
+        "widen" => 2,
         "flush" => 4,
         "age" => 2,
         "lookup" => 4 + 4 + 8,
@@ -32,7 +42,7 @@ fn numbers_length(call: u8) -> usize {
 }
 
 fn has_table(call: u8) -> bool {
-    !matches!(name(call), "compact" | "expand" | "send" | "write")
+    !matches!(name_of(call), "compact" | "expand" | "send" | "widen")
 }
 
 fn bytes(hex: &str) -> Vec<u8> {
@@ -50,8 +60,7 @@ fn part(line: &str, at: usize) -> &str {
 fn input(call: u8, answer: u8, body: &[u8], table: &[u8]) -> Vec<u8> {
     let (numbers, rest) = body.split_at(numbers_length(call));
     let as_they_are = matches!(answer, 1 | 2);
-    let selector = if call == WRITE { 0x20 } else { call & 7 };
-    let mut input = vec![selector | u8::from(as_they_are) << 4];
+    let mut input = vec![selector(call) | u8::from(as_they_are) << 4];
     input.extend(numbers);
     if has_table(call) {
         input.extend((table.len() as u16).to_be_bytes());
@@ -73,17 +82,8 @@ pub fn files(stdin: &str, stdout: &str) -> BTreeMap<String, Vec<u8>> {
             continue;
         }
         let result = results.next().expect("a line of stdout for each call");
-        // Calls that have a target of their own (fuzz/watch.c).
-        if usize::from(call) >= NAMES.len() {
-            continue;
-        }
         let answer = bytes(part(result, 0))[7];
-        // Some of document 02's calls have targets of their own.
-        let Some(name) = name(call) else {
-            table = bytes(part(result, 1));
-            continue;
-        };
-        let name = format!("{name}-{answer:02}");
+        let name = format!("{}-{answer:02}", name_of(call));
         let input = input(call, answer, &body, &table);
         let kept = files.entry(name).or_insert_with(|| input.clone());
         if input.len() < kept.len() {

@@ -7,6 +7,7 @@
 //! | tests/paper.rs | none: the cases and readings of document 01 on the second implementation |
 //! | tests/table.rs | lookup, age, spoilt |
 //! | tests/free.rs | free slot |
+//! | tests/homes.rs | receive, widen, and the calls on a table, where a station has several homes |
 //! | tests/header.rs | all, through the header, for the stack that they take; lookup, age and spoilt |
 //! | tests/example.rs | receive, age: examples/port.c |
 //! | tests/install.rs | none: `make install` and the version |

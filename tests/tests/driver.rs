@@ -2123,7 +2123,7 @@ fn each_command_has_help_on_each_of_its_options() {
         "--confidence",
         "--seconds",
     ];
-    let commands: [(&str, &[&str], bool); 10] = [
+    let commands: [(&str, &[&str], bool); 11] = [
         (
             "receive",
             &[
@@ -2171,6 +2171,7 @@ fn each_command_has_help_on_each_of_its_options() {
             &["--table", "--vlan", "--fgl", "--mac", "--dry-run", "--json"],
             false,
         ),
+        ("widen", &["--table", "--dry-run", "--json"], false),
         (
             "live",
             &[
@@ -2488,4 +2489,170 @@ fn write_makes_a_flush_that_receive_obeys() {
         assert_eq!(refused.status.code(), Some(2), "{wrong:?}");
         assert!(!folder.join("none").exists());
     }
+}
+
+// The width of a table file (document 02, 2026-12)
+
+/// The line in front of records whose length fits 14 bytes too.
+const LINE: &[u8] = b"shinglebar table 15\n";
+
+/// The sum of a table in its file of seconds.
+fn sum(table: &[u8]) -> u64 {
+    table.iter().fold(0xCBF2_9CE4_8422_2325, |sum, byte| {
+        (sum ^ u64::from(*byte)).wrapping_mul(0x100_0000_01B3)
+    })
+}
+
+/// An older table of so many slots, the first learned, the second configured, the last spoilt.
+fn older(slots: usize) -> Vec<u8> {
+    let mut old = vec![0; slots * OLD_RECORD];
+    let learned = record(true, vlan(10), 0x0200_0000_0001, 20, 17);
+    let configured = record(false, vlan(11), 0x0200_0000_0001, 1, 0);
+    old[..OLD_RECORD].copy_from_slice(&learned[..OLD_RECORD]);
+    old[OLD_RECORD..2 * OLD_RECORD].copy_from_slice(&configured[..OLD_RECORD]);
+    old[(slots - 1) * OLD_RECORD..].fill(0xC3);
+    old
+}
+
+fn wider(old: &[u8]) -> Vec<u8> {
+    let mut table = vec![0; old.len() / OLD_RECORD * RECORD];
+    assert_eq!(reference::widen(old, &mut table) & 0xFF, 64);
+    table
+}
+
+#[test]
+fn an_older_table_file_is_widened_and_keeps_the_second_it_was_aged_to() {
+    let folder = folder("widen");
+    let (old, file) = (older(16), folder.join("table"));
+    fs::write(&file, &old).expect("a table");
+    let second = format!("1763280000 {:016X}\n", sum(&old));
+    fs::write(folder.join("table.aged"), &second).expect("a second");
+    fs::set_permissions(&file, fs::Permissions::from_mode(0o640)).expect("a mode");
+    for words in [
+        &["check", "--table", "table"][..],
+        &["age", "--table", "table", "--by", "1"],
+    ] {
+        let said = "table has records of 14 bytes; `widen` makes them 15";
+        bad(&run_in(&folder, words), 1, said);
+    }
+    let lines = "16 records of 14 bytes -> 15 bytes\n\
+                 table: 16 slots, 1 learned, 1 configured, 1 spoilt, 13 free\n  \
+                 slot 0: learned VLAN 10 02-00-00-00-00-01 behind 1234, confidence 20, 17 s\n  \
+                 slot 1: configured VLAN 11 02-00-00-00-00-01 behind 1234, confidence 1, 0 s\n  \
+                 slot 15: spoilt C3 C3 C3 C3 C3 C3 C3 C3 C3 C3 C3 C3 C3 C3 00\n";
+    let widen = ["widen", "--table", "table"];
+    let tried = good(&run_in(&folder, &[&widen[..], &["--dry-run"]].concat()));
+    assert_eq!((tried.as_str(), bytes(&file)), (lines, old.clone()));
+    assert_eq!(good(&run_in(&folder, &widen)), lines);
+    let table = wider(&old);
+    assert!(bytes(&file) == table);
+    let mode = fs::metadata(&file).expect("the table").permissions().mode();
+    assert_eq!(mode & 0o777, 0o640);
+    let seconds = format!("{second}1763280000 {:016X}\n", sum(&table));
+    assert_eq!(text(&bytes(&folder.join("table.aged"))), seconds);
+    assert_eq!(names(&folder), ["table", "table.aged"]);
+
+    bad(
+        &run_in(&folder, &widen),
+        1,
+        "table has records of 15 bytes already",
+    );
+    assert!(bytes(&file) == table);
+    // the table goes on from that second: 17 seconds later the learned record is free
+    let frames = [(17, frame_from(0x0200_0000_0002, 10, 0x1234))];
+    fs::write(folder.join("in"), capture_at(&frames)).expect("a capture");
+    let receive = [&["receive", "in", "--table", "table"][..], &SETTINGS].concat();
+    let printed = good(&run_in(&folder, &receive));
+    assert!(
+        printed.contains("17 seconds passed | 1 became free"),
+        "{printed}"
+    );
+}
+
+#[test]
+fn a_length_that_fits_both_widths_is_never_guessed() {
+    let folder = folder("both_widths");
+    let file = folder.join("table");
+    // 15 older records, or 14 of now; which, only the line says
+    let old = older(15);
+    fs::write(&file, &old).expect("a table");
+    let check = ["check", "--table", "table"];
+    for words in [
+        &check[..],
+        &["age", "--table", "table", "--by", "1"],
+        &[
+            "set",
+            "--table",
+            "table",
+            "--vlan",
+            "1",
+            "--mac",
+            "020000000001",
+            "--nickname",
+            "1",
+        ],
+    ] {
+        let said = "table has 210 bytes and does not say of which width: 15 records of 14 bytes, which `widen` makes 15, \
+                    or 14 of 15, which a first line `shinglebar table 15` says";
+        bad(&run_in(&folder, words), 1, said);
+        assert!(bytes(&file) == old);
+    }
+    assert!(good(&run_in(&folder, &["widen", "--table", "table"]))
+        .starts_with("15 records of 14 bytes -> 15 bytes\n"));
+    assert!(bytes(&file) == wider(&old));
+
+    // the same bytes behind the line are 14 records
+    fs::write(&file, [LINE, &old].concat()).expect("a table");
+    let output = run_in(&folder, &check);
+    assert!(text(&output.stdout).contains("\ntable: 14 slots, "));
+    bad(
+        &run_in(&folder, &["widen", "--table", "table"]),
+        1,
+        "table has records of 15 bytes already",
+    );
+
+    // a table that is widened to such a length, or made with it, says its width
+    let old = older(14);
+    fs::write(&file, &old).expect("a table");
+    good(&run_in(&folder, &["widen", "--table", "table"]));
+    assert!(bytes(&file) == [LINE, &wider(&old)].concat());
+    let set = [
+        "set",
+        "--table",
+        "new",
+        "--slots",
+        "28",
+        "--vlan",
+        "5",
+        "--mac",
+        "020000000001",
+    ];
+    let set = [&set[..], &["--nickname", "1234"]].concat();
+    good(&run_in(&folder, &set));
+    let made = bytes(&folder.join("new"));
+    assert_eq!((&made[..LINE.len()], made.len()), (LINE, LINE.len() + 420));
+    good(&run_in(&folder, &["age", "--table", "new", "--by", "1"]));
+    assert!(bytes(&folder.join("new")) == made);
+    // no older table is so long: the length says it
+    fs::write(&file, vec![0; 61_320]).expect("a table");
+    good(&run_in(&folder, &check));
+    fs::write(&file, vec![0; 57_330]).expect("a table");
+    bad(&run_in(&folder, &check), 1, "does not say of which width");
+}
+
+#[test]
+fn what_is_no_older_table_is_not_widened() {
+    let folder = folder("not_widened");
+    let file = folder.join("table");
+    let widen = ["widen", "--table", "table"];
+    bad(&run_in(&folder, &widen), 1, "table cannot be opened");
+    for length in [0, OLD_RECORD - 1, 57_346, 57_358] {
+        fs::write(&file, vec![0; length]).expect("a table");
+        let said = format!("table is no table of records of 14 bytes: it has {length} bytes");
+        bad(&run_in(&folder, &widen), 1, &said);
+        assert_eq!(bytes(&file).len(), length);
+    }
+    fs::write(&file, vec![0; 57_344]).expect("a table");
+    good(&run_in(&folder, &widen));
+    assert!(bytes(&file) == vec![0; TABLE]);
 }

@@ -88,7 +88,7 @@ fn the_target_accepts_its_corpus_and_reaches_every_answer() {
         ("spoilt", run::SPOILT),
         ("compact", run::COMPACT),
         ("expand", run::EXPAND),
-        ("write", run::WRITE),
+        ("widen", run::WIDEN),
     ];
     // A file for each answer, and each run twice.
     let mut expected = String::new();
