@@ -7,7 +7,7 @@ macro_rules! refusals {
     ($($name:ident = $number:literal, $words:literal;)*) => {
         /// Why a call refuses. A refused call has changed nothing.
         ///
-        /// The numbers and words are those of the table of refusals in document 01.
+        /// The numbers and words are those of the table of refusals in document 01, and of document 02.
         ///
         /// ```
         /// use shinglebar::Refusal;
@@ -57,18 +57,20 @@ refusals! {
     OutputLength = 16, "output area shorter than the result";
     NotCompactable = 17, "frame may not be compacted";
     General = 18, "a General frame given where Compact is required";
+    Map = 21, "map: a VLAN or label twice, a VLAN outside 1 to FFE, a label over FFFFFF, or a length that is no multiple of 6";
+    NoPair = 22, "no pair found in the map";
 }
 
 impl Refusal {
-    /// Its number, 1 to 18.
+    /// Its number.
     pub const fn number(self) -> u8 {
         self as u8
     }
 
     /// The refusal with a number.
     pub fn from_number(number: u64) -> Option<Refusal> {
-        let at = usize::try_from(number.checked_sub(1)?).ok()?;
-        Refusal::ALL.get(at).copied()
+        let is_it = |refusal: &&Refusal| u64::from(refusal.number()) == number;
+        Refusal::ALL.iter().find(is_it).copied()
     }
 }
 

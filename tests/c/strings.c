@@ -6,7 +6,7 @@
 int main(void)
 {
     uint64_t result;
-    for (result = 0; result < 20; result++)
+    for (result = 0; result < 24; result++)
         printf("%lu %s\n", (unsigned long)result, shinglebar_refusal_string(result));
     printf("onward %s\n", shinglebar_refusal_string(SHINGLEBAR_RECEIVE_ONWARD));
     /* Its low 32 bits alone would be refusal 5. */

@@ -4,11 +4,12 @@
 //! word as it is. The package must know the word: it is decoded to the answer, and packed again.
 
 use shinglebar::{
-    decode, encode, raw, Aged, Answer, Compacted, Expanded, Flushed, Found, Received, Sent, Spoilt,
+    decode, encode, raw, Aged, Answer, Compacted, Expanded, Flushed, Found, Ingressed, Received,
+    ReceivedAtPort, Sent, Spoilt,
 };
 
 use crate::lend::Lend;
-use crate::reference::Settings;
+use crate::reference::{Encapsulation, Settings};
 
 fn numbers(settings: &Settings) -> raw::Settings {
     raw::Settings {
@@ -18,6 +19,8 @@ fn numbers(settings: &Settings) -> raw::Settings {
         compact: settings.compact,
         confidence: settings.confidence,
         seconds: settings.seconds,
+        multihomed: settings.multihomed,
+        smart: settings.smart,
     }
 }
 
@@ -37,26 +40,64 @@ pub fn receive(
     out: &mut [u8],
 ) -> u64 {
     known::<Received>(lender.lend(
-        ("frame", frame),
+        [("frame", frame)],
         [("table", table), ("output area", out)],
-        |frame, [table, out]| raw::receive(&numbers(settings), frame, table, out),
+        |[frame], [table, out]| raw::receive(&numbers(settings), frame, table, out),
+    ))
+}
+
+pub fn receive_port(
+    lender: &mut impl Lend,
+    settings: &Settings,
+    map: &[u8],
+    frame: &[u8],
+    table: &mut [u8],
+    out: &mut [u8],
+) -> u64 {
+    known::<ReceivedAtPort>(lender.lend(
+        [("map", map), ("frame", frame)],
+        [("table", table), ("output area", out)],
+        |[map, frame], [table, out]| raw::receive_port(&numbers(settings), map, frame, table, out),
+    ))
+}
+
+pub fn ingress(
+    lender: &mut impl Lend,
+    settings: &Settings,
+    map: &[u8],
+    given: &Encapsulation,
+    frame: &[u8],
+    out: &mut [u8],
+) -> u64 {
+    let given = raw::Encapsulation {
+        outer_destination: given.outer_destination,
+        outer_source: given.outer_source,
+        m: given.m,
+        hop_count: given.hop_count,
+        egress: given.egress,
+        ingress: given.ingress,
+    };
+    known::<Ingressed>(lender.lend(
+        [("map", map), ("frame", frame)],
+        [("output area", out)],
+        |[map, frame], [out]| raw::ingress(&numbers(settings), map, &given, frame, out),
     ))
 }
 
 pub fn flush(lender: &mut impl Lend, ingress: u32, payload: &[u8], table: &mut [u8]) -> u64 {
     known::<Flushed>(lender.lend(
-        ("payload", payload),
+        [("payload", payload)],
         [("table", table)],
-        |payload, [table]| raw::flush(ingress, payload, table),
+        |[payload], [table]| raw::flush(ingress, payload, table),
     ))
 }
 
 pub fn compact(lender: &mut impl Lend, settings: &Settings, frame: &[u8], out: &mut [u8]) -> u64 {
-    known::<Compacted>(
-        lender.lend(("frame", frame), [("output area", out)], |frame, [out]| {
-            raw::compact(&numbers(settings), frame, out)
-        }),
-    )
+    known::<Compacted>(lender.lend(
+        [("frame", frame)],
+        [("output area", out)],
+        |[frame], [out]| raw::compact(&numbers(settings), frame, out),
+    ))
 }
 
 pub fn expand(
@@ -73,35 +114,33 @@ pub fn expand(
         tagged,
         tag,
     };
-    known::<Expanded>(
-        lender.lend(("frame", frame), [("output area", out)], |frame, [out]| {
-            raw::expand(&numbers(settings), &outer, frame, out)
-        }),
-    )
+    known::<Expanded>(lender.lend(
+        [("frame", frame)],
+        [("output area", out)],
+        |[frame], [out]| raw::expand(&numbers(settings), &outer, frame, out),
+    ))
 }
 
 pub fn send(lender: &mut impl Lend, settings: &Settings, frame: &[u8], work: &mut [u8]) -> u64 {
     known::<Sent>(lender.lend(
-        ("frame", frame),
+        [("frame", frame)],
         [("working area", work)],
-        |frame, [work]| raw::send(&numbers(settings), frame, work),
+        |[frame], [work]| raw::send(&numbers(settings), frame, work),
     ))
 }
 
 pub fn lookup(lender: &mut impl Lend, kind: u32, label: u32, mac: u64, table: &[u8]) -> u64 {
-    known::<Found>(lender.lend(("table", table), [], |table, []| {
+    known::<Found>(lender.lend([("table", table)], [], |[table], []| {
         raw::lookup(kind, label, mac, table)
     }))
 }
 
 pub fn age(lender: &mut impl Lend, seconds: u16, table: &mut [u8]) -> u64 {
-    known::<Aged>(
-        lender.lend(("no area", &[]), [("table", table)], |_, [table]| {
-            raw::age(seconds, table)
-        }),
-    )
+    known::<Aged>(lender.lend([], [("table", table)], |[], [table]| {
+        raw::age(seconds, table)
+    }))
 }
 
 pub fn spoilt(lender: &mut impl Lend, table: &[u8]) -> u64 {
-    known::<Spoilt>(lender.lend(("table", table), [], |table, []| raw::spoilt(table)))
+    known::<Spoilt>(lender.lend([("table", table)], [], |[table], []| raw::spoilt(table)))
 }

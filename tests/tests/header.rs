@@ -50,11 +50,14 @@ fn records_are_packed_and_unpacked_as_the_library_does() {
 
 #[test]
 fn the_refusal_strings_are_the_words_of_the_rust_package_and_of_the_readme() {
-    let mut wanted = String::from("0 no refusal\n");
-    for refusal in Refusal::ALL {
-        wanted += &format!("{} {refusal}\n", refusal.number());
+    let mut wanted = String::new();
+    for number in 0..24 {
+        match Refusal::from_number(number) {
+            Some(refusal) => wanted += &format!("{number} {refusal}\n"),
+            None => wanted += &format!("{number} no refusal\n"),
+        }
     }
-    wanted += "19 no refusal\nonward no refusal\nwide no refusal\n";
+    wanted += "onward no refusal\nwide no refusal\n";
     for printed in c_program::compile_and_run("strings.c") {
         assert_eq!(printed, wanted);
     }

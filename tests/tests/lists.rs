@@ -1,17 +1,29 @@
 //! Whole call lists, once as they are and once with frames compacted, through the C boundary; and with the old and the new default life.
+//! Each reading has a map of its own, often none (document 02, 2026-01).
 
 use shinglebar_tests::boundary;
 use shinglebar_tests::compare::hex;
 use shinglebar_tests::generate::{self, Pool};
+use shinglebar_tests::maps;
 use shinglebar_tests::random::Random;
 use shinglebar_tests::reference::{self, Settings};
 use shinglebar_tests::run::{self, Tally};
 
 /// A call of the list of demand 3.
 enum Call {
-    Receive { frame: Vec<u8>, out: Vec<u8> },
-    Age { seconds: u16 },
-    Lookup { kind: u32, label: u32, mac: u64 },
+    Receive {
+        map: Vec<u8>,
+        frame: Vec<u8>,
+        out: Vec<u8>,
+    },
+    Age {
+        seconds: u16,
+    },
+    Lookup {
+        kind: u32,
+        label: u32,
+        mac: u64,
+    },
     Spoilt,
 }
 
@@ -34,9 +46,14 @@ fn call(random: &mut Random, pool: &Pool, settings: &Settings, table: &[u8]) -> 
             if frame.content.starts_with(&[0x89, 0x46]) && !random.one_in(4) {
                 frame.inner_destination = settings.inner & ((1 << 48) - 1);
             }
-            let out_length = generate::area_length(random, 12 + frame.content.len());
+            let map = match random.below(3) {
+                0 => Vec::new(),
+                _ => maps::small_map(random, pool),
+            };
+            let out_length = generate::area_length(random, 16 + frame.content.len());
             let frame = generate::damage(random, frame.bytes());
             Call::Receive {
+                map,
                 frame,
                 out: random.bytes(out_length),
             }
@@ -53,9 +70,12 @@ fn make(
     table: &mut [u8],
 ) -> (u64, Vec<u8>) {
     match call {
-        Call::Receive { out, .. } => {
+        Call::Receive { map, out, .. } => {
             let mut out = out.clone();
-            let word = boundary::receive(random, settings, frame, table, &mut out);
+            let word = match map.as_slice() {
+                [] => boundary::receive(random, settings, frame, table, &mut out),
+                map => boundary::receive_port(random, settings, map, frame, table, &mut out),
+            };
             (word, out)
         }
         Call::Age { seconds } => (boundary::age(random, *seconds, table), Vec::new()),
@@ -76,9 +96,9 @@ fn make_by_paper(
     table: &mut [u8],
 ) -> (u64, Vec<u8>) {
     match call {
-        Call::Receive { out, .. } => {
+        Call::Receive { map, out, .. } => {
             let mut out = out.clone();
-            let word = reference::receive_with(life, settings, frame, table, &mut out);
+            let word = reference::receive_with(life, settings, map, frame, table, &mut out);
             (word, out)
         }
         Call::Age { seconds } => (reference::age(*seconds, table), Vec::new()),
@@ -111,6 +131,8 @@ fn count_replaced(tally: &mut Tally, word: u64) {
         14 => "compacted: refusal 14",
         15 => "compacted: refusal 15",
         16 => "compacted: refusal 16",
+        21 => "compacted: refusal 21",
+        22 => "compacted: refusal 22",
         64 => "compacted: onward",
         65 => match word >> 24 & 3 {
             0 => "compacted: delivered, learned",
@@ -140,6 +162,9 @@ fn call_lists_give_the_same_with_frames_compacted() {
             "compacted: refusal 14",
             "compacted: refusal 15",
             "compacted: refusal 16",
+            "compacted: refusal 21",
+            "compacted: refusal 22",
+            "compacted: delivered with a tag by the map",
             "compacted: onward",
             "compacted: delivered, learned",
             "compacted: delivered, refreshed",
@@ -216,6 +241,11 @@ fn call_lists_give_the_same_with_frames_compacted() {
                 count_control(tally, given, first.0);
                 if compacted.is_some() {
                     count_replaced(tally, first.0);
+                }
+                if let (Some(_), Call::Receive { map, .. }) = (&compacted, &call) {
+                    if maps::is_tagged(map, first.0) {
+                        tally.situation("compacted: delivered with a tag by the map");
+                    }
                 }
             }
         },

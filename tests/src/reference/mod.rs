@@ -1,4 +1,4 @@
-//! A second implementation of the eight calls, written from document 01, sentence by sentence. The
+//! A second implementation of the calls, written from documents 01 and 02, sentence by sentence. The
 //! sentence stands beside the code that follows it. Clarity goes before speed.
 //!
 //! Each call takes its areas as slices and returns the word of the C boundary. It is total: any
@@ -8,6 +8,8 @@ mod answer;
 mod convert;
 mod flush;
 mod frame;
+mod ingress;
+mod map;
 mod receive;
 mod record;
 mod refusal;
@@ -16,8 +18,10 @@ mod table;
 
 pub use convert::{compact, expand, send, WORKING_AREA};
 pub use flush::flush;
-pub use frame::{destination, front, is_control, read_general, Fields, Front};
-pub use receive::{receive, receive_with};
+pub use frame::{destination, front, is_control, read_compact, read_general, Fields, Front};
+pub use ingress::{ingress, Encapsulation};
+pub use map::{CampusLabel, Map, PortVlan, PAIR};
+pub use receive::{receive, receive_port, receive_with};
 pub use record::{read, write, Entry, Label, Record, RECORD};
 pub use refusal::Refusal;
 pub use settings::{Settings, DEFAULT_LIFE, OLD_LIFE};
