@@ -40,7 +40,7 @@ static int send_frame(int file, const struct options *options, const struct capt
                       uint64_t *answer)
 {
     static uint8_t work[SHINGLEBAR_COMPACT_LENGTH_MAX];
-    *answer = shinglebar_send(SETTINGS(&options->settings), frame->bytes, frame->length, work, sizeof work);
+    *answer = shinglebar_send_any(&options->settings, frame->bytes, frame->length, work, sizeof work);
     int compacted = shinglebar_kind(*answer) == SHINGLEBAR_SEND_COMPACTED;
     const uint8_t *bytes = compacted ? work : frame->bytes;
     size_t length = compacted ? shinglebar_written_length(*answer) : frame->length;
