@@ -3,28 +3,44 @@
  *
  * An input is a call: the numbers are those of docs/REPLAY.md, most significant byte first.
  *
- *   1 byte    selector: low three bits the call (1 receive, 2 flush, 3 age, 4 lookup, 5 spoilt, 6 compact,
- *             7 expand, 0 send); bit 3 the side of the areas that touches memory which cannot be accessed;
+ *   1 byte    selector: low three bits, and bits 5 to 7 above them, the call (0 send, 1 receive, 2 flush, 3 age,
+ *             4 lookup, 5 spoilt, 6 compact, 7 expand, 8 receive_port, 9 ingress; of a number above, the low
+ *             three bits); bit 3 the side of the areas that touches memory which cannot be accessed;
  *             bit 4 says that settings, outer source, tag and table length are taken as they are, else they
  *             are first brought into their ranges, where few random numbers are
  *   numbers   receive, compact, send: settings (32), length of the output or working area (2)
  *             expand: settings (32), outer source (8), tagged (4), tag (4), length of the output area (2)
+ *             receive_port: settings (32), multihomed (4), smart (4), length of the output area (2)
+ *             ingress: settings (32), outer destination (8), outer source (8), M (4), hop count (4), egress (4) and
+ *             ingress nickname (4), length of the output area (2)
  *             flush: ingress nickname (4); age: seconds (2); lookup: label kind (4), label (4), address (8)
- *   table     length (2) and bytes; not for compact, expand and send
+ *   map       length (2) and bytes; for receive_port and ingress alone
+ *   table     length (2) and bytes; not for compact, expand, send and ingress
  *   the rest  the frame or payload; for age, lookup and spoilt it is left over
  *
- * Bytes that are missing in a number are 0; a table ends where the input ends. So every input is a call.
+ * Bytes that are missing in a number are 0; a map or table ends where the input ends. So every input is a call.
  */
 #ifndef SHINGLEBAR_FUZZ_INPUT_H
 #define SHINGLEBAR_FUZZ_INPUT_H
 
 #include <stddef.h>
 
-enum call { SEND, RECEIVE, FLUSH, AGE, LOOKUP, SPOILT, COMPACT, EXPAND, CALLS };
+enum call { SEND, RECEIVE, FLUSH, AGE, LOOKUP, SPOILT, COMPACT, EXPAND, RECEIVE_PORT, INGRESS, CALLS };
+
+static inline enum call call_of(unsigned selector)
+{
+    unsigned number = (selector & 7) | (selector >> 5 & 7) << 3;
+    return (enum call)(number < CALLS ? number : number & 7);
+}
+
+static inline int has_map(enum call call)
+{
+    return call == RECEIVE_PORT || call == INGRESS;
+}
 
 static inline int has_table(enum call call)
 {
-    return call != COMPACT && call != EXPAND && call != SEND;
+    return call != COMPACT && call != EXPAND && call != SEND && call != INGRESS;
 }
 
 /* The bytes of a call's numbers. */
@@ -37,6 +53,10 @@ static inline size_t numbers_length(enum call call)
         return 32 + 2;
     case EXPAND:
         return 32 + 8 + 4 + 4 + 2;
+    case RECEIVE_PORT:
+        return 32 + 4 + 4 + 2;
+    case INGRESS:
+        return 32 + 8 + 8 + 4 * 4 + 2;
     case FLUSH:
         return 4;
     case AGE:

@@ -4,10 +4,31 @@
 use std::collections::BTreeMap;
 
 /// The calls' numbers are those of docs/REPLAY.md.
-const NAMES: [&str; 9] = [
-    "table", "receive", "flush", "age", "lookup", "spoilt", "compact", "expand", "send",
+const NAMES: [&str; 11] = [
+    "table",
+    "receive",
+    "flush",
+    "age",
+    "lookup",
+    "spoilt",
+    "compact",
+    "expand",
+    "send",
+    "receive_port",
+    "ingress",
 ];
 const TABLE: u8 = 0;
+
+/// The call in the bits of the fuzz target's selector: send is 0, and the calls behind it are one less.
+fn selector(call: u8) -> u8 {
+    let number = match NAMES[usize::from(call)] {
+        "send" => 0,
+        "receive_port" => 8,
+        "ingress" => 9,
+        _ => call,
+    };
+    number & 7 | (number >> 3) << 5
+}
 
 /// The numbers in front of the frame, payload or table: settings are 32 bytes, an area's length 2.
 fn numbers_length(call: u8) -> usize {
@@ -17,12 +38,27 @@ fn numbers_length(call: u8) -> usize {
         "flush" => 4,
         "age" => 2,
         "lookup" => 4 + 4 + 8,
+        "receive_port" => 32 + 4 + 4 + 2,
+        "ingress" => 32 + 8 + 8 + 4 * 4 + 2,
         _ => 0,
     }
 }
 
 fn has_table(call: u8) -> bool {
-    !matches!(NAMES[usize::from(call)], "compact" | "expand" | "send")
+    !matches!(
+        NAMES[usize::from(call)],
+        "compact" | "expand" | "send" | "ingress"
+    )
+}
+
+/// The bytes of the map's length and of the map, behind the numbers.
+fn map_length(call: u8, rest: &[u8]) -> usize {
+    match (NAMES[usize::from(call)], rest) {
+        ("receive_port" | "ingress", [high, low, ..]) => {
+            2 + usize::from(u16::from_be_bytes([*high, *low]))
+        }
+        _ => 0,
+    }
 }
 
 fn bytes(hex: &str) -> Vec<u8> {
@@ -39,9 +75,11 @@ fn part(line: &str, at: usize) -> &str {
 /// they are out of range.
 fn input(call: u8, answer: u8, body: &[u8], table: &[u8]) -> Vec<u8> {
     let (numbers, rest) = body.split_at(numbers_length(call));
+    let (map, rest) = rest.split_at(map_length(call, rest));
     let as_they_are = matches!(answer, 1 | 2);
-    let mut input = vec![call & 7 | u8::from(as_they_are) << 4];
+    let mut input = vec![selector(call) | u8::from(as_they_are) << 4];
     input.extend(numbers);
+    input.extend(map);
     if has_table(call) {
         input.extend((table.len() as u16).to_be_bytes());
         input.extend(table);
