@@ -12,6 +12,8 @@
 mod convert;
 mod flush;
 mod frame;
+mod ingress;
+mod map;
 mod receive;
 mod record;
 mod refusal;
@@ -20,5 +22,6 @@ mod table;
 
 pub use convert::{compact, expand, send};
 pub use flush::flush;
-pub use receive::receive;
+pub use ingress::ingress;
+pub use receive::{receive, receive_port};
 pub use table::{age, lookup, spoilt};

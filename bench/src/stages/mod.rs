@@ -6,6 +6,8 @@ use crate::report::Report;
 mod convert;
 #[cfg(feature = "flush")]
 mod flush;
+#[cfg(feature = "map")]
+mod map;
 #[cfg(feature = "receive")]
 mod receive;
 #[cfg(feature = "table")]
@@ -20,6 +22,8 @@ const STAGES: &[fn(&Report)] = &[
     receive::run,
     #[cfg(feature = "convert")]
     convert::run,
+    #[cfg(feature = "map")]
+    map::run,
 ];
 
 pub fn run(report: &Report) {
