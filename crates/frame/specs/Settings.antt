@@ -32,8 +32,18 @@ numbersGood s =
     (both (leb (s .confidence) mostConfidence)
     (secondsGood (s .seconds))))
 
+-- which R bit marks a station with two homes (2026-12), and Smart Endnodes on or off (2026-13): 0, which is none and off, until they land
+abbrev pub mostMultihomed : ℕ
+mostMultihomed = 0
+
+abbrev pub mostSmart : ℕ
+mostSmart = 0
+
+unfoldable pub laterGood : Settings → Bool
+laterGood s = both (leb (s .multihomed) mostMultihomed) (leb (s .smart) mostSmart)
+
 unfoldable pub settingsGood : Settings → Bool
-settingsGood s = both (addressesGood s) (numbersGood s)
+settingsGood s = both (addressesGood s) (both (numbersGood s) (laterGood s))
 
 -- Compact is on
 abbrev pub compactOn : Settings → Bool

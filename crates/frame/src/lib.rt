@@ -1,7 +1,8 @@
 // Frames of both formats: settings, the destination in front, header, label, fields. The definitions are in specs/.
 ghost use Rattle.frame.specs.Claims.{HeaderLocal, LabelLocal, LabelsGood};
 
-// The six numbers of a port's settings, as they arrive.
+// The eight numbers of a port's settings, as they arrive: the six of document 01, then those of two homes and of Smart Endnodes, which
+// are 0 until their requests land.
 pub struct Settings {
     pub port: u64,
     pub inner: u64,
@@ -9,10 +10,17 @@ pub struct Settings {
     pub compact: u32,
     pub confidence: u32,
     pub seconds: u32,
+    pub multihomed: u32,
+    pub smart: u32,
 }
 
 // Compact on, as a setting.
 pub const COMPACT_ON: u32 = 1;
+
+// The greatest numbers of the two later settings: 0, which is none, until their requests land.
+pub const MOST_MULTIHOMED: u32 = 0;
+
+pub const MOST_SMART: u32 = 0;
 
 // The greatest confidence; the learning seconds, and those that 0 stands for.
 pub const MOST_CONFIDENCE: u32 = 255;

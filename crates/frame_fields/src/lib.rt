@@ -9,7 +9,7 @@ ghost use Rattle.frame.specs.Formats.{outerLength};
 ghost use Rattle.frame.specs.Front.{trillGroup, controlAddress, reservedGroup};
 ghost use Rattle.frame.specs.Header.{versionOf, multicastOf, optionLength, hopCount, egressOf, ingressOf, fixedBytes, headerBytes, agrees, headerLength};
 ghost use Rattle.frame.specs.Labels.{tagBytes, low12, labelLength};
-ghost use Rattle.frame.specs.Settings.{addressesGood, secondsGood, numbersGood, settingsGood};
+ghost use Rattle.frame.specs.Settings.{addressesGood, secondsGood, numbersGood, laterGood, settingsGood};
 ghost use Rattle.frame_fields.specs.Meaning.{frontAs, frontAt, lengthAs};
 use frame::ADDRESSES_BYTES;
 use frame::ALL_RBRIDGES;
@@ -27,7 +27,9 @@ use frame::LAST_CONTROL;
 use frame::LAST_TRILL_GROUP;
 use frame::LEAST_SECONDS;
 use frame::MOST_CONFIDENCE;
+use frame::MOST_MULTIHOMED;
 use frame::MOST_SECONDS;
+use frame::MOST_SMART;
 use frame::MULTICAST_BIT;
 use frame::MULTICAST_VALUES;
 use frame::OPTION_BYTES;
@@ -84,11 +86,17 @@ fn numbers_good(s: Settings) -> bool
             & ((s.confidence <= MOST_CONFIDENCE) & seconds_good(s.seconds)))
 }
 
+fn later_good(s: Settings) -> bool
+    ensures { λ r. ⌜ r ≡ laterGood s ⌝ }
+{
+    (s.multihomed <= MOST_MULTIHOMED) & (s.smart <= MOST_SMART)
+}
+
 // Refusal 1: whether the settings are within their ranges.
 pub fn settings_good(s: Settings) -> bool
     ensures { λ r. ⌜ r ≡ settingsGood s ⌝ }
 {
-    addresses_good(s) & numbers_good(s)
+    addresses_good(s) & (numbers_good(s) & later_good(s))
 }
 
 // :40 to :4F.

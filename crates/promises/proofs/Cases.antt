@@ -20,7 +20,7 @@ use Rattle.table.specs.declared.Label.the-variants.{Vlan, Fine}
 use Rattle.flush.specs.Payload.{everyType, tlv, block, tlvsFrom, tlvs, lengthGood, corrupt, piecesOf, payloadOf}
 use Rattle.flush.specs.Meaning.{nicknameMeant, vlanIn, fineIn, macIn, someMacIn, bringsLabel, bringsMac, gathersMac, labelMeant, macMeant, entryMeant}
 use Rattle.flush.specs.Flush.{slotMeant, clearedSlot, clearedBy, clearing, flushed}
-use Rattle.frame.specs.Settings.{addressesGood, secondsGood, numbersGood, settingsGood}
+use Rattle.frame.specs.Settings.{addressesGood, secondsGood, numbersGood, laterGood, settingsGood}
 use Rattle.frame.specs.Front.{trillGroup, controlAddress, reservedGroup, frontRefused, frontOf}
 use Rattle.frame.specs.Header.{headerLength}
 use Rattle.frame.specs.Labels.{labelLength}
@@ -88,11 +88,11 @@ meanings-hold = (
 )
 
 compactions-hold : AllHold compactionCases
-unfolding pick both either between check andThen settled num bytesOf startsWith laid individual nicknameGood vlanGood addressesGood secondsGood numbersGood settingsGood trillGroup controlAddress reservedGroup frontRefused frontOf headerLength labelLength outerLength generalAfter general frameLengthGood compactBytes staysGeneral generalOnly generalFields compacting written compacted
+unfolding pick both either between check andThen settled num bytesOf startsWith laid individual nicknameGood vlanGood addressesGood secondsGood numbersGood laterGood settingsGood trillGroup controlAddress reservedGroup frontRefused frontOf headerLength labelLength outerLength generalAfter general frameLengthGood compactBytes staysGeneral generalOnly generalFields compacting written compacted
 compactions-hold = (refl, (refl, tt))
 
 pub control-cases : ControlCases
-unfolding pick both either between check andThen settled num bytesOf startsWith laid individual nicknameGood vlanGood addressesGood secondsGood numbersGood settingsGood trillGroup controlAddress reservedGroup frontRefused frontOf headerLength labelLength outerLength generalAfter general frameLengthGood compactBytes staysGeneral generalOnly generalFields compacting written compacted
+unfolding pick both either between check andThen settled num bytesOf startsWith laid individual nicknameGood vlanGood addressesGood secondsGood numbersGood laterGood settingsGood trillGroup controlAddress reservedGroup frontRefused frontOf headerLength labelLength outerLength generalAfter general frameLengthGood compactBytes staysGeneral generalOnly generalFields compacting written compacted
 control-cases = (refl, (refl, (refl, (refl, (refl, (refl, tt))))))
 
 all-append : (xs ys : List Case) → AllHold xs → AllHold ys → AllHold (xs ++ ys)

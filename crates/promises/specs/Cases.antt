@@ -42,6 +42,8 @@ farPort = record {
   compact = 1;
   confidence = 20;
   seconds = 300;
+  multihomed = 0;
+  smart = 0;
 }
 
 abbrev pub Holds : Case → Type 0

@@ -9,7 +9,7 @@ use Rattle.frame.specs.declared.Settings.{Settings}
 use Rattle.convert.specs.Compaction.{compacted}
 use Rattle.convert.specs.Expansion.{Outer, expanded}
 use Rattle.convert.specs.Sending.{sent}
-use Rattle.receive.specs.Receive.{receivedWith, received}
+use Rattle.receive.specs.Receive.{receivedWith, portReceived}
 use Rattle.promises.specs.Interchange.{Call, runWith, run}
 
 -- what 0 meant before
@@ -25,12 +25,14 @@ passing seconds s = record {
   compact = s .compact;
   confidence = s .confidence;
   seconds = seconds;
+  multihomed = s .multihomed;
+  smart = s .smart;
 }
 
 -- for all settings, good or not: every reading, and every list of calls from every table, with all answers, refusals, table bytes and
 -- output bytes. The other calls have settings too, of which the seconds bear on refusal 1 alone.
 pub record LifeAsBefore : Type 0 where
-  pub reading : (s : Settings) (f t o : List ℕ) → received (passing 300 s) f t o ≡ receivedWith oldLife (passing 0 s) f t o
+  pub reading : (s : Settings) (m f t o : List ℕ) → portReceived (passing 300 s) m f t o ≡ receivedWith oldLife (passing 0 s) m f t o
   pub calls : (s : Settings) (t : List ℕ) (cs : List Call) → run (passing 300 s) t cs ≡ runWith oldLife (passing 0 s) t cs
   pub compaction : (s : Settings) (f area : List ℕ) → compacted (passing 300 s) f area ≡ compacted (passing 0 s) f area
   pub expansion : (s : Settings) (u : Outer) (f area : List ℕ) → expanded (passing 300 s) u f area ≡ expanded (passing 0 s) u f area
@@ -38,5 +40,5 @@ pub record LifeAsBefore : Type 0 where
 
 -- settings that pass 10 to 8191, and those that are refused, answer and leave what they did
 pub record OtherLivesStay : Type 0 where
-  pub reading : (s : Settings) (f t o : List ℕ) → (s .seconds ≡ 0 → ⊥) → received s f t o ≡ receivedWith oldLife s f t o
+  pub reading : (s : Settings) (m f t o : List ℕ) → (s .seconds ≡ 0 → ⊥) → portReceived s m f t o ≡ receivedWith oldLife s m f t o
   pub calls : (s : Settings) (t : List ℕ) (cs : List Call) → (s .seconds ≡ 0 → ⊥) → run s t cs ≡ runWith oldLife s t cs

@@ -14,20 +14,24 @@ use Rattle.numbers.specs.After.{OnTable, OnBoth, onBoth}
 use Rattle.numbers.specs.Bytes.{num}
 use Rattle.numbers.specs.Ranges.{individual, vlanGood}
 use Rattle.table.specs.Slots.{tableGood}
+use Rattle.table.specs.Learning.{learnt}
 use Rattle.flush.specs.Payload.{everyType, corrupt, nickBytes, blockCount, behind, blockBytes, piecesOf, Payload, made, payloadOf}
 use Rattle.flush.specs.Flush.{slotMeant, clearedBy, clearing}
 use Rattle.frame.specs.Settings.{settingsGood, compactOn, defaultLife}
 use Rattle.frame.specs.Front.{trillGroup, addressBytes, addressesBytes, addressIn, Front, unicast, multicast, refusedFront, inner, frontOf}
 use Rattle.frame.specs.Header.{versionOf, multicastOf, hopCount, ingressOf, fixedBytes, headerBytes, agrees, headerLength}
 use Rattle.frame.specs.Labels.{ethertypeBytes, tagBytes, fineBytes, isTrill, isTag, isFine, isChannel, low12, labelLength}
-use Rattle.frame.specs.Fields.{Fields, leastContent, nativeBytes}
+use Rattle.frame.specs.Fields.{Fields, leastContent}
 use Rattle.frame.specs.Formats.{taggedAddresses, untaggedOuter, taggedOuter, frameLengthGood, outerLength, generalAfter, general, compactAfter, compact, byFront, parsed}
 use Rattle.frame.specs.declared.Settings.{Settings}
+use Rattle.port_map.specs.Maps.{map-bad, no-pair, mapGood}
 use Rattle.receive.specs.Deciding.{nicknamesGood, isOnward, channelBytes, channelProtocol, channelPayload, flushProtocol, channelGood}
-use Rattle.receive.specs.Receive.{flushedWith, delivery, channel, acted, reading, receivedWith, received}
+use Rattle.receive.specs.Delivering.{nativeOut}
+use Rattle.receive.specs.Receive.{learnedEntry, deliveredWith, flushedWith, delivery, channel, acted, reading, receivedWith, portReceived}
 use Rattle.receive.specs.Order.{Row, unless, when, firstOf, Outcome, outerRows, outerEnd, headerRows, addressRows, labelRows, labelEnd, trillRows, contentRows, generalRows, generalParts, compactRows, compactParts, frontRows, frontParts, isGot, channelRows, flushesAll, nativeRows, delivers, actedOn, readInOrder, ReadsExactly}
 use Rattle.receive.specs.declared.ReadAnswer.{ReadAnswer}
 use Rattle.receive.specs.declared.ReadAnswer.the-variants.{Refused, Onward, OtherChannel}
+use Rattle.receive.proofs.NoMap.{native-missing}
 
 -- ---- rows and checks
 
@@ -204,39 +208,45 @@ payload-rows l k =
     go true true true true false = refl
     go true true true true true = refl
 
-module _ (s : Settings) (p : Fields) (t o : List ℕ) where
-  channel-rows : channel s p t o ≡ firstOf (channelRows s p t o) (flushesAll s p t o)
+module _ (m : List ℕ) (s : Settings) (p : Fields) (t o : List ℕ) where
+  channel-rows : channel s p t o ≡ firstOf (channelRows m s p t o) (flushesAll m s p t o)
   unfolding channel clearing check firstOf pick andThen
   channel-rows = go (leb channelBytes (length (p .content))) (channelGood s p) (eqb (channelProtocol (p .content)) flushProtocol) _ flush-rows
     where
-      flush-rows : andThen (clearing everyType (ingressOf (p .header)) (channelPayload (p .content)) t) (λ c. got (flushedWith o c)) ≡ pick (isGot (payloadOf everyType (channelPayload (p .content)))) (flushesAll s p t o) (refused payload-corrupt)
+      flush-rows : andThen (clearing everyType (ingressOf (p .header)) (channelPayload (p .content)) t) (λ c. got (flushedWith o c)) ≡ pick (isGot (payloadOf everyType (channelPayload (p .content)))) (flushesAll m s p t o) (refused payload-corrupt)
       flush-rows = then-then (payloadOf everyType (channelPayload (p .content))) _ _ ∙ payload-rows (channelPayload (p .content)) _
 
-      go : (a b c : Bool) (r : Outcome) → r ≡ pick (isGot (payloadOf everyType (channelPayload (p .content)))) (flushesAll s p t o) (refused payload-corrupt)
+      go : (a b c : Bool) (r : Outcome) → r ≡ pick (isGot (payloadOf everyType (channelPayload (p .content)))) (flushesAll m s p t o) (refused payload-corrupt)
           → check a cut-short (check b channel-bad (pick c r (got (onBoth OtherChannel t o))))
-          ≡ firstOf (unless a (refused cut-short) ∷ unless b (refused channel-bad) ∷ unless c (got (onBoth OtherChannel t o)) ∷ unless (isGot (payloadOf everyType (channelPayload (p .content)))) (refused payload-corrupt) ∷ []) (flushesAll s p t o)
+          ≡ firstOf (unless a (refused cut-short) ∷ unless b (refused channel-bad) ∷ unless c (got (onBoth OtherChannel t o)) ∷ unless (isGot (payloadOf everyType (channelPayload (p .content)))) (refused payload-corrupt) ∷ []) (flushesAll m s p t o)
       go false b c r e = refl
       go true false c r e = refl
       go true true false r e = refl
       go true true true r e = e
 
-  native-rows : delivery defaultLife s p t o ≡ firstOf (nativeRows s p t o) (delivers s p t o)
-  unfolding delivery check firstOf pick
-  native-rows = go (trillGroup (num (p .dst))) (leb (length (nativeBytes p)) (length o))
+  native-rows : delivery (nativeOut m p) defaultLife s p t o ≡ firstOf (nativeRows m s p t o) (delivers m s p t o)
+  unfolding delivery check andThen settled firstOf pick
+  native-rows = go (trillGroup (num (p .dst))) (nativeOut m p) (native-missing m p)
     where
-      go : (a b : Bool) → check (not a) not-channel (check b area-short (delivers s p t o)) ≡ firstOf (when a (refused not-channel) ∷ unless b (refused area-short) ∷ []) (delivers s p t o)
-      go true b = refl
-      go false false = refl
-      go false true = refl
+      go : (a : Bool) (r : Result (List ℕ)) → ((n : ℕ) → r ≡ refused n → n ≡ no-pair)
+          → check (not a) not-channel (andThen r λ b. check (leb (length b) (length o)) area-short (got (deliveredWith p b o (learnt (learnedEntry defaultLife s p) t))))
+          ≡ firstOf (when a (refused not-channel) ∷ unless (isGot r) (refused no-pair) ∷ unless (leb (length (settled (λ n. []) r)) (length o)) (refused area-short) ∷ []) (got (deliveredWith p (settled (λ n. []) r) o (learnt (learnedEntry defaultLife s p) t)))
+      go true r only = refl
+      go false (refused n) only = ap refused (only n refl)
+      go false (got b) only = short (leb (length b) (length o)) _
+        where
+          short : (c : Bool) (x : Outcome) → check c area-short x ≡ pick c x (refused area-short)
+          short true x = refl
+          short false x = refl
 
-  acted-rows : acted defaultLife s p t o ≡ actedOn s p t o
+  acted-rows : acted m defaultLife s p t o ≡ actedOn m s p t o
   unfolding acted check firstOf pick
   acted-rows = go (eqb (hopCount (p .header)) 0) (nicknamesGood s (p .header)) (individual (num (p .src))) (isOnward s (p .header)) (isChannel (p .content)) _ _ channel-rows native-rows
     where
-      go : (a b c d e : Bool) (x y : Outcome) → x ≡ firstOf (channelRows s p t o) (flushesAll s p t o) → y ≡ firstOf (nativeRows s p t o) (delivers s p t o)
+      go : (a b c d e : Bool) (x y : Outcome) → x ≡ firstOf (channelRows m s p t o) (flushesAll m s p t o) → y ≡ firstOf (nativeRows m s p t o) (delivers m s p t o)
           → check (not a) hops-spent (check b nickname-bad (check c source-group (pick d (got (onBoth Onward t o)) (pick e x y))))
           ≡ firstOf (when a (refused hops-spent) ∷ unless b (refused nickname-bad) ∷ unless c (refused source-group) ∷ when d (got (onBoth Onward t o)) ∷ [])
-          (pick e (firstOf (channelRows s p t o) (flushesAll s p t o)) (firstOf (nativeRows s p t o) (delivers s p t o)))
+          (pick e (firstOf (channelRows m s p t o) (flushesAll m s p t o)) (firstOf (nativeRows m s p t o) (delivers m s p t o)))
       go true b c d e x y ex ey = refl
       go false false c d e x y ex ey = refl
       go false true false d e x y ex ey = refl
@@ -246,25 +256,26 @@ module _ (s : Settings) (p : Fields) (t o : List ℕ) where
 
 -- ---- the whole
 
-module _ (s : Settings) (f t o : List ℕ) where
-  reading-rows : reading defaultLife s (parsed s f) t o ≡ readInOrder s f t o
+module _ (s : Settings) (m f t o : List ℕ) where
+  reading-rows : reading m defaultLife s (parsed s f) t o ≡ readInOrder s m f t o
   unfolding reading parsed check firstOf pick andThen
-  reading-rows = go (settingsGood s) (tableGood t) (frameLengthGood (length f))
+  reading-rows = go (settingsGood s) (tableGood t) (mapGood m) (frameLengthGood (length f))
     where
       d : Front
       d = frontOf s (addressIn f)
 
-      fields : andThen (byFront (compactOn s) d f) (λ p. acted defaultLife s p t o) ≡ firstOf (frontRows (compactOn s) d f) (actedOn s (frontParts d f) t o)
-      fields = front-rows (compactOn s) d f _ ∙ ap (firstOf (frontRows (compactOn s) d f)) (acted-rows s (frontParts d f) t o)
+      fields : andThen (byFront (compactOn s) d f) (λ p. acted m defaultLife s p t o) ≡ firstOf (frontRows (compactOn s) d f) (actedOn m s (frontParts d f) t o)
+      fields = front-rows (compactOn s) d f _ ∙ ap (firstOf (frontRows (compactOn s) d f)) (acted-rows m s (frontParts d f) t o)
 
-      go : (a b c : Bool)
-          → check a settings-bad (check b table-length-bad (andThen (check c frame-length-bad (byFront (compactOn s) d f)) λ p. acted defaultLife s p t o))
-          ≡ firstOf (unless a (refused settings-bad) ∷ unless b (refused table-length-bad) ∷ unless c (refused frame-length-bad) ∷ frontRows (compactOn s) d f) (actedOn s (frontParts d f) t o)
-      go false b c = refl
-      go true false c = refl
-      go true true false = refl
-      go true true true = fields
+      go : (a b g c : Bool)
+          → check a settings-bad (check b table-length-bad (check g map-bad (andThen (check c frame-length-bad (byFront (compactOn s) d f)) λ p. acted m defaultLife s p t o)))
+          ≡ firstOf (unless a (refused settings-bad) ∷ unless b (refused table-length-bad) ∷ unless g (refused map-bad) ∷ unless c (refused frame-length-bad) ∷ frontRows (compactOn s) d f) (actedOn m s (frontParts d f) t o)
+      go false b g c = refl
+      go true false g c = refl
+      go true true false c = refl
+      go true true true false = refl
+      go true true true true = fields
 
 pub reads-exactly : ReadsExactly
-unfolding received receivedWith
-reads-exactly s f t o = ap (settled (λ n. onBoth (Refused n) t o)) (reading-rows s f t o)
+unfolding portReceived receivedWith
+reads-exactly s m f t o = ap (settled (λ n. onBoth (Refused n) t o)) (reading-rows s m f t o)

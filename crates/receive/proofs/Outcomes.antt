@@ -31,7 +31,7 @@ use Rattle.flush.specs.Flush.{clearing, flushed}
 use Rattle.flush.specs.declared.FlushAnswer.the-variants as flush
 use Rattle.flush.proofs.Flushing.{flush-exact, clearing-unique}
 use Rattle.flush.proofs.Stays.{clearing-leaves-alone}
-use Rattle.frame.specs.Settings.{addressesGood, secondsGood, numbersGood, settingsGood, lifeOf, defaultLife, compactOn}
+use Rattle.frame.specs.Settings.{addressesGood, secondsGood, numbersGood, laterGood, settingsGood, lifeOf, defaultLife, compactOn}
 use Rattle.frame.specs.Front.{addressIn, Front, unicast, multicast, refusedFront, inner, frontOf}
 use Rattle.frame.specs.Header.{ingressOf, egressOf}
 use Rattle.frame.specs.Labels.{isChannel, labelRead}
@@ -41,26 +41,27 @@ use Rattle.frame.specs.declared.Settings.{Settings}
 use Rattle.frame.proofs.Local.{labels-good}
 use Rattle.frame.proofs.Parts.{Good, general-is, compact-is}
 use Rattle.receive.specs.Deciding.{ingressAllowed, nicknamesGood, channelPayload}
-use Rattle.receive.specs.Receive.{learnedEntry, deliveredWith, delivery, flushedWith, channel, acted, reading, receivedWith, received}
+use Rattle.receive.specs.Delivering.{nativeOut}
+use Rattle.receive.specs.Receive.{learnedEntry, deliveredWith, delivery, flushedWith, channel, acted, reading, receivedWith, portReceived}
 use Rattle.receive.specs.Words.{LabelFits}
 use Rattle.receive.specs.Claims.{ReadRefusal, ReadingKeepsUnique, ReadsParsed, ReadingLeavesAlone, FlushRead, ReadFlushExact}
 use Rattle.receive.specs.declared.ReadAnswer.{ReadAnswer}
 use Rattle.receive.specs.declared.ReadAnswer.the-variants.{Refused, Onward, OtherChannel, Flushed}
 
 pub reads-parsed : ReadsParsed
-unfolding received receivedWith
-reads-parsed s f g t o e = rw e
+unfolding portReceived receivedWith
+reads-parsed s m f g t o e = rw e
 
 -- ---- what an accepted reading left
 
 -- a property of outcomes that holds of each that is not refused
-pub record Holds (life : ℕ) (s : Settings) (p : Fields) (t o : List ℕ) (P : OnBoth ReadAnswer → Type 0) : Type 0 where
+pub record Holds (m : List ℕ) (life : ℕ) (s : Settings) (p : Fields) (t o : List ℕ) (P : OnBoth ReadAnswer → Type 0) : Type 0 where
   pub onward : P (onBoth Onward t o)
   pub other : P (onBoth OtherChannel t o)
   pub flushes : isChannel (p .content) ≡ true → (c : OnTable ℕ) → clearing everyType (ingressOf (p .header)) (channelPayload (p .content)) t ≡ got c → P (flushedWith o c)
-  pub delivers : nicknamesGood s (p .header) ≡ true → individual (num (p .src)) ≡ true → P (deliveredWith p o (learnt (learnedEntry life s p) t))
+  pub delivers : nicknamesGood s (p .header) ≡ true → individual (num (p .src)) ≡ true → (b : List ℕ) → nativeOut m p ≡ got b → P (deliveredWith p b o (learnt (learnedEntry life s p) t))
 
-module _ (life : ℕ) (s : Settings) (p : Fields) (t o : List ℕ) (P : OnBoth ReadAnswer → Type 0) (h : Holds life s p t o P) where
+module _ (m : List ℕ) (life : ℕ) (s : Settings) (p : Fields) (t o : List ℕ) (P : OnBoth ReadAnswer → Type 0) (h : Holds m life s p t o P) where
   channel-left : isChannel (p .content) ≡ true → (a : OnBoth ReadAnswer) → channel s p t o ≡ got a → P a
   unfolding channel
   channel-left is a q =
@@ -71,14 +72,15 @@ module _ (life : ℕ) (s : Settings) (p : Fields) (t o : List ℕ) (P : OnBoth R
       (λ v. subst P (got-got _ _ (v .1)) (h .other))
       (pick-got _ _ _ _ (g .1))
 
-  delivery-left : nicknamesGood s (p .header) ≡ true → individual (num (p .src)) ≡ true → (a : OnBoth ReadAnswer) → delivery life s p t o ≡ got a → P a
+  delivery-left : nicknamesGood s (p .header) ≡ true → individual (num (p .src)) ≡ true → (a : OnBoth ReadAnswer) → delivery (nativeOut m p) life s p t o ≡ got a → P a
   unfolding delivery
   delivery-left n i a q =
       let c = check-got _ _ _ _ q in
-      let r = check-got _ _ _ _ (c .1) in
-      subst P (got-got _ _ (r .1)) (h .delivers n i)
+      let (b, made, k) = then-got _ _ _ (c .1) in
+      let r = check-got _ _ _ _ k in
+      subst P (got-got _ _ (r .1)) (h .delivers n i b made)
 
-  acted-left : (a : OnBoth ReadAnswer) → acted life s p t o ≡ got a → P a
+  acted-left : (a : OnBoth ReadAnswer) → acted m life s p t o ≡ got a → P a
   unfolding acted
   acted-left a q =
       let c = check-got _ _ _ _ q in
@@ -94,15 +96,16 @@ module _ (life : ℕ) (s : Settings) (p : Fields) (t o : List ℕ) (P : OnBoth R
       (pick-got _ _ _ _ (i .1))
 
 -- the outcome of the call: refused, or one of those
-module _ (life : ℕ) (s : Settings) (fields : Result Fields) (t o : List ℕ) (P : OnBoth ReadAnswer → Type 0)
-    (h : (p : Fields) → settingsGood s ≡ true → tableGood t ≡ true → fields ≡ got p → Holds life s p t o P) where
-  pub reading-left : (a : OnBoth ReadAnswer) → reading life s fields t o ≡ got a → P a
+module _ (m : List ℕ) (life : ℕ) (s : Settings) (fields : Result Fields) (t o : List ℕ) (P : OnBoth ReadAnswer → Type 0)
+    (h : (p : Fields) → settingsGood s ≡ true → tableGood t ≡ true → fields ≡ got p → Holds m life s p t o P) where
+  pub reading-left : (a : OnBoth ReadAnswer) → reading m life s fields t o ≡ got a → P a
   unfolding reading
   reading-left a q =
       let c = check-got _ _ _ _ q in
       let d = check-got _ _ _ _ (c .1) in
-      let (p, r, k) = then-got _ _ _ (d .1) in
-      acted-left life s p t o P (h p (c .0) (d .0) r) a k
+      let g = check-got _ _ _ _ (d .1) in
+      let (p, r, k) = then-got _ _ _ (g .1) in
+      acted-left m life s p t o P (h p (c .0) (d .0) r) a k
 
 pub settled-left : {A : Type 0} (P : A → Type 0) (leave : ℕ → A) (r : Result A) → ((n : ℕ) → P (leave n)) → ((a : A) → r ≡ got a → P a) → P (settled leave r)
 unfolding settled
@@ -121,20 +124,20 @@ flushed-same a b e = cc
 
 -- ---- refusals
 
-not-refused : (life : ℕ) (s : Settings) (p : Fields) (t o : List ℕ) (n : ℕ) → Holds life s p t o (λ a. a .answer ≡ Refused n → (a .table ≡ t) × (a .out ≡ o))
-not-refused life s p t o n = record {
+not-refused : (m : List ℕ) (life : ℕ) (s : Settings) (p : Fields) (t o : List ℕ) (n : ℕ) → Holds m life s p t o (λ a. a .answer ≡ Refused n → (a .table ≡ t) × (a .out ≡ o))
+not-refused m life s p t o n = record {
   onward = λ e. (refl, refl);
   other = λ e. (refl, refl);
   flushes = λ is c q e. let z : _≡_ {A = ℕ} 0 1 = cc in absurd (omega arith);
-  delivers = λ a b e. let z : _≡_ {A = ℕ} 0 1 = cc in absurd (omega arith);
+  delivers = λ a b c q e. let z : _≡_ {A = ℕ} 0 1 = cc in absurd (omega arith);
 }
 
 pub read-refusal : ReadRefusal
-unfolding received receivedWith
-read-refusal s f t o n =
-    settled-left (λ (a : OnBoth ReadAnswer). a .answer ≡ Refused n → (a .table ≡ t) × (a .out ≡ o)) (λ k. onBoth (Refused k) t o) (reading defaultLife s (parsed s f) t o)
+unfolding portReceived receivedWith
+read-refusal s m f t o n =
+    settled-left (λ (a : OnBoth ReadAnswer). a .answer ≡ Refused n → (a .table ≡ t) × (a .out ≡ o)) (λ k. onBoth (Refused k) t o) (reading m defaultLife s (parsed s f) t o)
     (λ k e. (refl, refl))
-    (reading-left defaultLife s (parsed s f) t o _ (λ p g d q. not-refused defaultLife s p t o n))
+    (reading-left m defaultLife s (parsed s f) t o _ (λ p g d q. not-refused m defaultLife s p t o n))
 
 -- ---- no pair twice
 
@@ -173,7 +176,8 @@ pub settings-fit : (life : ℕ) (s : Settings) → life < 2 ^ 13 → settingsGoo
 unfolding settingsGood numbersGood
 settings-fit life s small set =
     let a = both-true (addressesGood s) _ set in
-    let b = both-true (nicknameGood (s .nickname)) _ (a .1) in
+    let n = both-true (numbersGood s) (laterGood s) (a .1) in
+    let b = both-true (nicknameGood (s .nickname)) _ (n .0) in
     let c = both-true (leb (s .compact) 1) _ (b .1) in
     let d = both-true (leb (s .confidence) 255) (secondsGood (s .seconds)) (c .1) in
     (leb-true (s .confidence) 255 (d .0), life-fits (s .seconds) life (eqb (s .seconds) 0) refl small (d .1))
@@ -191,34 +195,34 @@ learned-sound life s p small set g n i =
       seconds-fit = d .1;
     }
 
-keeps-unique : (life : ℕ) (s : Settings) (p : Fields) (t o : List ℕ) → life < 2 ^ 13 → settingsGood s ≡ true → Good p → Unique t → Holds life s p t o (λ a. Unique (a .table))
-keeps-unique life s p t o small set g u = record {
+keeps-unique : (m : List ℕ) (life : ℕ) (s : Settings) (p : Fields) (t o : List ℕ) → life < 2 ^ 13 → settingsGood s ≡ true → Good p → Unique t → Holds m life s p t o (λ a. Unique (a .table))
+keeps-unique m life s p t o small set g u = record {
   onward = u;
   other = u;
   flushes = λ is c q. clearing-unique (ingressOf (p .header)) (channelPayload (p .content)) t c q u;
-  delivers = λ n i. learning-unique (learnedEntry life s p) (learned-sound life s p small set g n i) t u;
+  delivers = λ n i b made. learning-unique (learnedEntry life s p) (learned-sound life s p small set g n i) t u;
 }
 
 pub reading-unique : ReadingKeepsUnique
-unfolding received receivedWith
-reading-unique s f t o u =
-    settled-left (λ (a : OnBoth ReadAnswer). Unique (a .table)) (λ k. onBoth (Refused k) t o) (reading defaultLife s (parsed s f) t o)
+unfolding portReceived receivedWith
+reading-unique s m f t o u =
+    settled-left (λ (a : OnBoth ReadAnswer). Unique (a .table)) (λ k. onBoth (Refused k) t o) (reading m defaultLife s (parsed s f) t o)
     (λ k. u)
-    (reading-left defaultLife s (parsed s f) t o _ (λ p set d q. keeps-unique defaultLife s p t o (omega arith) set (parsed-good s f p q) u))
+    (reading-left m defaultLife s (parsed s f) t o _ (λ p set d q. keeps-unique m defaultLife s p t o (omega arith) set (parsed-good s f p q) u))
 
 -- ---- spoilt and configured records
 
 pub reading-leaves-alone : ReadingLeavesAlone
-unfolding received receivedWith
-reading-leaves-alone s f t o =
-    settled-left (λ (a : OnBoth ReadAnswer). LeavesAlone t (a .table)) (λ k. onBoth (Refused k) t o) (reading defaultLife s (parsed s f) t o)
+unfolding portReceived receivedWith
+reading-leaves-alone s m f t o =
+    settled-left (λ (a : OnBoth ReadAnswer). LeavesAlone t (a .table)) (λ k. onBoth (Refused k) t o) (reading m defaultLife s (parsed s f) t o)
     (λ k. same)
-    (reading-left defaultLife s (parsed s f) t o _ (λ p set d q.
+    (reading-left m defaultLife s (parsed s f) t o _ (λ p set d q.
     record {
       onward = same;
       other = same;
       flushes = λ is c r. clearing-leaves-alone (ingressOf (p .header)) (channelPayload (p .content)) t c r;
-      delivers = λ n i. learning-leaves-alone (learnedEntry defaultLife s p) t;
+      delivers = λ n i b made. learning-leaves-alone (learnedEntry defaultLife s p) t;
     }))
   where
     same : LeavesAlone t t
@@ -250,29 +254,29 @@ flush-read s f t p c read good q =
     }
 
 pub read-flush-exact : ReadFlushExact
-unfolding received receivedWith
-read-flush-exact s f t o n =
-    settled-left (λ (a : OnBoth ReadAnswer). a .answer ≡ Flushed n → FlushRead s f t (a .table) n × (a .out ≡ o)) (λ k. onBoth (Refused k) t o) (reading defaultLife s (parsed s f) t o)
+unfolding portReceived receivedWith
+read-flush-exact s m f t o n =
+    settled-left (λ (a : OnBoth ReadAnswer). a .answer ≡ Flushed n → FlushRead s f t (a .table) n × (a .out ≡ o)) (λ k. onBoth (Refused k) t o) (reading m defaultLife s (parsed s f) t o)
     (λ k e. apart cc)
-    (reading-left defaultLife s (parsed s f) t o _ (λ p set d q.
+    (reading-left m defaultLife s (parsed s f) t o _ (λ p set d q.
     record {
       onward = λ e. apart cc;
       other = λ e. apart cc;
       flushes = λ is c r e. (subst (FlushRead s f t (c .table)) (count-same _ _ e) (flush-read s f t p c q d r), refl);
-      delivers = λ a b e. apart cc;
+      delivers = λ a b c q e. apart cc;
     }))
 
 -- ---- the label of the answer
 
-pub read-fits : (s : Settings) (f t o : List ℕ) → LabelFits (received s f t o .answer)
-unfolding received receivedWith
-read-fits s f t o =
-    settled-left (λ (a : OnBoth ReadAnswer). LabelFits (a .answer)) (λ k. onBoth (Refused k) t o) (reading defaultLife s (parsed s f) t o)
+pub read-fits : (s : Settings) (m f t o : List ℕ) → LabelFits (portReceived s m f t o .answer)
+unfolding portReceived receivedWith
+read-fits s m f t o =
+    settled-left (λ (a : OnBoth ReadAnswer). LabelFits (a .answer)) (λ k. onBoth (Refused k) t o) (reading m defaultLife s (parsed s f) t o)
     (λ k. tt)
-    (reading-left defaultLife s (parsed s f) t o _ (λ p set d q.
+    (reading-left m defaultLife s (parsed s f) t o _ (λ p set d q.
     record {
       onward = tt;
       other = tt;
       flushes = λ is c r. tt;
-      delivers = λ n i. label-fits (labelRead (p .label)) (parts-label p (parsed-good s f p q));
+      delivers = λ n i b made. label-fits (labelRead (p .label)) (parts-label p (parsed-good s f p q));
     }))

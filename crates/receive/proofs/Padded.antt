@@ -28,7 +28,7 @@ use Rattle.frame.specs.Formats.{parsed}
 use Rattle.frame.specs.declared.Settings.{Settings}
 use Rattle.frame.proofs.Longer.{longer, parsed-longer}
 use Rattle.receive.specs.Deciding.{channelBytes, channelPayload, channelGood}
-use Rattle.receive.specs.Receive.{channel, acted, reading, receivedWith, received}
+use Rattle.receive.specs.Receive.{channel, acted, reading, receivedWith, portReceived}
 use Rattle.receive.specs.Claims.{PaddedRead}
 use Rattle.receive.specs.declared.ReadAnswer.{ReadAnswer}
 use Rattle.receive.specs.declared.ReadAnswer.the-variants.{Refused, Flushed}
@@ -65,13 +65,13 @@ module _ (s : Settings) (p : Fields) (t o : List ℕ) (x : Payload) (n : ℕ) (i
       )
       (sym (check-pass _ _ _ (le-leb channelBytes (length (p .content)) long)))
 
-  acted-same : (life : ℕ) → acted life s (longer p (zeros n)) t o ≡ acted life s p t o
+  acted-same : (m : List ℕ) (life : ℕ) → acted m life s (longer p (zeros n)) t o ≡ acted m life s p t o
   unfolding acted pick
-  acted-same life = rw (same-channel (p .content) (zeros n) long, is, channel-same)
+  acted-same m life = rw (same-channel (p .content) (zeros n) long, is, channel-same)
 
-  reading-same : (life : ℕ) → reading life s (got (longer p (zeros n))) t o ≡ reading life s (got p) t o
+  reading-same : (m : List ℕ) (life : ℕ) → reading m life s (got (longer p (zeros n))) t o ≡ reading m life s (got p) t o
   unfolding reading andThen
-  reading-same life = rw (acted-same life)
+  reading-same m life = rw (acted-same m life)
 
 -- ---- the call
 
@@ -83,17 +83,17 @@ record Carried (s : Settings) (f : List ℕ) : Type 0 where
   payload : Payload
   valid : payloadOf everyType (channelPayload (fields .content)) ≡ got payload
 
-carried : (s : Settings) (f t o : List ℕ) (k : ℕ) → received s f t o .answer ≡ Flushed k → Carried s f
-unfolding received receivedWith clearing
-carried s f t o k =
-    settled-left (λ (a : OnBoth ReadAnswer). a .answer ≡ Flushed k → Carried s f) (λ n. onBoth (Refused n) t o) (reading defaultLife s (parsed s f) t o)
+carried : (s : Settings) (m f t o : List ℕ) (k : ℕ) → portReceived s m f t o .answer ≡ Flushed k → Carried s f
+unfolding portReceived receivedWith clearing
+carried s m f t o k =
+    settled-left (λ (a : OnBoth ReadAnswer). a .answer ≡ Flushed k → Carried s f) (λ n. onBoth (Refused n) t o) (reading m defaultLife s (parsed s f) t o)
     (λ n e. apart cc)
-    (reading-left defaultLife s (parsed s f) t o _ (λ p set d q.
+    (reading-left m defaultLife s (parsed s f) t o _ (λ p set d q.
     record {
       onward = λ e. apart cc;
       other = λ e. apart cc;
       flushes = λ is c r e. let (x, valid, u) = then-got _ _ _ r in record { fields = p; read = q; is = is; payload = x; valid = valid };
-      delivers = λ a b e. apart cc;
+      delivers = λ a b c q e. apart cc;
     }))
 
 -- the payload has bytes, so the channel header is whole
@@ -106,9 +106,9 @@ channel-long c x h =
     omega arith
 
 pub padded-read : PaddedRead
-unfolding received receivedWith zeros
-padded-read s f t o k n h room =
-    let c = carried s f t o k h in
+unfolding portReceived receivedWith zeros
+padded-read s m f t o k n h room =
+    let c = carried s m f t o k h in
     let l : length (zeros n) ≡ n = length-replicate n 0 in
     let q : parsed s (padded n f) ≡ got (longer (c .fields) (zeros n)) = parsed-longer (zeros n) s f (c .fields) (omega arith) (c .read) in
-    rw (q, c .read) (ap (settled (λ (m : ℕ). onBoth (Refused m) t o)) (reading-same s (c .fields) t o (c .payload) n (c .is) (channel-long (c .fields .content) (c .payload) (c .valid)) (c .valid) defaultLife))
+    rw (q, c .read) (ap (settled (λ (r : ℕ). onBoth (Refused r) t o)) (reading-same s (c .fields) t o (c .payload) n (c .is) (channel-long (c .fields .content) (c .payload) (c .valid)) (c .valid) m defaultLife))

@@ -1,7 +1,8 @@
--- What holds of reading.
+-- What holds of reading, with every map m, good or not; without one it is reading with the empty map.
 -- Assumes nothing.
 use Prim.Native.Nat.{ℕ, _+_, _<_, _≤_}
-use mathlib.Core.List.{List}
+use mathlib.Core.Bool.{true}
+use mathlib.Core.List.{List, []}
 use mathlib.Core.Path.{_≡_}
 use lib.ListN.{length}
 use Rattle.numbers.specs.Result.{got}
@@ -14,29 +15,31 @@ use Rattle.flush.specs.Padding.{padded}
 use Rattle.flush.specs.Claims.{learnedThenFree, SlotFacts}
 use Rattle.flush.specs.declared.FlushAnswer.the-variants as flush
 use Rattle.frame.specs.Header.{ingressOf}
+use Rattle.frame.specs.Labels.{isTag}
 use Rattle.frame.specs.Fields.{Fields}
 use Rattle.frame.specs.Formats.{longestFrame, parsed}
 use Rattle.frame.specs.declared.Settings.{Settings}
+use Rattle.port_map.specs.Maps.{mapGood}
 use Rattle.receive.specs.Deciding.{channelPayload}
-use Rattle.receive.specs.Receive.{received}
+use Rattle.receive.specs.Receive.{portReceived, received}
 use Rattle.receive.specs.declared.ReadAnswer.the-variants.{Refused, Flushed}
 
 -- demand 1: "A refusal returns its number and changes nothing: every lent area keeps its bytes"
 abbrev pub ReadRefusal : Type 0
 ReadRefusal =
-    (s : Settings) (f t o : List ℕ) (n : ℕ) → received s f t o .answer ≡ Refused n → (received s f t o .table ≡ t) × (received s f t o .out ≡ o)
+    (s : Settings) (m f t o : List ℕ) (n : ℕ) → portReceived s m f t o .answer ≡ Refused n → (portReceived s m f t o .table ≡ t) × (portReceived s m f t o .out ≡ o)
 
 -- "A table without two equal (label, MAC) pairs among its learned and configured records stays so"
 abbrev pub ReadingKeepsUnique : Type 0
-ReadingKeepsUnique = (s : Settings) (f t o : List ℕ) → Unique t → Unique (received s f t o .table)
+ReadingKeepsUnique = (s : Settings) (m f t o : List ℕ) → Unique t → Unique (portReceived s m f t o .table)
 
 -- "No answer tells which format arrived": reading sees of a frame only what is parsed of it
 abbrev pub ReadsParsed : Type 0
-ReadsParsed = (s : Settings) (f g t o : List ℕ) → parsed s f ≡ parsed s g → received s f t o ≡ received s g t o
+ReadsParsed = (s : Settings) (m f g t o : List ℕ) → parsed s f ≡ parsed s g → portReceived s m f t o ≡ portReceived s m g t o
 
 -- "Spoilt records .. are never changed", and configured ones keep their bytes
 abbrev pub ReadingLeavesAlone : Type 0
-ReadingLeavesAlone = (s : Settings) (f t o : List ℕ) → LeavesAlone t (received s f t o .table)
+ReadingLeavesAlone = (s : Settings) (m f t o : List ℕ) → LeavesAlone t (portReceived s m f t o .table)
 
 -- a reading that answers a count: the frame's ingress nickname and payload, the table u afterwards and the count n are those of the
 -- flush call; so it clears exactly the learned records in the three sets, slot by slot, and counts the slots learned before and free
@@ -53,10 +56,15 @@ pub record FlushRead (s : Settings) (f t u : List ℕ) (n : ℕ) : Type 0 where
 
 abbrev pub ReadFlushExact : Type 0
 ReadFlushExact =
-    (s : Settings) (f t o : List ℕ) (n : ℕ) → received s f t o .answer ≡ Flushed n → FlushRead s f t (received s f t o .table) n × (received s f t o .out ≡ o)
+    (s : Settings) (m f t o : List ℕ) (n : ℕ) → portReceived s m f t o .answer ≡ Flushed n → FlushRead s f t (portReceived s m f t o .table) n × (portReceived s m f t o .out ≡ o)
 
 -- 2026-02: a frame that carries out a flush, padded by n zero bytes to a length that a frame may have, answers and leaves what the frame
 -- without padding does, in either format
 abbrev pub PaddedRead : Type 0
 PaddedRead =
-    (s : Settings) (f t o : List ℕ) (k n : ℕ) → received s f t o .answer ≡ Flushed k → length f + n ≤ longestFrame → received s (padded n f) t o ≡ received s f t o
+    (s : Settings) (m f t o : List ℕ) (k n : ℕ) → portReceived s m f t o .answer ≡ Flushed k → length f + n ≤ longestFrame → portReceived s m (padded n f) t o ≡ portReceived s m f t o
+
+-- 2026-01: "Without a map (an empty one is none), or with a VLAN label, delivery stays as it is"; so is all else
+pub record NoMapNoChange : Type 0 where
+  pub empty : (s : Settings) (f t o : List ℕ) → portReceived s [] f t o ≡ received s f t o
+  pub vlan : (s : Settings) (m f t o : List ℕ) (p : Fields) → mapGood m ≡ true → parsed s f ≡ got p → isTag (p .label) ≡ true → portReceived s m f t o ≡ received s f t o

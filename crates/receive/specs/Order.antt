@@ -21,11 +21,13 @@ use Rattle.frame.specs.Settings.{settingsGood, compactOn, defaultLife}
 use Rattle.frame.specs.Front.{trillGroup, addressBytes, addressesBytes, addressIn, Front, unicast, multicast, refusedFront, inner, frontOf}
 use Rattle.frame.specs.Header.{versionOf, multicastOf, hopCount, ingressOf, fixedBytes, headerBytes, agrees}
 use Rattle.frame.specs.Labels.{ethertypeBytes, tagBytes, fineBytes, isTrill, isTag, isFine, isChannel, low12}
-use Rattle.frame.specs.Fields.{Fields, leastContent, nativeBytes}
+use Rattle.frame.specs.Fields.{Fields, leastContent}
 use Rattle.frame.specs.Formats.{taggedAddresses, untaggedOuter, taggedOuter, frameLengthGood}
 use Rattle.frame.specs.declared.Settings.{Settings}
+use Rattle.port_map.specs.Maps.{map-bad, no-pair, mapGood}
 use Rattle.receive.specs.Deciding.{nicknamesGood, isOnward, channelBytes, channelProtocol, channelPayload, flushProtocol, channelGood}
-use Rattle.receive.specs.Receive.{learnedEntry, deliveredWith, flushedWith, received}
+use Rattle.receive.specs.Delivering.{nativeOut}
+use Rattle.receive.specs.Receive.{learnedEntry, deliveredWith, flushedWith, portReceived}
 use Rattle.receive.specs.declared.ReadAnswer.{ReadAnswer}
 use Rattle.receive.specs.declared.ReadAnswer.the-variants.{Refused, Onward, OtherChannel}
 
@@ -175,7 +177,11 @@ abbrev pub isGot : {A : Type 0} → Result A → Bool
 isGot (refused n) = not true
 isGot (got a) = true
 
-module _ (s : Settings) (p : Fields) (t o : List ℕ) where
+-- the bytes of a native frame that has some
+abbrev pub nativeWritten : List ℕ → Fields → List ℕ
+nativeWritten m p = settled (λ n. []) (nativeOut m p)
+
+module _ (m : List ℕ) (s : Settings) (p : Fields) (t o : List ℕ) where
   abbrev pub decisionRows : List (Row Outcome)
   decisionRows =
       when (eqb (hopCount (p .header)) 0) (refused hops-spent)
@@ -200,11 +206,12 @@ module _ (s : Settings) (p : Fields) (t o : List ℕ) where
   abbrev pub nativeRows : List (Row Outcome)
   nativeRows =
       when (trillGroup (num (p .dst))) (refused not-channel)
-      ∷ unless (leb (length (nativeBytes p)) (length o)) (refused area-short)
+      ∷ unless (isGot (nativeOut m p)) (refused no-pair)
+      ∷ unless (leb (length (nativeWritten m p)) (length o)) (refused area-short)
       ∷ []
 
   abbrev pub delivers : Outcome
-  delivers = got (deliveredWith p o (learnt (learnedEntry defaultLife s p) t))
+  delivers = got (deliveredWith p (nativeWritten m p) o (learnt (learnedEntry defaultLife s p) t))
 
   abbrev pub actedOn : Outcome
   actedOn =
@@ -214,15 +221,16 @@ module _ (s : Settings) (p : Fields) (t o : List ℕ) where
 -- ---- the whole
 
 -- "Order: 1, 2, 3, 5; then the fields from left to right .. Then, on the fields read and alike for both formats: 8, 9, 11; onward; 13;
--- 6 where the four bytes after 8946 are cut; 14, 15, 16."
-abbrev pub readInOrder : Settings → List ℕ → List ℕ → List ℕ → Outcome
-readInOrder s f t o =
+-- 6 where the four bytes after 8946 are cut; 14, 15, 16." With 2026-01: 21 "after 2", 22 "before 16".
+abbrev pub readInOrder : Settings → List ℕ → List ℕ → List ℕ → List ℕ → Outcome
+readInOrder s m f t o =
     firstOf
     (unless (settingsGood s) (refused settings-bad)
     ∷ unless (tableGood t) (refused table-length-bad)
+    ∷ unless (mapGood m) (refused map-bad)
     ∷ unless (frameLengthGood (length f)) (refused frame-length-bad)
     ∷ frontRows (compactOn s) (frontOf s (addressIn f)) f)
-    (actedOn s (frontParts (frontOf s (addressIn f)) f) t o)
+    (actedOn m s (frontParts (frontOf s (addressIn f)) f) t o)
 
 abbrev pub ReadsExactly : Type 0
-ReadsExactly = (s : Settings) (f t o : List ℕ) → received s f t o ≡ settled (λ n. onBoth (Refused n) t o) (readInOrder s f t o)
+ReadsExactly = (s : Settings) (m f t o : List ℕ) → portReceived s m f t o ≡ settled (λ n. onBoth (Refused n) t o) (readInOrder s m f t o)

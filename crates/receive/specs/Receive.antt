@@ -1,9 +1,9 @@
--- Reading a frame (document 01, "Numbers a caller can get" and "Address Flush"): one function from the settings, the frame, the
--- table and the output area to the answer and both areas afterwards.
+-- Reading a frame (document 01, "Numbers a caller can get" and "Address Flush"; 2026-01): one function from the settings, the port's
+-- map, the frame, the table and the output area to the answer and both areas afterwards.
 -- Assumes nothing.
 use Prim.Native.Nat.{ℕ}
 use mathlib.Core.Bool.{not}
-use mathlib.Core.List.{List}
+use mathlib.Core.List.{List, []}
 use lib.Dec.{leb, eqb}
 use lib.ListN.{length}
 use Rattle.numbers.specs.Tests.{pick}
@@ -22,10 +22,12 @@ use Rattle.frame.specs.Settings.{settingsGood, lifeOf, defaultLife}
 use Rattle.frame.specs.Front.{trillGroup}
 use Rattle.frame.specs.Header.{field, hopCount, ingressOf}
 use Rattle.frame.specs.Labels.{isChannel, labelRead}
-use Rattle.frame.specs.Fields.{Fields, nativeBytes}
+use Rattle.frame.specs.Fields.{Fields}
 use Rattle.frame.specs.Formats.{parsed}
 use Rattle.frame.specs.declared.Settings.{Settings}
+use Rattle.port_map.specs.Maps.{map-bad, mapGood}
 use Rattle.receive.specs.Deciding.{nicknamesGood, isOnward, channelBytes, channelProtocol, channelPayload, flushProtocol, channelGood}
+use Rattle.receive.specs.Delivering.{nativeOut}
 use Rattle.receive.specs.declared.ReadAnswer.{ReadAnswer}
 use Rattle.receive.specs.declared.ReadAnswer.the-variants.{Refused, Onward, Delivered, OtherChannel, Flushed}
 
@@ -39,16 +41,18 @@ learnedEntry life s p = record {
   seconds = lifeOf life s;
 }
 
--- "the answer gives its length, its label, and learned, refreshed, kept or full"
-abbrev pub deliveredWith : Fields → List ℕ → OnTable Learning → OnBoth ReadAnswer
-deliveredWith p o c = onBoth (Delivered (c .answer) (length (nativeBytes p)) (labelRead (p .label))) (c .table) (laid (nativeBytes p) o)
+-- "the answer gives its length, its label, and learned, refreshed, kept or full": the length of the bytes b that are written, and the
+-- label as the campus numbers it
+abbrev pub deliveredWith : Fields → List ℕ → List ℕ → OnTable Learning → OnBoth ReadAnswer
+deliveredWith p b o c = onBoth (Delivered (c .answer) (length b) (labelRead (p .label))) (c .table) (laid b o)
 
--- the native frame is delivered and its source learned: 13, 16
-unfoldable pub delivery : ℕ → Settings → Fields → List ℕ → List ℕ → Result (OnBoth ReadAnswer)
-delivery life s p t o =
+-- the native frame is delivered and its source learned: 13, 22 where no VLAN is found for it, 16
+unfoldable pub delivery : Result (List ℕ) → ℕ → Settings → Fields → List ℕ → List ℕ → Result (OnBoth ReadAnswer)
+delivery native life s p t o =
     check (not (trillGroup (num (p .dst)))) not-channel
-    (check (leb (length (nativeBytes p)) (length o)) area-short
-    (got (deliveredWith p o (learnt (learnedEntry life s p) t))))
+    (andThen native λ b.
+    check (leb (length b) (length o)) area-short
+    (got (deliveredWith p b o (learnt (learnedEntry life s p) t))))
 
 abbrev pub flushedWith : List ℕ → OnTable ℕ → OnBoth ReadAnswer
 flushedWith o c = onBoth (Flushed (c .answer)) (c .table) o
@@ -63,8 +67,8 @@ channel s p t o =
     (got (onBoth OtherChannel t o))))
 
 -- on the fields read: 8, 9, 11; onward; the rest
-unfoldable pub acted : ℕ → Settings → Fields → List ℕ → List ℕ → Result (OnBoth ReadAnswer)
-acted life s p t o =
+unfoldable pub acted : List ℕ → ℕ → Settings → Fields → List ℕ → List ℕ → Result (OnBoth ReadAnswer)
+acted m life s p t o =
     check (not (eqb (hopCount (p .header)) 0)) hops-spent
     (check (nicknamesGood s (p .header)) nickname-bad
     (check (individual (num (p .src))) source-group
@@ -72,19 +76,25 @@ acted life s p t o =
     (got (onBoth Onward t o))
     (pick (isChannel (p .content))
     (channel s p t o)
-    (delivery life s p t o)))))
+    (delivery (nativeOut m p) life s p t o)))))
 
--- "Order: 1, 2, 3, 5; then the fields from left to right": what is parsed is all that is known of the frame
-unfoldable pub reading : ℕ → Settings → Result Fields → List ℕ → List ℕ → Result (OnBoth ReadAnswer)
-reading life s fields t o =
+-- "Order: 1, 2, 3, 5; then the fields from left to right", and 21 "after 2": what is parsed is all that is known of the frame
+unfoldable pub reading : List ℕ → ℕ → Settings → Result Fields → List ℕ → List ℕ → Result (OnBoth ReadAnswer)
+reading m life s fields t o =
     check (settingsGood s) settings-bad
     (check (tableGood t) table-length-bad
+    (check (mapGood m) map-bad
     (andThen fields λ p.
-    acted life s p t o))
+    acted m life s p t o)))
 
--- the reading call, `life` being the default of the learning seconds. "A refusal returns the number only and changes nothing"
-unfoldable pub receivedWith : ℕ → Settings → List ℕ → List ℕ → List ℕ → OnBoth ReadAnswer
-receivedWith life s f t o = settled (λ n. onBoth (Refused n) t o) (reading life s (parsed s f) t o)
+-- the reading call with a port's map, `life` being the default of the learning seconds. "A refusal returns the number only and changes
+-- nothing"
+unfoldable pub receivedWith : ℕ → Settings → List ℕ → List ℕ → List ℕ → List ℕ → OnBoth ReadAnswer
+receivedWith life s m f t o = settled (λ n. onBoth (Refused n) t o) (reading m life s (parsed s f) t o)
 
+unfoldable pub portReceived : Settings → List ℕ → List ℕ → List ℕ → List ℕ → OnBoth ReadAnswer
+portReceived s m f t o = receivedWith defaultLife s m f t o
+
+-- without a map: "an empty one is none"
 unfoldable pub received : Settings → List ℕ → List ℕ → List ℕ → OnBoth ReadAnswer
-received s f t o = receivedWith defaultLife s f t o
+received s f t o = portReceived s [] f t o

@@ -8,19 +8,21 @@ ghost use Rattle.table.specs.Table.{lookedUp, aged, lowestSpoilt};
 ghost use Rattle.table.specs.Words.{lookupWord, ageWord, spoiltWord, learningNumber};
 ghost use Rattle.flush.specs.Flush.{flushed};
 ghost use Rattle.flush.specs.Words.{flushWord};
-ghost use Rattle.receive.specs.Receive.{received};
+ghost use Rattle.receive.specs.Receive.{portReceived, received};
 ghost use Rattle.receive.specs.Words.{readWord, LabelFits};
 ghost use Rattle.receive.specs.declared.ReadAnswer.the-variants.{Delivered};
 ghost use Rattle.convert.specs.Compaction.{compacted};
 ghost use Rattle.convert.specs.Expansion.{expanded};
 ghost use Rattle.convert.specs.Sending.{sent};
+ghost use Rattle.ingress.specs.Ingress.{ingressed};
 ghost use Rattle.convert.specs.Words.{convertWord, sendWord};
-ghost use Rattle.shinglebar.specs.Arguments.{settingsOf, outerOf};
+ghost use Rattle.shinglebar.specs.Arguments.{portSettingsOf, settingsOf, outerOf, givenOf};
 use convert::ConvertAnswer;
 use convert::SendAnswer;
 use convert_expand::Outer;
 use flush::FlushAnswer;
 use frame::Settings;
+use ingress::Given;
 use receive::ReadAnswer;
 use table::AgeAnswer;
 use table::Label;
@@ -94,7 +96,36 @@ pub extern "C" fn shinglebar_flush(ingress: u32, payload: &[u8], table: &mut [u8
     flush_word(flush_call::flush(ingress, payload, table))
 }
 
-// The settings of a port, from the six numbers of every call that has them.
+// The settings of a port, from the eight numbers.
+pub fn port_settings(
+    port: u64,
+    inner: u64,
+    nickname: u32,
+    compact: u32,
+    confidence: u32,
+    seconds: u32,
+    multihomed: u32,
+    smart: u32,
+) -> Settings
+    ensures { λ r. ⌜ r ≡ portSettingsOf port inner nickname compact confidence seconds multihomed smart ⌝ }
+{
+    Settings {
+        port: port,
+        inner: inner,
+        nickname: nickname,
+        compact: compact,
+        confidence: confidence,
+        seconds: seconds,
+        multihomed: multihomed,
+        smart: smart,
+    }
+}
+
+// The same from the six numbers of document 01: no multihoming bit, and Smart Endnodes off.
+const NO_MULTIHOMING: u32 = 0;
+
+const SMART_OFF: u32 = 0;
+
 pub fn settings(
     port: u64,
     inner: u64,
@@ -105,14 +136,16 @@ pub fn settings(
 ) -> Settings
     ensures { λ r. ⌜ r ≡ settingsOf port inner nickname compact confidence seconds ⌝ }
 {
-    Settings {
-        port: port,
-        inner: inner,
-        nickname: nickname,
-        compact: compact,
-        confidence: confidence,
-        seconds: seconds,
-    }
+    port_settings(
+        port,
+        inner,
+        nickname,
+        compact,
+        confidence,
+        seconds,
+        NO_MULTIHOMING,
+        SMART_OFF,
+    )
 }
 
 fn learning_number(l: Learning) -> u64
@@ -171,6 +204,37 @@ pub extern "C" fn shinglebar_receive(
     read_word(receive_call::receive(s, frame, table, out))
 }
 
+// Reading with all settings and with a port's map.
+#[no_mangle]
+pub extern "C" fn shinglebar_receive_port(
+    port: u64,
+    inner: u64,
+    nickname: u32,
+    compact: u32,
+    confidence: u32,
+    seconds: u32,
+    multihomed: u32,
+    smart: u32,
+    map: &[u8],
+    frame: &[u8],
+    table: &mut [u8],
+    out: &mut [u8],
+) -> u64
+    ensures { λ r. ⌜ onBoth r (now (table .exit)) (now (out .exit)) ≡ bothAs readWord (portReceived (portSettingsOf port inner nickname compact confidence seconds multihomed smart) (now (map .entry)) (now (frame .entry)) (now (table .entry)) (now (out .entry))) ⌝ }
+{
+    let s = port_settings(
+        port,
+        inner,
+        nickname,
+        compact,
+        confidence,
+        seconds,
+        multihomed,
+        smart,
+    );
+    read_word(receive_call::receive_port(s, map, frame, table, out))
+}
+
 fn convert_word(a: ConvertAnswer) -> u64
     ensures { λ r. ⌜ r ≡ convertWord a ⌝ }
 {
@@ -220,6 +284,39 @@ pub extern "C" fn shinglebar_expand(
         tag: tag,
     };
     convert_word(convert_expand::expand(s, u, frame, out))
+}
+
+// A native frame through a port's map.
+#[no_mangle]
+pub extern "C" fn shinglebar_ingress(
+    port: u64,
+    inner: u64,
+    nickname: u32,
+    compact: u32,
+    confidence: u32,
+    seconds: u32,
+    map: &[u8],
+    destination: u64,
+    source: u64,
+    m: u32,
+    hops: u32,
+    egress: u32,
+    ingress: u32,
+    frame: &[u8],
+    out: &mut [u8],
+) -> u64
+    ensures { λ r. ⌜ onArea r (now (out .exit)) ≡ areaAs convertWord (ingressed (settingsOf port inner nickname compact confidence seconds) (now (map .entry)) (givenOf destination source m hops egress ingress) (now (frame .entry)) (now (out .entry))) ⌝ }
+{
+    let s = settings(port, inner, nickname, compact, confidence, seconds);
+    let u = Given {
+        destination: destination,
+        source: source,
+        multicast: m,
+        hops: hops,
+        egress: egress,
+        ingress: ingress,
+    };
+    convert_word(ingress_call::ingress(s, map, u, frame, out))
 }
 
 pub fn send_word(a: SendAnswer) -> u64

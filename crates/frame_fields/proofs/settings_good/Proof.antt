@@ -11,4 +11,4 @@ unfolding settingsGood both
 returns c = cc
 
 pub settings-good-spec : {M : Type 1} → statement M
-settings-good-spec = tie.close (tie.spec (λ c κs. search needs) (λ c κs. search needs) returns)
+settings-good-spec = tie.close (tie.spec (λ c κs. search needs) (λ c κs. search needs) (λ c κs. search needs) returns)

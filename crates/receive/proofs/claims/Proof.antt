@@ -3,11 +3,12 @@
 use Rattle.receive.proofs.Outcomes.{read-refusal, reading-unique, reads-parsed, reading-leaves-alone, read-flush-exact}
 use Rattle.receive.proofs.Padded.{padded-read}
 use Rattle.receive.proofs.Order.{reads-exactly}
+use Rattle.receive.proofs.NoMap.{no-map-no-change}
 use Rattle.receive.proofs.claims.Statement.{statement}
 use Rattle.receive.proofs.claims.Tie as tie
 
 returns : tie.Need-returns
-returns c = (read-refusal, reading-unique, reads-parsed, reading-leaves-alone, read-flush-exact, padded-read, reads-exactly)
+returns c = (read-refusal, reading-unique, reads-parsed, reading-leaves-alone, read-flush-exact, padded-read, reads-exactly, no-map-no-change)
 
 pub claims-spec : {M : Type 1} → statement M
 claims-spec = tie.close (tie.spec returns)

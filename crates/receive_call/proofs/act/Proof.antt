@@ -7,24 +7,24 @@ use Rattle.receive_call.proofs.act.Statement.{statement}
 use Rattle.receive_call.proofs.act.Tie as tie
 
 returns : tie.Need-returns
-returns c = let a = c .before .before .before .before .before .before .before .before .before .args in
+returns c = let a = c .before .before .before .before .before .before .before .before .before .before .args in
     let p = fieldsIn (a .f .now) (a .p) in
-    act-refused (a .s) p (a .table .now) (a .out .now) _ (c .before .before .before .decide .ensures p (c .before .before .before .before .before .read-values .ensures) (c .before .before .before .before .has-ethertype .ensures)) _ (c .before .n .given .1)
+    act-refused (a .map .now) (a .s) p (a .table .now) (a .out .now) _ (c .before .before .before .decide .ensures p (c .before .before .before .before .before .read-values .ensures) (c .before .before .before .before .has-ethertype .ensures)) _ (c .before .n .given .1)
 
 returns-2 : tie.Need-returns-2
-returns-2 c = let a = c .before .before .before .before .before .before .before .before .args in
+returns-2 c = let a = c .before .before .before .before .before .before .before .before .before .args in
     let p = fieldsIn (a .f .now) (a .p) in
-    act-onward (a .s) p (a .table .now) (a .out .now) _ (c .before .before .decide .ensures p (c .before .before .before .before .read-values .ensures) (c .before .before .before .has-ethertype .ensures)) (c .enum-told .given .1)
+    act-onward (a .map .now) (a .s) p (a .table .now) (a .out .now) _ (c .before .before .decide .ensures p (c .before .before .before .before .read-values .ensures) (c .before .before .before .has-ethertype .ensures)) (c .enum-told .given .1)
 
 returns-3 : tie.Need-returns-3
-returns-3 c = let a = c .before .before .before .before .before .before .before .before .before .before .before .before .args in
+returns-3 c = let a = c .before .before .before .before .before .before .before .before .before .before .before .before .before .args in
     let p = fieldsIn (a .f .now) (a .p) in
-    act-channel (a .s) p (a .table .now) (a .out .now) _ (c .before .before .before .before .before .before .decide .ensures p (c .before .before .before .before .before .before .before .before .read-values .ensures) (c .before .before .before .before .before .before .before .has-ethertype .ensures)) (c .before .before .before .before .enum-told2 .given .1) _ (c .before .before .handle .ensures (c .before .before .before .before .before .before .before .before .before .before .before .before .args .out .now))
+    act-channel (a .map .now) (a .s) p (a .table .now) (a .out .now) _ (c .before .before .before .before .before .before .decide .ensures p (c .before .before .before .before .before .before .before .before .read-values .ensures) (c .before .before .before .before .before .before .before .has-ethertype .ensures)) (c .before .before .before .before .enum-told2 .given .1) _ (c .before .before .handle .ensures (a .out .now))
 
 returns-4 : tie.Need-returns-4
-returns-4 c = let a = c .before .before .before .before .before .before .before .before .before .before .before .before .before .before .before .args in
+returns-4 c = let a = c .before .before .before .before .before .before .before .before .before .before .before .before .before .before .before .before .before .args in
     let p = fieldsIn (a .f .now) (a .p) in
-    act-native (a .s) p (a .table .now) (a .out .now) _ (c .before .before .before .before .before .before .before .before .before .decide .ensures p (c .before .before .before .before .before .before .before .before .before .before .before .read-values .ensures) (c .before .before .before .before .before .before .before .before .before .before .has-ethertype .ensures)) (c .before .before .before .before .before .before .before .enum-told3 .given .1) _ (c .before .before .before .before .deliver .ensures)
+    act-native (a .map .now) (a .s) p (a .table .now) (a .out .now) _ (c .before .before .before .before .before .before .before .before .before .before .decide .ensures p (c .before .before .before .before .before .before .before .before .before .before .before .before .read-values .ensures) (c .before .before .before .before .before .before .before .before .before .before .before .has-ethertype .ensures)) (c .before .before .before .before .before .before .before .before .enum-told3 .given .1) (c .before .before .before .before .before .before .before .tag-of .result) (c .before .before .before .before .before .before .before .tag-of .ensures) _ (c .before .before .before .before .deliver .ensures)
 
 pub act-spec : {M : Type 1} → statement M
 act-spec =
@@ -38,6 +38,7 @@ act-spec =
     (λ c. search needs)
     (λ c κs. search needs)
     (λ c. search needs)
+    (λ c κs. search needs)
     (λ c κs. search needs)
     returns
     returns-2

@@ -12,8 +12,9 @@ use Rattle.shinglebar.proofs.shinglebar_receive.Statement.{statement}
 use Rattle.shinglebar.proofs.shinglebar_receive.Tie as tie
 
 read-word-requires : tie.Need-read-word-requires
+unfolding received
 read-word-requires c κs =
-    subst LabelFits (sym (ap (λ (x : OnBoth ReadAnswer). x .answer) (c .before .before .before .before .receive .ensures))) (read-fits _ _ _ _)
+    subst LabelFits (sym (ap (λ (x : OnBoth ReadAnswer). x .answer) (c .before .before .before .before .receive .ensures))) (read-fits _ _ _ _ _)
 
 returns : tie.Need-returns
 returns c =

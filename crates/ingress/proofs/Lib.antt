@@ -1,0 +1,6 @@
+-- Laws of ingress, for this crate and those above it.
+pub mod Worked
+pub mod Back
+pub mod Accepted
+pub mod Far
+pub mod Trip

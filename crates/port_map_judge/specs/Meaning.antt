@@ -1,0 +1,26 @@
+-- The VLANs and the labels of a map, and the bits of VLANs that were seen.
+-- Assumes nothing.
+use Prim.Native.Nat.{ℕ, _+_}
+use mathlib.Core.Bool.{Bool, true, not}
+use mathlib.Core.List.{List, map}
+use mathlib.Core.Path.{_≡_}
+use Rattle.numbers.specs.Tests.{both}
+use Rattle.numbers.specs.Numberings.{bitAt}
+use Rattle.numbers.specs.Ranges.{vlanGood}
+use Rattle.flush_bits.specs.Ranged.{Ranged}
+use Rattle.port_map.specs.Maps.{pairsIn, vlanOf, labelOf}
+
+abbrev pub vlansIn : List ℕ → List ℕ
+vlansIn m = map vlanOf (pairsIn m)
+
+abbrev pub labelsIn : List ℕ → List ℕ
+labelsIn m = map labelOf (pairsIn m)
+
+-- a bit for each number that a VLAN may have
+abbrev pub seenBytes : ℕ
+seenBytes = 512
+
+-- whether v is a good VLAN that is not among the bits s; then they have become t, with it
+pub record Noted (v : ℕ) (s t : List ℕ) (r : Bool) : Type 0 where
+  pub says : r ≡ both (vlanGood v) (not (bitAt v s))
+  pub added : r ≡ true → Ranged s t v (v + 1)

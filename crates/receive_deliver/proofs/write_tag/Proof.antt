@@ -1,0 +1,42 @@
+-- `receive_deliver::write_tag` meets its contract: nothing, or 8100 and the number after it.
+-- Assumes nothing.
+use native.Mathlib.Omega.{arith}
+use Rattle.receive_deliver.proofs.Laws.{tag-untagged, tag-missing, tag-room, tag-written}
+use borrow.Author.Needs.{needs}
+use Rattle.receive_deliver.proofs.write_tag.Statement.{statement}
+use Rattle.receive_deliver.proofs.write_tag.Tie as tie
+
+put-number-requires : tie.Need-put-number-requires
+put-number-requires c κs =
+    let told = c .before .before in
+    let start = told .before .before .before in
+    omega (arith, tag-room (start .args .tag) _ (start .args .out .now) (told .tag .given .1) (start .pre))
+
+put-number-requires-2 : tie.Need-put-number-requires-2
+put-number-requires-2 c κs =
+    let told = c .before .before .before .before .before .before in
+    let start = told .before .before .before in
+    omega (arith, tag-room (start .args .tag) _ (start .args .out .now) (told .tag .given .1) (start .pre))
+
+returns : tie.Need-returns
+returns c = search tag-untagged
+
+returns-2 : tie.Need-returns-2
+returns-2 c = search tag-written
+
+returns-3 : tie.Need-returns-3
+returns-3 c = search tag-missing
+
+pub write-tag-spec : {M : Type 1} → statement M
+write-tag-spec =
+    tie.close
+    (tie.spec
+    (λ c. search needs)
+    (λ c. search needs)
+    put-number-requires
+    put-number-requires-2
+    (λ c. search needs)
+    returns
+    (λ c. search needs)
+    returns-2
+    returns-3)
