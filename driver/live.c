@@ -114,6 +114,9 @@ static int take_frames(struct live *live)
     case INTERFACE_READ:
         break;
     }
+    /* No frame waits: an open flush comes to its end. */
+    if (live->interface.count == 0)
+        receiver_finish(&live->receiver);
     for (unsigned i = 0; i < live->interface.count; i++)
         if (receiver_take(&live->receiver, live->interface.frames[i]) != 0
             || watch_frame(live, live->interface.frames[i]) != 0)

@@ -23,10 +23,9 @@
  * Threads. The archive has no state of its own, takes no lock and never waits: any number of threads
  * may call it at once.
  *
- * - An area that a call writes (output, working area, and the table of receive, flush, flush_portion and
- *   age) may not be used by another thread until the call has returned. A table that threads share needs
- *   a lock of theirs: shared for lookup, spoilt, free slot and widen, exclusive for receive, flush,
- *   flush_portion and age.
+ * - An area that a call writes (output, working area, and the table of receive, age and every flush) may
+ *   not be used by another thread until the call has returned. A table that threads share needs a lock
+ *   of theirs: shared for lookup, spoilt, free slot and widen, exclusive for receive, age and every flush.
  * - A thread needs SHINGLEBAR_STACK_MAX bytes of stack for a call, beside its own. There is no heap.
  *
  * Bridge messages. A frame with 01-80-C2-00-00-00 to 0F or 21 in front answers 5 in receive, with Compact

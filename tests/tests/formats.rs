@@ -96,6 +96,19 @@ fn the_order_of_refusals_has_every_number_and_a_definition_in_each_row() {
     let ingress = ingress_numbers(&document);
     assert_eq!(ingress, [1, 21, 3, 10, 6, 10, 6, 11, 8, 9, 12, 22, 16]);
     numbers.extend(ingress);
+    let later = "## The order in the calls of document 02";
+    let (_, section) = document.split_once(later).expect("the section");
+    let rows = section.lines().filter(|line| line.starts_with("| "));
+    for row in rows.skip(1) {
+        let cells: Vec<&str> = row.trim_matches('|').split('|').map(str::trim).collect();
+        let [_, refusals, definition] = cells[..] else {
+            panic!("{cells:?}")
+        };
+        assert!(!cited(definition).is_empty(), "{cells:?}");
+        for number in refusals.split(", ") {
+            numbers.insert(number.parse::<u8>().expect("a number"));
+        }
+    }
     let all: BTreeSet<u8> = Refusal::ALL.iter().map(|r| r.number()).collect();
     assert_eq!(numbers, all);
 }

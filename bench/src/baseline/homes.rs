@@ -61,11 +61,20 @@ impl Homes {
 /// Clears the records of a pair behind a slot, which is its lowest; none is configured.
 #[cold]
 fn clear_others(slots: &mut [Slot], key: &Key, lowest: usize) {
-    for slot in &mut slots[lowest + 1..] {
-        if key.may_be_in(slot) && key.is_in(slot) {
-            *slot = [0; RECORD];
+    let clear = |part: &mut [Slot]| {
+        for slot in part {
+            if key.may_be_in(slot) && key.is_in(slot) {
+                *slot = [0; RECORD];
+            }
+        }
+    };
+    let (rounds, rest) = slots[lowest + 1..].as_chunks_mut::<ROUND>();
+    for round in rounds {
+        if round.iter().any(|slot| key.may_be_in(slot)) {
+            clear(round);
         }
     }
+    clear(rest);
 }
 
 /// Learns a label and an address from a frame that is marked or not. The arguments are such as a good record can hold.

@@ -1,6 +1,7 @@
 -- What is not promised: a message that the full model refuses as corrupt and the small one carries out.
 -- Assumes nothing.
 use Prim.Native.Nat.{ℕ}
+use mathlib.Core.Bool.{false}
 use mathlib.Core.List.{List, [], _∷_}
 use mathlib.Core.Path.{_≡_}
 use Rattle.numbers.specs.Refusals.{payload-corrupt}
@@ -14,7 +15,7 @@ use Rattle.models.specs.Models.{flushedVlanOnly}
 
 -- a learned record of the sender
 abbrev pub known : List ℕ
-known = packed learnedState (record { label = Vlan 10; mac = 0x0200_0000_0001; nickname = 0x1234; confidence = 20; seconds = 300 })
+known = packed learnedState (record { label = Vlan 10; mac = 0x0200_0000_0001; nickname = 0x1234; confidence = 20; seconds = 300; multihomed = false })
 
 -- all labels, and a MAC list of one byte
 abbrev pub broken : List ℕ

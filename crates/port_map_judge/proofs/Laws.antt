@@ -25,7 +25,7 @@ use Rattle.port_map.proofs.Steps.{pairs-end, pairs-more, pairs-done, pairs-at}
 use Rattle.port_map_search.specs.Meaning.{pairAt, vlanAs}
 use Rattle.port_map_search.specs.declared.VlanFound.{VlanFound}
 use Rattle.port_map_search.specs.declared.VlanFound.the-variants as found
-use Rattle.port_map_judge.specs.Meaning.{vlansIn, labelsIn, seenBytes, Noted}
+use Rattle.port_map_judge.specs.Meaning.{vlansIn, labelsIn, seenBytes, Noted, metBytes, Met, LabelNoted}
 
 both-false : (a b : Bool) → b ≡ false → both a b ≡ false
 unfolding both
@@ -242,6 +242,116 @@ module _ (m : List ℕ) (at : ℕ) (inv : goodOnce fineGood (labelsIn m) ≡ goo
       pub label-once : a ≡ false → goodOnce fineGood (labelsIn m) ≡ goodOnce fineGood (labelsIn (drop (at + pairBytes) m))
       unfolding both
       label-once h = rw (le-leb (x .0) lastFine (omega arith), ← again, h) at labels-here
+
+-- ---- labels of long maps
+
+not-any : (a b : Bool) → (a ≡ true → b ≡ true) → b ≡ false → false ≡ a
+not-any true b f h = never (sym h ∙ f refl)
+not-any false b f h = refl
+
+module _ (l : CampusLabel) (m : List ℕ) (from : ℕ) (s : List ℕ) (met : Met (labelsIn (drop from m)) s) where
+  pub not-met : (b : Bool) → b ≡ bitAt (l .0 % 16384) s → not b ≡ true → false ≡ anyOf (eqb (l .0)) (labelsIn (drop from m))
+  not-met b e h = not-any _ _ (met (l .0)) (sym e ∙ not-true b h)
+
+pub met-room : (x : ℕ) (s : List ℕ) → length s ≡ metBytes → x % 16384 < 8 * length s
+met-room x s l = omega arith
+
+pub met-small : (x : ℕ) → x % 16384 < 2 ^ 16
+met-small x = omega arith
+
+module _ (q p : CampusLabel) (is : p ≡ q) (l s : List ℕ) where
+  pub mark-over : lastFine < p .0 → LabelNoted (q .0) l s s false
+  unfolding both
+  mark-over h = record { says = rw (← is, lt-leb (p .0) lastFine h); added = λ t. never t }
+
+  module _ (fits : p .0 ≤ lastFine) (b : Bool) (eb : b ≡ anyOf (eqb (p .0)) l) where
+    pub mark-again : b ≡ true → LabelNoted (q .0) l s s false
+    unfolding both
+    mark-again t = record { says = rw (← is, le-leb (p .0) lastFine fits, ← eb, t); added = λ t. never t }
+
+    pub mark-new : b ≡ false → (t : List ℕ) → Ranged s t (p .0 % 16384) (p .0 % 16384 + 1) → LabelNoted (q .0) l s t true
+    unfolding both
+    mark-new f t r = subst (λ (x : CampusLabel). LabelNoted (x .0) l s t true) is (record { says = rw (le-leb (p .0) lastFine fits, ← eb, f); added = λ z. r })
+
+pub record Marked (m : List ℕ) (left : ℕ) (s : List ℕ) : Type 0 where
+  pub whole : left % pairBytes ≡ 0
+  pub within : left ≤ length m
+  pub long : length s ≡ metBytes
+  pub once : goodOnce fineGood (labelsIn (drop left m)) ≡ true
+  pub met : Met (labelsIn (drop left m)) s
+
+pub marked-start : (m s : List ℕ) → length m % pairBytes ≡ 0 → length s ≡ metBytes → Marked m (length m) s
+unfolding anyOf
+marked-start m s w l = record {
+  whole = w;
+  within = omega arith;
+  long = l;
+  once = once-none fineGood labelOf m (length m) (omega arith);
+  met = λ x e. never (sym (ap (λ (ps : List Pair). anyOf (eqb x) (map labelOf ps)) (pairs-done m (length m) (omega arith))) ∙ e);
+}
+
+either-was : (a b c : Bool) → (a ≡ true → c ≡ true) → (b ≡ true → c ≡ true) → either a b ≡ true → c ≡ true
+unfolding either
+either-was true b c f g h = f refl
+either-was false b c f g h = g h
+
+either-first : (a b : Bool) → a ≡ true → either a b ≡ true
+unfolding either
+either-first a b h = rw h
+
+module _ (m : List ℕ) (left : ℕ) (s : List ℕ) (i : Marked m left s) (some : 0 < left) where
+  pub marked-room : pairBytes ≤ left
+  marked-room = let w = i .whole in omega arith
+
+  pub marked-in : left - pairBytes + pairBytes ≤ length m
+  marked-in = let w = i .whole in let k = i .within in omega arith
+
+  back : left - pairBytes + pairBytes ≡ left
+  back = let w = i .whole in omega arith
+
+  pub marked-met : Met (labelsIn (drop (left - pairBytes + pairBytes) m)) s
+  marked-met = rw back (i .met)
+
+  module _ (t : List ℕ) (r : Bool) (n : LabelNoted (pairAt m (left - pairBytes) .label .0) (labelsIn (drop (left - pairBytes + pairBytes) m)) s t r) where
+    abbrev x : ℕ
+    x = labelOf (pairAt m (left - pairBytes))
+
+    label-step : goodOnce fineGood (labelsIn (drop (left - pairBytes) m)) ≡ r
+    label-step =
+        once-at fineGood labelOf m (left - pairBytes) marked-in
+        ∙ rw (back, i .once) (no-more (fineGood x) (anyOf (eqb x) (labelsIn (drop left m))) ∙ sym (rw back at (n .says)))
+
+    pub marked-bad : not r ≡ true → false ≡ goodOnce fineGood (labelsIn m)
+    marked-bad h =
+        let w = i .whole in
+        let k = i .within in
+        sym (once-from fineGood labelOf m (left - pairBytes) (omega arith) (omega arith) (label-step ∙ not-true r h))
+
+    more-labels : (y : ℕ) → anyOf (eqb y) (labelsIn (drop (left - pairBytes) m)) ≡ either (eqb y x) (anyOf (eqb y) (labelsIn (drop left m)))
+    unfolding anyOf
+    more-labels y = rw (pairs-at m (left - pairBytes) marked-in, back)
+
+    pub marked-next : not r ≡ false → Marked m (left - pairBytes) t
+    marked-next h =
+        let w = i .whole in
+        let k = i .within in
+        let a = n .added (not-false r h) in
+        record {
+          whole = omega arith;
+          within = omega arith;
+          long = a .long ∙ i .long;
+          once = label-step ∙ not-false r h;
+          met = λ y e.
+              either-was (eqb y x) (anyOf (eqb y) (labelsIn (drop left m))) (bitAt (y % 16384) t)
+              (λ q. let z : y ≡ x = eqb-true y x q in rw z (a .inside (x % 16384) (omega arith) (omega arith)))
+              (λ q. range-tells s t _ _ a (y % 16384) ∙ either-first _ _ (i .met y q))
+              (sym (more-labels y) ∙ e);
+        }
+
+pub marked-done : (m : List ℕ) (s : List ℕ) (left : ℕ) → Marked m left s → left ≤ 0 → true ≡ goodOnce fineGood (labelsIn m)
+marked-done m s left i h =
+    let z : left ≡ 0 = omega arith in
+    sym (ap (λ (n : ℕ). goodOnce fineGood (labelsIn (drop n m))) (sym z) ∙ i .once)
 
 -- ---- the whole map
 

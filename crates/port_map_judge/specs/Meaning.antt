@@ -1,14 +1,15 @@
 -- The VLANs and the labels of a map, and the bits of VLANs that were seen.
 -- Assumes nothing.
-use Prim.Native.Nat.{ℕ, _+_}
+use Prim.Native.Nat.{ℕ, _+_, _%_}
 use mathlib.Core.Bool.{Bool, true, not}
 use mathlib.Core.List.{List, map}
+use lib.Dec.{eqb}
 use mathlib.Core.Path.{_≡_}
-use Rattle.numbers.specs.Tests.{both}
+use Rattle.numbers.specs.Tests.{both, anyOf}
 use Rattle.numbers.specs.Numberings.{bitAt}
 use Rattle.numbers.specs.Ranges.{vlanGood}
 use Rattle.flush_bits.specs.Ranged.{Ranged}
-use Rattle.port_map.specs.Maps.{pairsIn, vlanOf, labelOf}
+use Rattle.port_map.specs.Maps.{pairsIn, vlanOf, labelOf, fineGood}
 
 abbrev pub vlansIn : List ℕ → List ℕ
 vlansIn m = map vlanOf (pairsIn m)
@@ -24,3 +25,16 @@ seenBytes = 512
 pub record Noted (v : ℕ) (s t : List ℕ) (r : Bool) : Type 0 where
   pub says : r ≡ both (vlanGood v) (not (bitAt v s))
   pub added : r ≡ true → Ranged s t v (v + 1)
+
+-- a bit for each number of 14 bits
+abbrev pub metBytes : ℕ
+metBytes = 2048
+
+-- the bits of the low 14 bits of all numbers of the list are set
+abbrev pub Met : List ℕ → List ℕ → Type 0
+Met l s = (x : ℕ) → anyOf (eqb x) l ≡ true → bitAt (x % 16384) s ≡ true
+
+-- whether x is a good label that is not in the list; then the bits s have become t, with that of x
+pub record LabelNoted (x : ℕ) (l s t : List ℕ) (r : Bool) : Type 0 where
+  pub says : r ≡ both (fineGood x) (not (anyOf (eqb x) l))
+  pub added : r ≡ true → Ranged s t (x % 16384) (x % 16384 + 1)

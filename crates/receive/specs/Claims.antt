@@ -29,7 +29,7 @@ abbrev pub ReadRefusal : Type 0
 ReadRefusal =
     (s : Settings) (m f t o : List ℕ) (n : ℕ) → portReceived s m f t o .answer ≡ Refused n → (portReceived s m f t o .table ≡ t) × (portReceived s m f t o .out ≡ o)
 
--- a table whose homes are apart stays so, for every value of the settings
+-- a table whose homes are apart stays so, for every value of the settings and every map
 abbrev pub ReadingKeepsApart : Type 0
 ReadingKeepsApart = (s : Settings) (m f t o : List ℕ) → Apart t → Apart (portReceived s m f t o .table)
 
