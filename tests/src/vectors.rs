@@ -700,6 +700,48 @@ fn write_calls() -> Vec<Call> {
     ]
 }
 
+/// A station on two switches (2026-12), on three free slots: its first home and its second, each in Compact Format again, at a port whose
+/// bit is the other one, and then without a mark.
+fn homes_calls(room: usize) -> Vec<Call> {
+    let frame = |nickname, reserved, compact| generate::Frame {
+        compact,
+        outer_destination: captures::PORT.port,
+        outer_source: 0x0200_0000_00B2,
+        outer_tag: None,
+        trill: 0x22F3,
+        version: 0,
+        reserved,
+        multicast: false,
+        option_length: 0,
+        hop_count: 5,
+        egress: captures::PORT.nickname as u16,
+        ingress: nickname,
+        options: Vec::new(),
+        inner_destination: 0x0200_0000_000D,
+        inner_source: 0x0200_0000_0001,
+        label: vec![0x81, 0x00, 0x00, 0x0A],
+        content: vec![0x08, 0x00, 0x45, 0x00],
+    };
+    let read = |multihomed, nickname, reserved, compact| Call::ReceivePort {
+        settings: Settings {
+            multihomed,
+            ..captures::PORT
+        },
+        map: Vec::new(),
+        room,
+        frame: frame(nickname, reserved, compact).bytes(),
+    };
+    vec![
+        read(1, 0x1234, 0b10, false),
+        read(1, 0x5678, 0b10, false),
+        read(1, 0x1234, 0b11, true),
+        read(2, 0x5678, 0b01, true),
+        read(2, 0x9ABC, 0b01, false),
+        read(3, 0x1234, 0b11, false),
+        read(2, 0x5678, 0b10, false),
+    ]
+}
+
 /// The native frame of 2026-01 through ingress and mapped reading, with DEI, cut and untagged; then at ports with other maps.
 fn map_calls(room: usize) -> Vec<Call> {
     let settings = captures::PORT;
@@ -821,6 +863,13 @@ pub fn files() -> (String, String) {
     for (place, call) in map_calls(64).iter().enumerate() {
         let table = match place {
             0 => vec![0; 2 * RECORD],
+            _ => replay.table.clone(),
+        };
+        replay.offer(table, call);
+    }
+    for (place, call) in homes_calls(32).iter().enumerate() {
+        let table = match place {
+            0 => vec![0; 3 * RECORD],
             _ => replay.table.clone(),
         };
         replay.offer(table, call);
