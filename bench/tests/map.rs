@@ -77,7 +77,7 @@ fn frame(random: &mut Random, native: bool) -> Vec<u8> {
         0x0999,
         0xFFC0,
     ]);
-    let first = random.pick(&[0x0005, 0x0005, 0x0005, 0x0000]);
+    let first = random.pick(&[0x0005, 0x0005, 0x1005, 0x2005, 0x3005, 0x0000]);
     let trill = [0x22F3, first, egress, 0x1234]
         .map(u16::to_be_bytes)
         .concat();
@@ -109,7 +109,14 @@ fn frame(random: &mut Random, native: bool) -> Vec<u8> {
     frame
 }
 
-fn read(call: ReceivePort, map: &[u8], frame: &[u8], table: &[u8], room: usize) -> Left {
+fn read(
+    call: ReceivePort,
+    multihomed: u32,
+    map: &[u8],
+    frame: &[u8],
+    table: &[u8],
+    room: usize,
+) -> Left {
     let (mut table, mut out) = (table.to_vec(), vec![0xEE; room]);
     // SAFETY: the areas do not overlap and are as long as said.
     let word = unsafe {
@@ -120,7 +127,7 @@ fn read(call: ReceivePort, map: &[u8], frame: &[u8], table: &[u8], room: usize) 
             SETTINGS.compact,
             SETTINGS.confidence,
             SETTINGS.seconds,
-            0,
+            multihomed,
             0,
             map.as_ptr(),
             map.len(),
@@ -184,8 +191,9 @@ fn the_hand_written_reading_with_a_map_and_ingress_do_what_the_library_does() {
         let table = vec![0; RECORD * random.between(1, 3) as usize];
         let bytes = frame(random, false);
         let room = random.between(0, 70) as usize;
-        let ours = read(shinglebar_receive_port, &map, &bytes, &table, room);
-        let hand = read(baseline::receive_port, &map, &bytes, &table, room);
+        let bit = random.pick(&[0, 1, 2, 2, 3]);
+        let ours = read(shinglebar_receive_port, bit, &map, &bytes, &table, room);
+        let hand = read(baseline::receive_port, bit, &map, &bytes, &table, room);
         assert!(
             ours == hand,
             "seed {seed}, case {case}: {:#x} {:#x}",
@@ -235,7 +243,7 @@ fn the_hand_written_reading_with_a_map_and_ingress_do_what_the_library_does() {
         );
         put_words.insert(ours.0 as u8);
     }
-    for word in [3, 4, 5, 6, 7, 8, 9, 10, 12, 13, 14, 16, 21, 22, 64, 65] {
+    for word in [1, 3, 4, 5, 6, 7, 8, 9, 10, 12, 13, 14, 16, 21, 22, 64, 65] {
         assert!(read_words.contains(&word), "reading never gave {word}");
     }
     for word in [1, 3, 6, 8, 9, 10, 11, 12, 16, 21, 22, 64] {

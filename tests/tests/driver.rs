@@ -2898,3 +2898,65 @@ fn a_map_file_that_is_no_map_is_refused_by_its_line() {
     good(&run_in(&folder, &INGRESS));
     good(&run_in(&folder, &receive));
 }
+
+/// Document 02, 2026-12: the option names the R bit, and reaches the call.
+#[test]
+fn the_option_multihomed_names_the_bit_that_marks_frames() {
+    let folder = folder("multihomed");
+    let from = |nickname, reserved, compact| {
+        let frame = generate::Frame {
+            compact,
+            outer_destination: PORT.port,
+            outer_source: 0x0200_0000_00B2,
+            outer_tag: None,
+            trill: 0x22F3,
+            version: 0,
+            reserved,
+            multicast: false,
+            option_length: 0,
+            hop_count: 5,
+            egress: PORT.nickname as u16,
+            ingress: nickname,
+            options: Vec::new(),
+            inner_destination: 0x0200_0000_000D,
+            inner_source: 0x0200_0000_0001,
+            label: vec![0x81, 0x00, 0x00, 0x0A],
+            content: vec![0x08, 0x00, 0x45, 0x00],
+        };
+        frame.bytes()
+    };
+    let (first, second) = (0b10, 0b01);
+    let frames = [
+        from(0x1234, first, false),
+        from(0x5678, first, true),
+        from(0x1234, first, true),
+        from(0x9ABC, second, false),
+    ];
+    fs::write(folder.join("in"), captures::capture(USUAL, &frames)).expect("a capture");
+    let words = |bit| [&receive_words("in")[..], &["--no-ageing"], bit].concat();
+    for (multihomed, bit) in [
+        (1, &["--multihomed", "first"][..]),
+        (2, &["--multihomed=second"]),
+        (0, &[]),
+    ] {
+        let settings = reference::Settings { multihomed, ..PORT };
+        let mut table = vec![0; 16 * RECORD];
+        for frame in &frames {
+            reference::receive_port(&settings, &[], frame, &mut table, &mut [0; 16]);
+        }
+        let printed = good(&run_in(&folder, &words(bit)));
+        assert!(bytes(&folder.join("table")).ends_with(&table), "{printed}");
+        let marked = printed.matches(", multihomed").count();
+        assert_eq!(marked > 0, multihomed > 0, "{printed}");
+        fs::remove_file(folder.join("table")).expect("the table");
+        let objects = good(&run_in(&folder, &[&words(bit)[..], &["--json"]].concat()));
+        same_facts(&printed, &objects);
+        fs::remove_file(folder.join("table")).expect("the table");
+    }
+    let said = "--multihomed takes first or second, not `third`";
+    bad(
+        &run_in(&folder, &words(&["--multihomed", "third"])),
+        2,
+        said,
+    );
+}
