@@ -592,7 +592,7 @@ fn the_refusals_are_those_of_the_header() {
             "{line}"
         );
     }
-    for number in [0, 19, 20, 23, 64, 257, u64::MAX] {
+    for number in [0, 19, 20, 25, 64, 257, u64::MAX] {
         assert_eq!(Refusal::from_number(number), None);
     }
 }
