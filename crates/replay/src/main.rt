@@ -276,6 +276,86 @@ fn replay_send(b: &[u8], table: &[u8], area: &mut [u8]) -> bool {
     true
 }
 
+// 09: settings, multihomed, smart, the lengths of the output area and of the map, the map, the frame; the map ends at e.
+fn read_mapped(b: &[u8], e: usize, table: &mut [u8], out: &mut [u8])
+    requires { ⌜ (44 ≤ e) × (e ≤ length (now b)) ⌝ }
+{
+    let s = settings_in(b);
+    let word = shinglebar::shinglebar_receive_port(
+        s.port,
+        s.inner,
+        s.nickname,
+        s.compact,
+        s.confidence,
+        s.seconds,
+        numbers::be4(b, 32) as u32,
+        numbers::be4(b, 36) as u32,
+        &b[44..e],
+        &b[e..],
+        table,
+        out,
+    );
+    print_call(word, table, out);
+}
+
+fn replay_port(b: &[u8], table: &mut [u8], area: &mut [u8]) -> bool {
+    if b.len() < 44 {
+        return false;
+    }
+    let n = numbers::be2(b, 40) as usize;
+    if area.len() < n {
+        return false;
+    }
+    let e = 44 + numbers::be2(b, 42) as usize;
+    if b.len() < e {
+        return false;
+    }
+    read_mapped(b, e, table, &mut area[0..n]);
+    true
+}
+
+// 0a: settings, outer destination and source, M, hop count, egress and ingress nickname, the lengths of the output area and of the map,
+// the map, the frame; the map ends at e.
+fn take_in(b: &[u8], e: usize, table: &[u8], out: &mut [u8])
+    requires { ⌜ (68 ≤ e) × (e ≤ length (now b)) ⌝ }
+{
+    let s = settings_in(b);
+    let word = shinglebar::shinglebar_ingress(
+        s.port,
+        s.inner,
+        s.nickname,
+        s.compact,
+        s.confidence,
+        s.seconds,
+        &b[68..e],
+        numbers::be8(b, 32),
+        numbers::be8(b, 40),
+        numbers::be4(b, 48) as u32,
+        numbers::be4(b, 52) as u32,
+        numbers::be4(b, 56) as u32,
+        numbers::be4(b, 60) as u32,
+        &b[e..],
+        out,
+    );
+    print_call(word, table, out);
+}
+
+fn replay_ingress(b: &[u8], table: &[u8], area: &mut [u8]) -> bool {
+    if b.len() < 68 {
+        return false;
+    }
+    let n = numbers::be2(b, 64) as usize;
+    if area.len() < n {
+        return false;
+    }
+    let e = 68 + numbers::be2(b, 66) as usize;
+    if b.len() < e {
+        return false;
+    }
+    take_in(b, e, table, &mut area[0..n]);
+    true
+}
+
 // Makes a call and writes what it gave; false where there is no such call.
 fn replay_call(kind: u64, b: &[u8], table: &mut [u8], area: &mut [u8]) -> bool {
     if kind == 1 {
@@ -301,6 +381,12 @@ fn replay_call(kind: u64, b: &[u8], table: &mut [u8], area: &mut [u8]) -> bool {
     }
     if kind == 8 {
         return replay_send(b, table, area);
+    }
+    if kind == 9 {
+        return replay_port(b, table, area);
+    }
+    if kind == 10 {
+        return replay_ingress(b, table, area);
     }
     false
 }
