@@ -70,7 +70,7 @@ static const struct option OPTIONS[] = {
      AT(settings.seconds), 0, 8191},
     {"--source", "ADDRESS", "the outer source, an individual address", ADDRESS, EXPAND | WRITE | INGRESS, EXPAND | INGRESS,
      AT(source), 0, 0},
-    {"--destination", "ADDRESS", "the outer destination; 01-80-C2-00-00-40 sets M", ADDRESS, INGRESS, INGRESS,
+    {"--to", "ADDRESS", "the outer destination; 01-80-C2-00-00-40 sets M", ADDRESS, INGRESS, INGRESS,
      AT(given.outer_destination), 0, 0},
     {"--egress", "HEX", "the egress nickname, 0001 to FFBF; the ingress nickname is the port's own", NICKNAME, INGRESS, INGRESS,
      AT(given.egress), 0, 0xFFFF},

@@ -23,9 +23,10 @@
  * Threads. The archive has no state of its own, takes no lock and never waits: any number of threads
  * may call it at once.
  *
- * - An area that a call writes (output, working area, and the table of receive, age and every flush) may
- *   not be used by another thread until the call has returned. A table that threads share needs a lock
- *   of theirs: shared for lookup, spoilt, free slot and widen, exclusive for receive, age and every flush.
+ * - An area that a call writes (output, working area, and the table of receive, receive_port, age and every
+ *   flush) may not be used by another thread until the call has returned. A table that threads share needs
+ *   a lock of theirs: shared for lookup, spoilt, free slot and widen, exclusive for receive, receive_port,
+ *   age and every flush.
  * - A thread needs SHINGLEBAR_STACK_MAX bytes of stack for a call, beside its own. There is no heap.
  *
  * Bridge messages. A frame with 01-80-C2-00-00-00 to 0F or 21 in front answers 5 in receive, with Compact
@@ -68,13 +69,13 @@
 #define SHINGLEBAR_MAP_LENGTH_MAX 24564
 
 /* The bytes of stack that a call takes at most: any call (a long flush takes most, so a frame that
- * brings one does), and a call that carries out no flush, which is every call but receive, flush,
- * flush_vlan_only and flush_portion.
+ * brings one does), and a call that carries out no flush, which is every call but receive, receive_port,
+ * flush, flush_vlan_only and flush_portion.
  * Measured on x86-64: tests/c/stack.c paints the stack of a thread, makes the calls that take most, and
  * fails where one takes more. What the dynamic loader takes when it binds memmove and memset, about
  * 3,000 bytes, is counted. */
 #define SHINGLEBAR_STACK_MAX 98304
-#define SHINGLEBAR_STACK_MAX_WITHOUT_FLUSH 4096
+#define SHINGLEBAR_STACK_MAX_WITHOUT_FLUSH 8192
 
 /* The refusal numbers. shinglebar_refusal_string has the words. */
 enum shinglebar_refusal_number {

@@ -380,8 +380,8 @@ static void maps(void)
         took = taken("ingress", call_ingress, SHINGLEBAR_INGRESS_WRITTEN);
         ingress = took > ingress ? took : ingress;
     }
-    within("receive_port without a flush", receive, SHINGLEBAR_STACK_MAX);
-    within("ingress", ingress, SHINGLEBAR_STACK_MAX);
+    within("receive_port without a flush", receive, SHINGLEBAR_STACK_MAX_WITHOUT_FLUSH);
+    within("ingress", ingress, SHINGLEBAR_STACK_MAX_WITHOUT_FLUSH);
     make_payload(9170, 255, 0x1FE);
     make_flush_frame();
     within("receive_port with a flush", taken("receive_port", call_receive_port, SHINGLEBAR_RECEIVE_FLUSHED),

@@ -2003,7 +2003,7 @@ fn bad_command_lines_get_a_message_and_status_2() {
     let expand = [&["expand", "in", "--out", "o"][..], &SETTINGS].concat();
     let ingress = [
         &["ingress", "in", "--out", "o", "--source", "020000000001"][..],
-        &["--destination", "020000000002", "--egress", "0002"],
+        &["--to", "020000000002", "--egress", "0002"],
         &SETTINGS,
     ]
     .concat();
@@ -2170,14 +2170,7 @@ fn each_command_has_help_on_each_of_its_options() {
         (
             "ingress",
             &[
-                "--out",
-                "--map",
-                "--source",
-                "--destination",
-                "--egress",
-                "--hops",
-                "--json",
-                "--quiet",
+                "--out", "--map", "--source", "--to", "--egress", "--hops", "--json", "--quiet",
             ],
             true,
         ),
@@ -2740,7 +2733,7 @@ const INGRESS: [&str; 18] = [
     "1234",
     "--source",
     "02-00-00-00-00-B2",
-    "--destination",
+    "--to",
     "02-00-00-00-00-A1",
     "--egress",
     "0102",

@@ -24,7 +24,7 @@ use table::SLOT_BYTES;
 // So many slots are judged by a walk over the message, whatever its length; and so many where it has no more than so many bytes.
 const FEW_SLOTS: usize = 4;
 
-const SOME_SLOTS: usize = 8;
+const SOME_SLOTS: usize = 64;
 
 const SHORT_BYTES: usize = 32;
 

@@ -11,7 +11,7 @@ use lib.Dec.{eqb}
 use lib.ListN.{length, take, drop, take-append-drop}
 use Rattle.numbers.specs.Tests.{pick, both, either}
 use Rattle.numbers.specs.After.{onTable}
-use Rattle.numbers.proofs.Truth.{and-both, or-either}
+use Rattle.numbers.proofs.Truth.{and-both, or-either, both-left, both-right}
 use Rattle.table.specs.Record.{recordOf, kindOf, labelOf, macOf, nicknameOf, vlanKind, labelFrom, unpacked, isLearned}
 use Rattle.table.specs.Slots.{slotBytes, slotAt, freed, onSlots, countSlots}
 use Rattle.table.proofs.Slots.{Local, length-onSlots, lent-onSlots, on-step}
@@ -46,16 +46,17 @@ module _ (f : Kinds) (ps : List Piece) where
   unfolding macNoted pick
   mac-walked m h = rw h
 
+  module _ (nicks : List ℕ) (ingress : ℕ) (r : List ℕ) (b : Bool) (named : b ≡ nicknameMeant ingress nicks (nicknameOf (recordOf r))) where
+    pub not-named : b ≡ false → false ≡ slotNoted f nicks ps ingress r
+    unfolding slotNoted
+    not-named h = sym (both-right _ _ (both-left _ _ (sym named ∙ h)))
+
   module _ (nicks : List ℕ) (ingress : ℕ) (r : List ℕ) (a : Bool) (learned : a ≡ isLearned (unpacked r)) where
     pub not-learned : a ≡ false → false ≡ slotNoted f nicks ps ingress r
     unfolding slotNoted both
     not-learned h = rw (← learned, h)
 
     module _ (is : a ≡ true) (b : Bool) (named : b ≡ nicknameMeant ingress nicks (nicknameOf (recordOf r))) where
-      pub not-named : b ≡ false → false ≡ slotNoted f nicks ps ingress r
-      unfolding slotNoted both
-      not-named h = rw (← learned, is, ← named, h)
-
       module _ (has : b ≡ true) (c : Bool) (labelled : c ≡ labelNoted f ps (kindOf (recordOf r)) (labelOf (recordOf r))) where
         pub not-labelled : c ≡ false → false ≡ slotNoted f nicks ps ingress r
         unfolding slotNoted both

@@ -38,15 +38,15 @@ fn mac_passes(rest: &[u8], f: Kinds, t: &[u8], at: usize) -> bool
     flush_payload::mac_meant(rest, f.blocks, gathered, table_fields::mac_at(t, at))
 }
 
-// Whether the slot at an offset is meant. Nickname and state decide most slots.
+// Whether the slot at an offset is meant. The nickname decides most slots.
 fn meant_at(ingress: u32, nicks: &[u8], rest: &[u8], f: Kinds, t: &[u8], at: usize) -> bool
     requires { ⌜ (blockBytes * f .blocks ≤ length (now rest)) × (at + slotBytes ≤ length (now t)) ⌝ }
     ensures { λ b. ⌜ b ≡ slotNoted f (now (nicks .entry)) (piecesOf (f .blocks) (now (rest .entry))) ingress (drop at (now (t .entry))) ⌝ }
 {
-    if !table_states::learned_at(t, at) {
+    if !flush_payload::nickname_meant(nicks, ingress, table_fields::nickname_at(t, at)) {
         return false;
     }
-    if !flush_payload::nickname_meant(nicks, ingress, table_fields::nickname_at(t, at)) {
+    if !table_states::learned_at(t, at) {
         return false;
     }
     if !label_passes(rest, f, t, at) {
