@@ -441,6 +441,38 @@ fn replay_ingress(b: &[u8], table: &[u8], area: &mut [u8]) -> bool {
     true
 }
 
+// The calls of document 02.
+fn replay_later(kind: u64, b: &[u8], table: &mut [u8], area: &mut [u8]) -> bool {
+    if kind == 0x09 {
+        return replay_port(b, table, area);
+    }
+    if kind == 0x0a {
+        return replay_ingress(b, table, area);
+    }
+    if kind == 0x12 {
+        return replay_widen(b, table, area);
+    }
+    if kind == WRITE {
+        return replay_write(b, table, area);
+    }
+    if kind == 0x24 {
+        return replay_free_slot(b, table);
+    }
+    if kind == 0x25 {
+        return replay_portion(b, table);
+    }
+    if kind == 0x27 {
+        return replay_vlan_only(b, table);
+    }
+    if kind == 0x60 {
+        return watched::replay_watch(b, table);
+    }
+    if kind == 0x61 {
+        return watched::replay_send(b, table, area);
+    }
+    false
+}
+
 // Makes a call and writes what it gave; false where there is no such call.
 fn replay_call(kind: u64, b: &[u8], table: &mut [u8], area: &mut [u8]) -> bool {
     if kind == 1 {
@@ -467,34 +499,7 @@ fn replay_call(kind: u64, b: &[u8], table: &mut [u8], area: &mut [u8]) -> bool {
     if kind == 8 {
         return replay_send(b, table, area);
     }
-    if kind == 0x24 {
-        return replay_free_slot(b, table);
-    }
-    if kind == 0x12 {
-        return replay_widen(b, table, area);
-    }
-    if kind == 0x25 {
-        return replay_portion(b, table);
-    }
-    if kind == 0x60 {
-        return watched::replay_watch(b, table);
-    }
-    if kind == 0x61 {
-        return watched::replay_send(b, table, area);
-    }
-    if kind == WRITE {
-        return replay_write(b, table, area);
-    }
-    if kind == 0x27 {
-        return replay_vlan_only(b, table);
-    }
-    if kind == 9 {
-        return replay_port(b, table, area);
-    }
-    if kind == 10 {
-        return replay_ingress(b, table, area);
-    }
-    false
+    replay_later(kind, b, table, area)
 }
 
 // The length of the next call's numbers and bytes; the largest number where the input ended.
