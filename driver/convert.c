@@ -1,4 +1,4 @@
-/* The commands `compact` and `expand`: a capture to a capture. */
+/* The commands `compact`, `expand` and `ingress`: a capture to a capture. */
 #include "answer.h"
 #include "capture.h"
 #include "commands.h"
@@ -10,18 +10,40 @@
 
 static uint64_t convert(const struct options *options, const struct captured *frame, uint8_t *out, size_t room)
 {
-    const struct settings *far = &options->settings;
+    const struct shinglebar_settings *settings = &options->settings;
     if (options->command == COMPACT)
-        return shinglebar_compact(SETTINGS(far), frame->bytes, frame->length, out, room);
-    return shinglebar_expand(SETTINGS(far), options->source, options->tagged, options->tag, frame->bytes, frame->length,
-                             out, room);
+        return shinglebar_compact_any(settings, frame->bytes, frame->length, out, room);
+    if (options->command == INGRESS)
+        return shinglebar_ingress_any(settings, &options->given, frame->bytes, frame->length, out, room);
+    return shinglebar_expand_any(settings, options->source, options->tagged, options->tag, frame->bytes, frame->length, out,
+                                 room);
+}
+
+static const char *done_words(const struct options *options)
+{
+    return options->command == COMPACT ? "compacted" : options->command == EXPAND ? "expanded" : "ingressed";
+}
+
+/* The fine-grained label that ingress wrote: its two parts are 34 and 38 bytes from the start. */
+static void label_put(struct text *line, const uint8_t *written)
+{
+    uint32_t high = (uint32_t)(written[34] & 0xF) << 8 | written[35];
+    uint32_t label = high << 12 | (uint32_t)(written[38] & 0xF) << 8 | written[39];
+    if (line->json) {
+        json_number(line, "campus_label", label);
+        return;
+    }
+    text_put(line, " of ");
+    text_label(line, SHINGLEBAR_LABEL_FINE_GRAINED, label);
 }
 
 static void line_print(struct text *line, const struct options *options, unsigned long number,
-                       const struct captured *captured, uint64_t answer)
+                       const struct captured *captured, uint64_t answer, const uint8_t *written)
 {
-    const char *done = options->command == COMPACT ? "compacted" : "expanded";
-    struct frame frame = frame_read(captured->bytes, captured->length, options->settings.port);
+    const char *done = done_words(options);
+    int native = options->command == INGRESS;
+    struct frame frame = native ? frame_native(captured->bytes, captured->length)
+                                : frame_read(captured->bytes, captured->length, options->settings.port);
     frame_put(line, number, captured, &frame);
     if (line->json)
         json_words(line, "answer", shinglebar_is_refusal(answer) ? "left out" : done);
@@ -36,12 +58,14 @@ static void line_print(struct text *line, const struct options *options, unsigne
         text_number(line, shinglebar_written_length(answer));
         text_put(line, " bytes");
     }
+    if (native && !shinglebar_is_refusal(answer))
+        label_put(line, written);
     line_out(line);
 }
 
 static void totals_print(struct text *line, const struct options *options, unsigned long frames, unsigned long done)
 {
-    const char *words = options->command == COMPACT ? "compacted" : "expanded";
+    const char *words = done_words(options);
     if (line->json) {
         json_number(line, "frames", frames);
         json_number(line, words, done);
@@ -75,7 +99,7 @@ static int run(const struct options *options, struct capture_reader *reader, str
         int kept = !shinglebar_is_refusal(answer);
         done += (unsigned long)kept;
         if (!options->quiet)
-            line_print(&line, options, reader->number, &frame, answer);
+            line_print(&line, options, reader->number, &frame, answer, written);
         if (kept && capture_add(out, reader->form, &frame, written, shinglebar_written_length(answer)) != 0)
             return 1;
     }

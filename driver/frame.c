@@ -116,6 +116,26 @@ struct frame frame_read(const uint8_t *bytes, size_t length, uint64_t port)
     return seen;
 }
 
+struct frame frame_native(const uint8_t *bytes, size_t length)
+{
+    struct frame seen = {0};
+    struct cursor at = {bytes, length}, tag;
+    uint64_t type, number;
+    seen.format = "native";
+    seen.length = length;
+    if (!take_addresses(&at, &seen))
+        return seen;
+    tag = at;
+    if (take(&tag, 2, &type) && type == C_TAG && take(&tag, 2, &number)) {
+        seen.has_label = 1;
+        seen.kind = SHINGLEBAR_LABEL_VLAN;
+        seen.label = number & 0xFFF;
+        at = tag;
+    }
+    take_content(&at, &seen);
+    return seen;
+}
+
 unsigned frame_ingress(const struct frame *frame)
 {
     return (unsigned)(frame->header & 0xFFFF);

@@ -23,6 +23,9 @@ struct frame {
 /* Reads a frame as far as it goes, for a port with this address. */
 struct frame frame_read(const uint8_t *bytes, size_t length, uint64_t port);
 
+/* The same of a native frame: addresses, an 8100 tag, content. */
+struct frame frame_native(const uint8_t *bytes, size_t length);
+
 unsigned frame_ingress(const struct frame *frame);
 
 /* Whether a frame is marked as that of a station on two switches, at a port with this setting: 0 none, 1 the first R bit, 2 the second. */

@@ -26,6 +26,7 @@ int main(int count, char **words)
         return receive_command(&options);
     case COMPACT:
     case EXPAND:
+    case INGRESS:
         return convert_command(&options);
     case LOOKUP:
         return lookup_command(&options);

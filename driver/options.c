@@ -3,13 +3,14 @@
 #include <stdio.h>
 #include <string.h>
 
+#include "map.h"
 #include "message.h"
 #include "path.h"
 #include "shinglebar.h"
 #include "table.h"
 
-#define WITH_SETTINGS (RECEIVE | COMPACT | EXPAND | LIVE | SEND)
-#define WITH_CAPTURE (RECEIVE | COMPACT | EXPAND | SEND)
+#define WITH_SETTINGS (RECEIVE | COMPACT | EXPAND | LIVE | SEND | INGRESS)
+#define WITH_CAPTURE (RECEIVE | COMPACT | EXPAND | SEND | INGRESS)
 #define WITH_TABLE (RECEIVE | LOOKUP | AGE | CHECK | LIVE | SET | UNSET | WIDEN)
 #define WITH_PAIR (LOOKUP | SET | UNSET)
 #define WITH_ANY (WITH_SETTINGS | WITH_TABLE | WRITE)
@@ -17,9 +18,11 @@
 /* A configured record is not displaced by a learned one whatever its confidence; the highest says so. */
 #define SET_CONFIDENCE 255
 #define SAVE_SECONDS 30
+#define HOP_COUNT_MAX 63
+#define ALL_RBRIDGES UINT64_C(0x0180C2000040)
 
 /* How an option's value is written, and so where it goes. */
-enum form { TEXT, ADDRESS, NICKNAME, SWITCH, NUMBER, FLAG, NICKNAMES, BLOCKS, MAC_BLOCKS };
+enum form { TEXT, ADDRESS, NICKNAME, SWITCH, R_BIT, NUMBER, FLAG, NICKNAMES, BLOCKS, MAC_BLOCKS };
 
 struct option {
     const char *name;
@@ -44,8 +47,12 @@ static const struct option OPTIONS[] = {
      0},
     {"--slots", "N", "makes the table with N free slots if its file is missing, 1 to 4096", NUMBER, RECEIVE | LIVE | SET, 0,
      AT(slots), 1, TABLE_SLOTS_MAX},
-    {"--out", "FILE", "the capture to write; replaced whole or not at all; - is standard output", TEXT, RECEIVE | COMPACT | EXPAND | LIVE | WRITE,
-     COMPACT | EXPAND, AT(out), 0, 0},
+    {"--out", "FILE", "the capture to write; replaced whole or not at all; - is standard output", TEXT,
+     RECEIVE | COMPACT | EXPAND | LIVE | WRITE | INGRESS, COMPACT | EXPAND | INGRESS, AT(out), 0, 0},
+    {"--map", "FILE", "the port's map, a line `VLAN LABEL` for each pair of VLAN and fine-grained label", TEXT,
+     RECEIVE | LIVE | INGRESS, INGRESS, AT(map), 0, 0},
+    {"--multihomed", "BIT", "first or second, the R bit that marks frames of stations on two switches (none)", R_BIT, RECEIVE | LIVE,
+     0, AT(settings.multihomed), 0, 0},
     {"--interface", "NAME", "the Linux interface", TEXT, LIVE | SEND, LIVE | SEND, AT(interface), 0, 0},
     {"--frames", "N", "stops after N frames", NUMBER, LIVE, 0, AT(frames), 1, UINT32_MAX},
     {"--for", "SECONDS", "stops after so many seconds", NUMBER, LIVE, 0, AT(duration), 1, UINT32_MAX},
@@ -61,7 +68,13 @@ static const struct option OPTIONS[] = {
      255},
     {"--seconds", "N", "learning seconds, 10 to 8191, or 0 for the default 1200 (0)", NUMBER, WITH_SETTINGS, 0,
      AT(settings.seconds), 0, 8191},
-    {"--source", "ADDRESS", "the outer source, an individual address", ADDRESS, EXPAND | WRITE, EXPAND, AT(source), 0, 0},
+    {"--source", "ADDRESS", "the outer source, an individual address", ADDRESS, EXPAND | WRITE | INGRESS, EXPAND | INGRESS,
+     AT(source), 0, 0},
+    {"--to", "ADDRESS", "the outer destination; 01-80-C2-00-00-40 sets M", ADDRESS, INGRESS, INGRESS,
+     AT(given.outer_destination), 0, 0},
+    {"--egress", "HEX", "the egress nickname, 0001 to FFBF; the ingress nickname is the port's own", NICKNAME, INGRESS, INGRESS,
+     AT(given.egress), 0, 0xFFFF},
+    {"--hops", "N", "the hop count, 1 to 63 (63)", NUMBER, INGRESS, 0, AT(given.hop_count), 1, HOP_COUNT_MAX},
     {"--tag", "N", "writes an outer tag with this VLAN, 1 to 4094", NUMBER, EXPAND, 0, AT(tag), 1, 4094},
     {"--vlan", "N", "the label is this VLAN", NUMBER, WITH_PAIR, 0, AT(label), 0, 0xFFFF},
     {"--fgl", "N", "the label is this fine-grained label", NUMBER, WITH_PAIR, 0, AT(label), 0, 0xFFFFFF},
@@ -89,6 +102,8 @@ static const struct option OPTIONS[] = {
     {"--quiet", NULL, "no line for each frame", FLAG, WITH_CAPTURE | LIVE, 0, AT(quiet), 0, 0},
 };
 #define OPTION_COUNT (sizeof OPTIONS / sizeof OPTIONS[0])
+/* A bit tells whether an option was given. */
+typedef char options_have_bits[OPTION_COUNT <= 64 ? 1 : -1];
 
 static const struct {
     enum command command;
@@ -108,6 +123,9 @@ static const struct {
      "The settings are the far port's. Frames that may not be compacted are left out, and the line says why.\n"},
     {EXPAND, "expand", "expands the Compact frames of a capture for a far port",
      "The settings are the far port's. Frames that are refused are left out, and the line says why.\n"},
+    {INGRESS, "ingress", "makes General frames of the native frames of a capture",
+     "The settings and the map are those of the port at which the frames came in, each with an 8100 tag: its VLAN becomes\n"
+     "the fine-grained label of the map. Frames that are refused are left out, and the line says why.\n"},
     {LOOKUP, "lookup", "tells the nickname that an address is behind",
      "One of --vlan and --fgl is needed. Exit status 1 if the address is not known.\n"},
     {AGE, "age", "lets seconds pass for the learned records of a table", ""},
@@ -192,7 +210,7 @@ static int read_digits(const char *text, unsigned base, uint64_t *value)
     return 1;
 }
 
-static int read_number(const char *text, uint64_t *value)
+int read_number(const char *text, uint64_t *value)
 {
     return strncmp(text, "0x", 2) == 0 ? read_digits(text + 2, 16, value) : read_digits(text, 10, value);
 }
@@ -258,6 +276,11 @@ static int take_value(const struct option *option, const char *text, struct opti
             return bad_usage("%s takes on or off, not `%s`", option->name, text);
         *(uint32_t *)place = strcmp(text, "on") == 0;
         return 0;
+    case R_BIT:
+        if (strcmp(text, "first") != 0 && strcmp(text, "second") != 0)
+            return bad_usage("%s takes first or second, not `%s`", option->name, text);
+        value = strcmp(text, "first") == 0 ? 1 : 2;
+        break;
     case ADDRESS:
         if (!read_address(text, (uint64_t *)place))
             return bad_usage("%s takes an address such as 02-00-00-00-00-01, not `%s`", option->name, text);
@@ -313,10 +336,10 @@ static int read_option(int count, char **words, int *at, uint64_t *given, struct
 }
 
 /* Whether the settings are in their ranges is the library's to say: it is asked with a frame of no bytes. */
-static int check_settings(const struct settings *settings)
+static int check_settings(const struct shinglebar_settings *settings)
 {
     uint8_t free_slot[SHINGLEBAR_RECORD_LENGTH] = {0}, out = 0;
-    uint64_t answer = shinglebar_receive_any(SETTINGS(settings), NULL, 0, free_slot, sizeof free_slot, &out, 1);
+    uint64_t answer = shinglebar_receive_any(settings, NULL, 0, free_slot, sizeof free_slot, &out, 1);
     if (answer != SHINGLEBAR_REFUSAL_SETTINGS)
         return 0;
     return bad_usage("settings outside their ranges: --port and --inner are different individual addresses, --nickname is "
@@ -346,7 +369,14 @@ static int check_options(uint64_t given, struct options *options)
         return bad_usage("--out needs --source and --ingress");
     if (options->source >> 40 & 1)
         return bad_usage("--source is a group address");
-    return options->command & WITH_SETTINGS ? check_settings(&options->settings) : 0;
+    if (same_file(options->map, options->out) || same_file(options->map, options->table)
+        || same_file(options->map, options->capture))
+        return bad_usage("--map is a file of its own");
+    options->given.outer_source = options->source;
+    options->given.ingress = options->settings.nickname;
+    options->given.m = options->given.outer_destination == ALL_RBRIDGES;
+    int status = options->command & WITH_SETTINGS ? check_settings(&options->settings) : 0;
+    return status == 0 && options->map != NULL ? map_read(options->map, &options->settings) : status;
 }
 
 /* The place of a command by its name; COMMAND_COUNT if there is none. */
@@ -410,6 +440,7 @@ int options_read(int count, char **words, struct options *options)
     options->command = COMMANDS[find_command(words[1])].command;
     options->settings.confidence = options->command == SET ? SET_CONFIDENCE : RFC6325_CONFIDENCE;
     options->save = SAVE_SECONDS;
+    options->given.hop_count = HOP_COUNT_MAX;
     status = read_words(count, words, &given, options);
     if (status >= 0)
         return status;

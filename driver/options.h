@@ -5,7 +5,7 @@
 #include <stdint.h>
 
 #include "lists.h"
-#include "settings.h"
+#include "shinglebar.h"
 #include "table.h"
 
 enum command {
@@ -20,17 +20,20 @@ enum command {
     SET = 256,
     UNSET = 512,
     WIDEN = 1024,
-    WRITE = 2048
+    WRITE = 2048,
+    INGRESS = 4096
 };
 
 /* An option that was not given is NULL or 0, but for Compact off, confidence 32, seconds 0, saving every
- * 30 seconds. */
+ * 30 seconds, a hop count of 63. */
 struct options {
     enum command command;
-    struct settings settings;
+    struct shinglebar_settings settings;
+    struct shinglebar_encapsulation given;
     const char *capture;
     const char *table;
     const char *out;
+    const char *map;
     const char *interface;
     uint32_t slots;
     uint32_t frames;
@@ -54,6 +57,9 @@ struct options {
     struct lists lists;
     const char *watch;
 };
+
+/* A number, decimal or hexadecimal after 0x, at most 2^48: 1, or 0 if the text is none. */
+int read_number(const char *text, uint64_t *value);
 
 /* Reads the command line: -1 if the command is to be carried out, else the exit status (help, or bad usage, which is said). */
 int options_read(int count, char **words, struct options *options);

@@ -9,8 +9,8 @@ int portion_open(struct portion *portion, const struct options *options, const u
 {
     uint8_t free_slot[SHINGLEBAR_RECORD_LENGTH] = {0};
     static uint8_t native[SHINGLEBAR_FRAME_LENGTH_MAX];
-    uint64_t answer = shinglebar_receive(SETTINGS(&options->settings), frame, length, free_slot, sizeof free_slot, native,
-                                         sizeof native);
+    uint64_t answer = shinglebar_receive_any(&options->settings, frame, length, free_slot, sizeof free_slot, native,
+                                             sizeof native);
     struct frame read = frame_read(frame, length, options->settings.port);
     if (shinglebar_kind(answer) != SHINGLEBAR_RECEIVE_FLUSHED || !read.has_payload
         || (read.protocol & 0xFFF) != FLUSH_PROTOCOL || read.payload_length > sizeof portion->payload)

@@ -73,8 +73,26 @@ static void unchanged_put(struct text *to, const struct table *table, int slot)
     text_put(to, to->json ? "}" : ")");
 }
 
-static void line_print(struct receiver *receiver, const struct captured *captured, uint64_t answer, uint64_t source)
+/* The VLAN with which a port that has a map delivered a fine-grained frame. */
+static void tag_put(struct text *to, const struct receiver *receiver, uint64_t answer, const uint8_t *native)
 {
+    if (receiver->options->settings.map_len == 0 || shinglebar_kind(answer) != SHINGLEBAR_RECEIVE_DELIVERED
+        || shinglebar_label_kind(answer) != SHINGLEBAR_LABEL_FINE_GRAINED)
+        return;
+    uint32_t vlan = (uint32_t)(native[14] & 0xF) << 8 | native[15];
+    if (to->json) {
+        json_number(to, "native_vlan", vlan);
+        return;
+    }
+    text_put(to, ", tagged ");
+    text_label(to, SHINGLEBAR_LABEL_VLAN, vlan);
+}
+
+static void line_print(struct receiver *receiver, const struct captured *captured, uint64_t answer, const uint8_t *native)
+{
+    uint64_t source = 0;
+    for (int i = 6; shinglebar_kind(answer) == SHINGLEBAR_RECEIVE_DELIVERED && i < 12; i++)
+        source = source << 8 | native[i];
     struct text *line = &receiver->line;
     const struct audience *audience = &receiver->options->audience;
     struct changes changes;
@@ -87,6 +105,7 @@ static void line_print(struct receiver *receiver, const struct captured *capture
     frame_put(line, receiver->frames, captured, &frame);
     text_put(line, line->json ? "" : " | ");
     answer_put(line, answer, &frame);
+    tag_put(line, receiver, answer, native);
     text_put(line, line->json ? "" : " | ");
     if (changes.count > 0 || line->json)
         changes_put(line, &changes);
@@ -248,16 +267,12 @@ int receiver_take(struct receiver *receiver, const struct captured *frame)
     step(receiver);
     static uint8_t native[SHINGLEBAR_FRAME_LENGTH_MAX];
     struct table *table = &receiver->store.table;
-    uint64_t answer = shinglebar_receive(SETTINGS(&receiver->options->settings), frame->bytes, frame->length,
-                                         table->bytes, table->length, native, sizeof native);
+    uint64_t answer = shinglebar_receive_any(&receiver->options->settings, frame->bytes, frame->length, table->bytes,
+                                             table->length, native, sizeof native);
     int delivered = shinglebar_kind(answer) == SHINGLEBAR_RECEIVE_DELIVERED;
     count(receiver, answer);
-    if (!receiver->options->quiet) {
-        uint64_t source = 0;
-        for (int i = 6; delivered && i < 12; i++)
-            source = source << 8 | native[i];
-        line_print(receiver, frame, answer, source);
-    }
+    if (!receiver->options->quiet)
+        line_print(receiver, frame, answer, native);
     if (!delivered)
         return 0;
     return capture_add(&receiver->out, receiver->form, frame, native, shinglebar_native_length(answer));

@@ -43,8 +43,8 @@ static int send_frame(int file, const struct options *options, struct watch *wat
     static uint8_t work[SHINGLEBAR_COMPACT_LENGTH_MAX];
     if (watch_read(watch) != 0)
         return 1;
-    *answer = shinglebar_send_watched(SETTINGS(&options->settings), &watch->now, watch_clock(), frame->bytes,
-                                      frame->length, work, sizeof work);
+    *answer = shinglebar_send_watched_any(&options->settings, &watch->now, watch_clock(), frame->bytes, frame->length, work,
+                                          sizeof work);
     int compacted = shinglebar_kind(*answer) == SHINGLEBAR_SEND_COMPACTED;
     const uint8_t *bytes = compacted ? work : frame->bytes;
     size_t length = compacted ? shinglebar_written_length(*answer) : frame->length;

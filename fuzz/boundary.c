@@ -9,10 +9,12 @@
  * - the word is one that the call can give, with no bit beside those of its values;
  * - a refusal, onward, another channel and "the frame itself" have changed no byte of any area;
  * - an output or working area has kept its bytes behind what was written;
+ * - a fine-grained frame that a map delivers has the tag of its pair; ingress has made 24 bytes more;
  * - delivery has changed at most one record, but for learned ones that it has freed where it refreshed another; a
  *   flush has freed as many learned records as it says, and changed no other; ageing has changed none but
  *   learned records;
- * - widening has written each record of the older table and a zero byte.
+ * - widening has written each record of the older table and a zero byte; a flush that is written is accepted;
+ * - a free slot that is told is free, and has none below it.
  */
 #define _GNU_SOURCE
 #include <stdio.h>
@@ -24,8 +26,8 @@
 #include "input.h"
 #include "shinglebar.h"
 
-static const char *const names[CALLS] = {"send",   "receive", "flush",   "age",
-                                         "lookup", "spoilt",  "compact", "expand", "widen"};
+static const char *const names[CALLS] = {"send",    "receive", "flush",        "age",     "lookup", "spoilt", "compact",
+                                         "expand",  "receive_port", "ingress", "widen",   "write",  "free_slot"};
 
 /* What a call can give: its refusals, a bit for each, and its kinds with the bits of their values. */
 #define REFUSAL(name) (1u << SHINGLEBAR_REFUSAL_##name)
@@ -38,9 +40,15 @@ static const char *const names[CALLS] = {"send",   "receive", "flush",   "age",
     (TABLE_REFUSALS | FRAME_REFUSALS | REFUSAL(HOP_COUNT) | REFUSAL(NICKNAME) |                    \
      REFUSAL(GROUP_SOURCE) | REFUSAL(MULTICAST) | REFUSAL(RESERVED_DESTINATION) |                  \
      REFUSAL(CHANNEL) | REFUSAL(PAYLOAD))
+#define MAP_REFUSALS (REFUSAL(MAP) | REFUSAL(NO_PAIR))
+#define INGRESS_REFUSALS                                                                           \
+    (MAP_REFUSALS | REFUSAL(SETTINGS) | REFUSAL(FRAME_LENGTH) | REFUSAL(CUT) | REFUSAL(LABEL) |    \
+     REFUSAL(GROUP_SOURCE) | REFUSAL(HOP_COUNT) | REFUSAL(NICKNAME) | REFUSAL(MULTICAST) |         \
+     REFUSAL(OUTPUT_LENGTH))
 
 #define ONE_VALUE 0xFFFF00u
 #define DELIVERED_VALUES 0xFFFFFF0103FFFF00u
+#define UNPACKED_VALUE 0xFFFF00000000u
 
 struct kind {
     unsigned number;
@@ -58,7 +66,17 @@ static const struct answers {
                   {SHINGLEBAR_RECEIVE_DELIVERED, DELIVERED_VALUES},
                   {SHINGLEBAR_RECEIVE_OTHER_CHANNEL, 0},
                   {SHINGLEBAR_RECEIVE_FLUSHED, ONE_VALUE}}},
+    [RECEIVE_PORT] = {RECEIVE_REFUSALS | MAP_REFUSALS,
+                      {{SHINGLEBAR_RECEIVE_ONWARD, 0},
+                       {SHINGLEBAR_RECEIVE_DELIVERED, DELIVERED_VALUES},
+                       {SHINGLEBAR_RECEIVE_OTHER_CHANNEL, 0},
+                       {SHINGLEBAR_RECEIVE_FLUSHED, ONE_VALUE}}},
+    [INGRESS] = {INGRESS_REFUSALS, {{SHINGLEBAR_INGRESS_WRITTEN, ONE_VALUE}}},
     [WIDEN] = {TABLE_REFUSALS | REFUSAL(OUTPUT_LENGTH), {{SHINGLEBAR_WIDEN_WRITTEN, ONE_VALUE}}},
+    [WRITE] = {REFUSAL(LISTS) | REFUSAL(OUTPUT_LENGTH), {{SHINGLEBAR_WRITE_FLUSH_WRITTEN, ONE_VALUE}}},
+    [FREE_SLOT] = {TABLE_REFUSALS,
+                   {{SHINGLEBAR_FREE_SLOT_SLOT, ONE_VALUE | UNPACKED_VALUE},
+                    {SHINGLEBAR_FREE_SLOT_NONE, UNPACKED_VALUE}}},
     [FLUSH] = {TABLE_REFUSALS | REFUSAL(PAYLOAD), {{SHINGLEBAR_FLUSH_FLUSHED, ONE_VALUE}}},
     [AGE] = {TABLE_REFUSALS, {{SHINGLEBAR_AGE_DONE, 0}}},
     [LOOKUP] = {TABLE_REFUSALS, {{SHINGLEBAR_LOOKUP_FOUND, ONE_VALUE}, {SHINGLEBAR_LOOKUP_NONE, 0}}},
@@ -86,7 +104,7 @@ static void check(int holds, enum call call, uint64_t word, const char *what)
 static void print_tally(void)
 {
     for (unsigned call = 0; call < CALLS; call++) {
-        fprintf(stderr, "%-8s", names[call]);
+        fprintf(stderr, "%-12s", names[call]);
         for (unsigned low = 0; low < 256; low++)
             if (tally[call][low] != 0)
                 fprintf(stderr, " %u:%llu", low, tally[call][low]);
@@ -105,7 +123,9 @@ struct region {
     uint8_t before[ROOM];
 };
 
-static struct region frames, tables, outs;
+static struct region maps, frames, tables, outs;
+/* The lists of VLAN and of fine-grained blocks; nicknames lie where a table does, MAC blocks where a frame does. */
+static struct region vlan_lists, fine_lists;
 static uint8_t pattern[1 << 16];
 
 static void must(int holds, const char *what)
@@ -142,9 +162,12 @@ int LLVMFuzzerInitialize(int *count, char ***arguments)
 {
     (void)count;
     (void)arguments;
+    make_region(&maps);
     make_region(&frames);
     make_region(&tables);
     make_region(&outs);
+    make_region(&vlan_lists);
+    make_region(&fine_lists);
     for (size_t at = 0; at < sizeof pattern; at++)
         pattern[at] = (uint8_t)(at * 167 + 13);
     atexit(print_tally);
@@ -214,7 +237,7 @@ static void check_word(enum call call, uint64_t word)
     tally[call][low]++;
     reached[call][low] = 1;
     if (shinglebar_is_refusal(word)) {
-        check(word <= 18 && (answers[call].refusals >> word & 1), call, word, "no refusal of it");
+        check(word <= SHINGLEBAR_REFUSAL_PORTION && (answers[call].refusals >> word & 1), call, word, "no refusal of it");
         return;
     }
     for (unsigned at = 0; at < 4; at++) {
@@ -266,29 +289,29 @@ static void check_flushed(enum call call, uint64_t word, const struct area *tabl
     check(changed == count && freed == count, call, word, "another count of records is cleared");
 }
 
-static void check_receive(uint64_t word, const struct area *table, const struct area *out)
+static void check_receive(enum call call, uint64_t word, const struct area *table, const struct area *out)
 {
     unsigned changed, freed, not_learned;
     switch (shinglebar_kind(word)) {
     case SHINGLEBAR_RECEIVE_DELIVERED:
-        check_written(RECEIVE, word, out, shinglebar_native_length(word));
+        check_written(call, word, out, shinglebar_native_length(word));
         count_changes(table, &changed, &freed, &not_learned);
-        check(changed <= 1 + freed, RECEIVE, word, "more than one record is changed");
-        check(freed == 0 || shinglebar_learning(word) == SHINGLEBAR_LEARNING_REFRESHED, RECEIVE, word,
+        check(changed <= 1 + freed, call, word, "more than one record is changed");
+        check(freed == 0 || shinglebar_learning(word) == SHINGLEBAR_LEARNING_REFRESHED, call, word,
               "a record is freed though none was refreshed");
-        check(changed == 0 || shinglebar_learning(word) <= SHINGLEBAR_LEARNING_REFRESHED, RECEIVE,
+        check(changed == 0 || shinglebar_learning(word) <= SHINGLEBAR_LEARNING_REFRESHED, call,
               word, "a record is changed though nothing was learned");
         check(shinglebar_label_kind(word) == SHINGLEBAR_LABEL_FINE_GRAINED ||
                   (shinglebar_label(word) >= 1 && shinglebar_label(word) <= 0xFFE),
-              RECEIVE, word, "no VLAN");
+              call, word, "no VLAN");
         break;
     case SHINGLEBAR_RECEIVE_FLUSHED:
-        check(kept(out, 0), RECEIVE, word, "the output area is changed");
-        check_flushed(RECEIVE, word, table);
+        check(kept(out, 0), call, word, "the output area is changed");
+        check_flushed(call, word, table);
         break;
     default:
-        check(kept(table, 0), RECEIVE, word, "the table is changed");
-        check(kept(out, 0), RECEIVE, word, "the output area is changed");
+        check(kept(table, 0), call, word, "the table is changed");
+        check(kept(out, 0), call, word, "the output area is changed");
     }
 }
 
@@ -328,10 +351,42 @@ static void check_widened(uint64_t word, const struct area *old, const struct ar
     }
 }
 
+/* A slot that is told is the lowest free one; no record is changed. */
+static void check_free_slot(uint64_t word, const struct area *table)
+{
+    static const uint8_t empty[SHINGLEBAR_RECORD_LENGTH];
+    size_t slots = table->length / sizeof empty, slot = 0;
+    check(kept(table, 0), FREE_SLOT, word, "the table is changed");
+    if (shinglebar_is_refusal(word))
+        return;
+    while (slot < slots && memcmp(table->read + slot * sizeof empty, empty, sizeof empty) != 0)
+        slot++;
+    check((shinglebar_kind(word) == SHINGLEBAR_FREE_SLOT_SLOT) == (slot < slots), FREE_SLOT, word, "a slot missed or made up");
+    check(slot == slots || shinglebar_slot(word) == slot, FREE_SLOT, word, "another slot");
+    check(shinglebar_unpacked(word) <= slot + (slot < slots), FREE_SLOT, word, "more records unpacked than there are");
+}
+
+/* A frame delivered by a map has the tag of a VLAN of the map, behind the addresses. */
+static void check_tag(uint64_t word, const struct area *map, const struct area *out)
+{
+    if (shinglebar_kind(word) != SHINGLEBAR_RECEIVE_DELIVERED || map->length == 0 ||
+        shinglebar_label_kind(word) != SHINGLEBAR_LABEL_FINE_GRAINED)
+        return;
+    const uint8_t *tag = out->write + 12;
+    check(tag[0] == 0x81 && tag[1] == 0 && (tag[2] & 0x10) == 0, RECEIVE_PORT, word, "no tag");
+    uint8_t pair[SHINGLEBAR_PAIR_LENGTH];
+    shinglebar_pack_pair((uint16_t)((tag[2] & 0xF) << 8 | tag[3]), shinglebar_label(word), pair);
+    for (size_t at = 0; at + sizeof pair <= map->length; at += sizeof pair)
+        if (memcmp(map->read + at, pair, sizeof pair) == 0)
+            return;
+    check(0, RECEIVE_PORT, word, "no pair of the map");
+}
+
 /* The numbers of an input, with the names of the header. */
 struct numbers {
-    uint64_t port, inner, outer_source, mac;
-    uint32_t nickname, compact, confidence, seconds, tagged, tag, ingress, kind, label;
+    uint64_t port, inner, outer_destination, outer_source, mac;
+    uint32_t nickname, compact, confidence, seconds, multihomed, smart, tagged, tag, m, hop_count, egress, ingress, kind,
+        label;
     uint16_t aged;
     size_t room;
 };
@@ -339,14 +394,24 @@ struct numbers {
 static struct numbers read_numbers(enum call call, struct input *input)
 {
     struct numbers it = {0};
-    if (call == RECEIVE || call == COMPACT || call == EXPAND || call == SEND) {
+    if (call == RECEIVE || call == COMPACT || call == EXPAND || call == SEND || has_map(call)) {
         it.port = number(input, 8);
         it.inner = number(input, 8);
         it.nickname = (uint32_t)number(input, 4);
         it.compact = (uint32_t)number(input, 4);
         it.confidence = (uint32_t)number(input, 4);
         it.seconds = (uint32_t)number(input, 4);
-        if (call == EXPAND) {
+        if (call == RECEIVE_PORT) {
+            it.multihomed = (uint32_t)number(input, 4);
+            it.smart = (uint32_t)number(input, 4);
+        } else if (call == INGRESS) {
+            it.outer_destination = number(input, 8);
+            it.outer_source = number(input, 8);
+            it.m = (uint32_t)number(input, 4);
+            it.hop_count = (uint32_t)number(input, 4);
+            it.egress = (uint32_t)number(input, 4);
+            it.ingress = (uint32_t)number(input, 4);
+        } else if (call == EXPAND) {
             it.outer_source = number(input, 8);
             it.tagged = (uint32_t)number(input, 4);
             it.tag = (uint32_t)number(input, 4);
@@ -373,6 +438,10 @@ static void bring_into_ranges(struct numbers *it)
     it->port &= individual;
     it->inner &= individual;
     it->outer_source &= individual;
+    it->outer_destination &= 0xFFFFFFFFFFFFu;
+    it->m &= 1;
+    it->multihomed %= 3;
+    it->smart = 0;
     if (it->inner == it->port)
         it->inner ^= 1;
     if (it->nickname < 1 || it->nickname > 0xFFBF)
@@ -386,14 +455,44 @@ static void bring_into_ranges(struct numbers *it)
         it->tag = it->tag % 0xFFE + 1;
 }
 
+/* Writing a flush: a refusal has changed nothing, and what is written is a payload that flush accepts. */
+static int write_one(struct input *input, int side)
+{
+    size_t nicknames_length = (size_t)number(input, 2), vlans_length = (size_t)number(input, 2);
+    size_t fine_length = (size_t)number(input, 2), room = (size_t)number(input, 2);
+    struct area nicknames = some(input, &tables, side, nicknames_length);
+    struct area vlans = some(input, &vlan_lists, side, vlans_length);
+    struct area fine = some(input, &fine_lists, side, fine_length);
+    struct area macs = some(input, &frames, side, input->left);
+    struct area out = lend(&outs, side, pattern, room);
+    uint64_t word = shinglebar_write_flush(nicknames.read, nicknames.length, vlans.read, vlans.length, fine.read,
+                                           fine.length, macs.read, macs.length, out.write, out.length);
+    check_word(WRITE, word);
+    if (shinglebar_is_refusal(word)) {
+        check(kept(&out, 0), WRITE, word, "the area is changed");
+        return 0;
+    }
+    size_t written = shinglebar_written_length(word);
+    uint8_t slot[SHINGLEBAR_RECORD_LENGTH] = {0};
+    check(written <= out.length && written <= SHINGLEBAR_WRITTEN_LENGTH_MAX, WRITE, word, "too long");
+    check(kept(&out, written), WRITE, word, "the area is changed behind what is written");
+    check(shinglebar_flush(1, out.read, written, slot, sizeof slot) == SHINGLEBAR_FLUSH_FLUSHED, WRITE, word,
+          "flush does not accept what is written");
+    return 0;
+}
+
 int LLVMFuzzerTestOneInput(const uint8_t *bytes, size_t length)
 {
     struct input input = {bytes, length};
     unsigned selector = (unsigned)number(&input, 1);
     enum call call = call_of(selector);
     int side = selector >> 3 & 1;
+    if (call == WRITE)
+        return write_one(&input, side);
     int as_they_are = selector >> 4 & 1;
     struct numbers it = read_numbers(call, &input);
+    size_t map_length = has_map(call) ? (size_t)number(&input, 2) : 0;
+    struct area map = some(&input, &maps, side, map_length);
     size_t table_length = has_table(call) ? (size_t)number(&input, 2) : 0;
     if (!as_they_are) {
         bring_into_ranges(&it);
@@ -412,6 +511,18 @@ int LLVMFuzzerTestOneInput(const uint8_t *bytes, size_t length)
                                   it.seconds, frame.read, frame.length, table.write, table.length,
                                   out.write, out.length);
         break;
+    case RECEIVE_PORT:
+        word = shinglebar_receive_port(it.port, it.inner, it.nickname, it.compact, it.confidence,
+                                       it.seconds, it.multihomed, it.smart, map.read, map.length,
+                                       frame.read, frame.length, table.write, table.length,
+                                       out.write, out.length);
+        break;
+    case INGRESS:
+        word = shinglebar_ingress(it.port, it.inner, it.nickname, it.compact, it.confidence,
+                                  it.seconds, map.read, map.length, it.outer_destination,
+                                  it.outer_source, it.m, it.hop_count, it.egress, it.ingress,
+                                  frame.read, frame.length, out.write, out.length);
+        break;
     case WIDEN:
         word = shinglebar_widen(frame.read, frame.length, out.write, out.length);
         break;
@@ -426,6 +537,9 @@ int LLVMFuzzerTestOneInput(const uint8_t *bytes, size_t length)
         break;
     case SPOILT:
         word = shinglebar_spoilt(table.read, table.length);
+        break;
+    case FREE_SLOT:
+        word = shinglebar_free_slot(table.read, table.length);
         break;
     case COMPACT:
         word = shinglebar_compact(it.port, it.inner, it.nickname, it.compact, it.confidence,
@@ -443,9 +557,19 @@ int LLVMFuzzerTestOneInput(const uint8_t *bytes, size_t length)
 
     check_word(call, word);
     check(kept(&frame, 0), call, word, "the frame or payload is changed");
+    check(kept(&map, 0), call, word, "the map is changed");
     switch (call) {
     case RECEIVE:
-        check_receive(word, &table, &out);
+        check_receive(call, word, &table, &out);
+        break;
+    case RECEIVE_PORT:
+        check_receive(call, word, &table, &out);
+        check_tag(word, &map, &out);
+        break;
+    case INGRESS:
+        check_conversion(call, word, &out);
+        if (shinglebar_kind(word) == SHINGLEBAR_INGRESS_WRITTEN)
+            check(shinglebar_written_length(word) == frame.length + 24, call, word, "another length");
         break;
     case WIDEN:
         check_widened(word, &frame, &out);
@@ -458,6 +582,9 @@ int LLVMFuzzerTestOneInput(const uint8_t *bytes, size_t length)
         break;
     case AGE:
         check_age(word, &table);
+        break;
+    case FREE_SLOT:
+        check_free_slot(word, &table);
         break;
     case LOOKUP:
     case SPOILT:

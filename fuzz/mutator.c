@@ -17,21 +17,32 @@ static void change(uint8_t *part, size_t length)
         LLVMFuzzerMutate(part, length, length);
 }
 
+/* Steps over the length of a map or table, which is cut where the input ends: 1, or 0 if the input ends before. */
+static int sized(const uint8_t *bytes, size_t length, size_t *at, size_t *part)
+{
+    if (length < *at + 2)
+        return 0;
+    *part = (size_t)bytes[*at] << 8 | bytes[*at + 1];
+    *at += 2;
+    if (*part > length - *at)
+        *part = length - *at;
+    return 1;
+}
+
 size_t LLVMFuzzerCustomMutator(uint8_t *bytes, size_t length, size_t most, unsigned seed)
 {
     if (length == 0)
         return LLVMFuzzerMutate(bytes, length, most);
     enum call call = call_of(bytes[0]);
-    size_t numbers = numbers_length(call), table = 0, front = 1 + numbers;
-    if (has_table(call))
-        front += 2;
+    size_t numbers = numbers_length(call), map = 0, table = 0, front = 1 + numbers;
+    if (has_map(call) && !sized(bytes, length, &front, &map))
+        return LLVMFuzzerMutate(bytes, length, most);
+    size_t map_at = front;
+    front += map;
+    if (has_table(call) && !sized(bytes, length, &front, &table))
+        return LLVMFuzzerMutate(bytes, length, most);
     if (length < front)
         return LLVMFuzzerMutate(bytes, length, most);
-    if (has_table(call)) {
-        table = (size_t)bytes[front - 2] << 8 | bytes[front - 1];
-        if (table > length - front)
-            table = length - front;
-    }
     size_t frame = front + table;
     switch (seed % 16) {
     case 0:
@@ -42,13 +53,20 @@ size_t LLVMFuzzerCustomMutator(uint8_t *bytes, size_t length, size_t most, unsig
     case 2:
         change(bytes + 1, numbers);
         return length;
+    case 6:
+    case 7:
+        if (map > 0) {
+            change(bytes + map_at, map);
+            return length;
+        }
+        /* fall through */
     case 3:
     case 4:
     case 5:
         change(bytes + front, table);
         return length;
     default:
-        if (call == AGE || call == LOOKUP || call == SPOILT) {
+        if (call == AGE || call == LOOKUP || call == SPOILT || call == FREE_SLOT) {
             change(bytes + 1, frame - 1);
             return length;
         }

@@ -11,25 +11,32 @@
  *
  * Areas. An area is a pointer and a length, lent for the call: nothing of it is kept afterwards.
  *
- * - The areas of one call (frame or payload, table, output or working area) may not overlap; in
+ * - The areas of one call (map, frame or payload, table, output or working area) may not overlap; in
  *   particular a native frame cannot be delivered in place, into the frame it came from.
  * - A length may not exceed the memory behind its pointer. No alignment is needed.
- * - A pointer given to a call of the archive is never NULL, also at length 0. The wrappers whose names
- *   end in _any take NULL with length 0 and pass the address of a static byte instead.
+ * - A pointer given to a call of the archive is never NULL, also at length 0. The inline calls, whose names
+ *   end in _any, take NULL with length 0 and pass the address of a static byte instead. They take the
+ *   settings, and a port's map with them, as a struct.
  * - An area that is lent as const is not written. An output or working area keeps its bytes behind
  *   what is written.
  *
  * Threads. The archive has no state of its own, takes no lock and never waits: any number of threads
  * may call it at once.
  *
- * - An area that a call writes (output, working area, and the table of receive, age and every flush) may
- *   not be used by another thread until the call has returned. A table that threads share needs a lock
- *   of theirs: shared for lookup, spoilt, free slot and widen, exclusive for receive, age and every flush.
+ * - An area that a call writes (output, working area, and the table of receive, receive_port, age and every
+ *   flush) may not be used by another thread until the call has returned. A table that threads share needs
+ *   a lock of theirs: shared for lookup, spoilt, free slot and widen, exclusive for receive, receive_port,
+ *   age and every flush.
  * - A thread needs SHINGLEBAR_STACK_MAX bytes of stack for a call, beside its own. There is no heap.
  *
  * Bridge messages. A frame with 01-80-C2-00-00-00 to 0F or 21 in front answers 5 in receive, with Compact
  * on too, and in compact, send and expand. A driver whose port watches for a shared link may report such a
  * frame to the watch (shinglebar_watch_event). To these inner destinations send answers the received frame itself.
+ *
+ * Maps. A port's map pairs its own VLANs with fine-grained labels of the campus: two numberings. A pair is
+ * SHINGLEBAR_PAIR_LENGTH bytes, VLAN (2 bytes) and label (4), most significant byte first, in any order of
+ * pairs; shinglebar_pack_pair writes one. No VLAN and no label is in it twice. A map of no bytes is none. It
+ * is judged at every call that takes it, receive_port and ingress; no other call does.
  *
  * docs/FORMATS.md has the layouts of records, frames and flush payloads, and the order of refusals.
  * SHINGLEBAR_VERSION is the one version of archive, header, driver, pkg-config file and Rust package.
@@ -57,14 +64,18 @@
 /* The longest payload that is written: an output area in which every one has room. */
 #define SHINGLEBAR_WRITTEN_LENGTH_MAX 6172
 
+/* The bytes of a pair of a map, and of the longest map that is good: a pair for each VLAN. */
+#define SHINGLEBAR_PAIR_LENGTH 6
+#define SHINGLEBAR_MAP_LENGTH_MAX 24564
+
 /* The bytes of stack that a call takes at most: any call (a long flush takes most, so a frame that
- * brings one does), and a call that carries out no flush, which is every call but receive, flush,
- * flush_vlan_only and flush_portion.
+ * brings one does), and a call that carries out no flush, which is every call but receive, receive_port,
+ * flush, flush_vlan_only and flush_portion.
  * Measured on x86-64: tests/c/stack.c paints the stack of a thread, makes the calls that take most, and
  * fails where one takes more. What the dynamic loader takes when it binds memmove and memset, about
  * 3,000 bytes, is counted. */
 #define SHINGLEBAR_STACK_MAX 98304
-#define SHINGLEBAR_STACK_MAX_WITHOUT_FLUSH 4096
+#define SHINGLEBAR_STACK_MAX_WITHOUT_FLUSH 8192
 
 /* The refusal numbers. shinglebar_refusal_string has the words. */
 enum shinglebar_refusal_number {
@@ -104,13 +115,17 @@ enum shinglebar_refusal_number {
     SHINGLEBAR_REFUSAL_NOT_COMPACTABLE = 17,
     /* a General frame given where Compact is required */
     SHINGLEBAR_REFUSAL_GENERAL = 18,
+    /* map: a VLAN or label twice, a VLAN outside 1 to FFE, a label over FFFFFF, or a length that is no multiple of 6 */
+    SHINGLEBAR_REFUSAL_MAP = 21,
+    /* no pair found in the map */
+    SHINGLEBAR_REFUSAL_NO_PAIR = 22,
     /* lists that cannot be written as a flush */
     SHINGLEBAR_REFUSAL_LISTS = 23,
     /* k is 0, or the slot number is n or more */
     SHINGLEBAR_REFUSAL_PORTION = 24
 };
 
-/* The kinds of results that are no refusals, by call. */
+/* The kinds of results that are no refusals, by call; those of receive are those of receive_port too. */
 enum shinglebar_receive_kind {
     SHINGLEBAR_RECEIVE_ONWARD = 64,
     /* shinglebar_native_length, _learning, _label_kind, _label */
@@ -143,6 +158,11 @@ enum shinglebar_expand_kind {
 enum shinglebar_write_flush_kind {
     /* shinglebar_written_length */
     SHINGLEBAR_WRITE_FLUSH_WRITTEN = 64
+};
+
+enum shinglebar_ingress_kind {
+    /* shinglebar_written_length */
+    SHINGLEBAR_INGRESS_WRITTEN = 64
 };
 
 enum shinglebar_send_kind {
@@ -262,6 +282,33 @@ struct shinglebar_watch {
     uint32_t reading;
 };
 
+/*
+ * The settings of a port and its map, for the inline calls. Fields that an initialiser leaves out are 0 and
+ * NULL: no map. A call that has no use for a field does not read it.
+ */
+struct shinglebar_settings {
+    uint64_t port;
+    uint64_t inner;
+    uint32_t nickname;
+    uint32_t compact;
+    uint32_t confidence;
+    uint32_t seconds;
+    uint32_t multihomed; /* receive_port; 0, 1 or 2, another number is refusal 1 */
+    uint32_t smart;      /* receive_port; 0, another number is refusal 1 */
+    const uint8_t *map;  /* receive_port, ingress */
+    size_t map_len;
+};
+
+/* What ingress puts around a native frame. */
+struct shinglebar_encapsulation {
+    uint64_t outer_destination; /* an individual address, or 01-80-C2-00-00-40 where m is 1 */
+    uint64_t outer_source;      /* an individual address */
+    uint32_t m;                 /* 0 or 1 */
+    uint32_t hop_count;         /* 1 to 63 */
+    uint32_t egress;            /* a nickname, 0001 to FFBF */
+    uint32_t ingress;           /* a nickname, 0001 to FFBF; the own one too */
+};
+
 #ifdef __cplusplus
 extern "C" {
 #endif
@@ -324,6 +371,28 @@ uint64_t shinglebar_receive(uint64_t port, uint64_t inner, uint32_t nickname, ui
                             uint32_t confidence, uint32_t seconds, const uint8_t *frame,
                             size_t frame_len, uint8_t *table, size_t table_len, uint8_t *out,
                             size_t out_len);
+
+/* The same at a port with a map: a fine-grained frame is delivered with the VLAN that its label has here, as
+ * an 8100 tag after the two addresses, with the priority of the label's second part and DEI 0; with no pair
+ * for it the answer is 22. The result names the label of the campus, by which the source is learned, and the
+ * length with the tag. Frames with a VLAN label are delivered as by shinglebar_receive, and with an empty map
+ * and multihomed and smart 0 it is that call. `multihomed` names the TRILL header's R bit that marks frames of
+ * stations on two switches: 0 none, 1 the first, 2 the second. A marked frame's record is multihomed, and an
+ * address has such a record for each home. `smart` is 0 for now: another number is refusal 1. */
+uint64_t shinglebar_receive_port(uint64_t port, uint64_t inner, uint32_t nickname, uint32_t compact,
+                                 uint32_t confidence, uint32_t seconds, uint32_t multihomed,
+                                 uint32_t smart, const uint8_t *map, size_t map_len,
+                                 const uint8_t *frame, size_t frame_len, uint8_t *table,
+                                 size_t table_len, uint8_t *out, size_t out_len);
+
+/* Makes a General frame without outer tag of a native frame that came in at a port with a map: its 8100 tag
+ * becomes the fine-grained label that its VLAN has on the campus, with the tag's priority in both parts and
+ * DEI 0. The other numbers are those of struct shinglebar_encapsulation. The result is 24 bytes longer. */
+uint64_t shinglebar_ingress(uint64_t port, uint64_t inner, uint32_t nickname, uint32_t compact,
+                            uint32_t confidence, uint32_t seconds, const uint8_t *map,
+                            size_t map_len, uint64_t outer_destination, uint64_t outer_source,
+                            uint32_t m, uint32_t hop_count, uint32_t egress, uint32_t ingress,
+                            const uint8_t *frame, size_t frame_len, uint8_t *out, size_t out_len);
 
 /* Compacts a General frame for a far port with these settings. */
 uint64_t shinglebar_compact(uint64_t port, uint64_t inner, uint32_t nickname, uint32_t compact,
@@ -439,8 +508,9 @@ static inline unsigned shinglebar_examined(uint64_t result)
     return (unsigned)((result >> 40) & 0xFFFFu);
 }
 
-/* Of SHINGLEBAR_COMPACT_WRITTEN, SHINGLEBAR_EXPAND_WRITTEN, SHINGLEBAR_WIDEN_WRITTEN and
- * SHINGLEBAR_SEND_COMPACTED: the bytes written to the output or working area. */
+/* Of SHINGLEBAR_COMPACT_WRITTEN, SHINGLEBAR_EXPAND_WRITTEN, SHINGLEBAR_INGRESS_WRITTEN,
+ * SHINGLEBAR_WIDEN_WRITTEN, SHINGLEBAR_WRITE_FLUSH_WRITTEN and SHINGLEBAR_SEND_COMPACTED: the bytes written
+ * to the output or working area. */
 static inline size_t shinglebar_written_length(uint64_t result)
 {
     return (size_t)((result >> 8) & 0xFFFFu);
@@ -470,7 +540,6 @@ static inline unsigned shinglebar_unpacked(uint64_t result)
     return (unsigned)((result >> 32) & 0xFFFFu);
 }
 
-
 /* What a refusal means, in words, or "no refusal". Takes a result or a refusal number. */
 static inline const char *shinglebar_refusal_string(uint64_t result)
 {
@@ -494,10 +563,10 @@ static inline const char *shinglebar_refusal_string(uint64_t result)
         "output area shorter than the result",
         "frame may not be compacted",
         "a General frame given where Compact is required",
-        NULL, /* 19 to 22 are no refusals */
+        NULL, /* 19 and 20 are no refusals */
         NULL,
-        NULL,
-        NULL,
+        "map: a VLAN or label twice, a VLAN outside 1 to FFE, a label over FFFFFF, or a length that is no multiple of 6",
+        "no pair found in the map",
         "lists that cannot be written as a flush",
         "k is 0, or the slot number is n or more"
     };
@@ -568,12 +637,23 @@ static inline int shinglebar_pack_record(const struct shinglebar_record *record,
     return 1;
 }
 
+/* Writes a pair to SHINGLEBAR_PAIR_LENGTH bytes of a map. Whether the map is good is the archive's to say. */
+static inline void shinglebar_pack_pair(uint16_t vlan, uint32_t label, uint8_t *pair)
+{
+    pair[0] = (uint8_t)(vlan >> 8);
+    pair[1] = (uint8_t)(vlan & 0xFF);
+    pair[2] = (uint8_t)(label >> 24);
+    pair[3] = (uint8_t)(label >> 16 & 0xFF);
+    pair[4] = (uint8_t)(label >> 8 & 0xFF);
+    pair[5] = (uint8_t)(label & 0xFF);
+}
+
 /*
- * Wrappers that take NULL with length 0 for any area.
+ * Inline calls: settings (and map) as a struct, and NULL with length 0 for any area.
  *
- * A wrapper that a program does not use is not emitted and asks nothing of the archive. Where the
- * compiler is told to emit unused inline functions (-fkeep-inline-functions), a program that uses only
- * lookup, age, spoilt and free slot can define SHINGLEBAR_TABLE_ONLY to leave the other calls out.
+ * One that a program does not use is not emitted and asks nothing of the archive. Where the compiler is
+ * told to emit unused inline functions (-fkeep-inline-functions), a program that uses only lookup, age,
+ * spoilt, free slot and widen can define SHINGLEBAR_TABLE_ONLY to leave the other calls out.
  */
 
 static inline uint8_t *shinglebar_area(uint8_t *area, size_t length)
@@ -639,46 +719,61 @@ static inline uint64_t shinglebar_flush_portion_any(uint32_t ingress, const uint
                                     slot, k, shinglebar_area(table, table_len), table_len);
 }
 
-static inline uint64_t shinglebar_receive_any(uint64_t port, uint64_t inner, uint32_t nickname,
-                                              uint32_t compact, uint32_t confidence,
-                                              uint32_t seconds, const uint8_t *frame,
-                                              size_t frame_len, uint8_t *table, size_t table_len,
-                                              uint8_t *out, size_t out_len)
+/* By shinglebar_receive_port. */
+static inline uint64_t shinglebar_receive_any(const struct shinglebar_settings *settings,
+                                              const uint8_t *frame, size_t frame_len,
+                                              uint8_t *table, size_t table_len, uint8_t *out,
+                                              size_t out_len)
 {
-    return shinglebar_receive(port, inner, nickname, compact, confidence, seconds,
+    return shinglebar_receive_port(settings->port, settings->inner, settings->nickname,
+                                   settings->compact, settings->confidence, settings->seconds,
+                                   settings->multihomed, settings->smart,
+                                   shinglebar_const_area(settings->map, settings->map_len),
+                                   settings->map_len, shinglebar_const_area(frame, frame_len),
+                                   frame_len, shinglebar_area(table, table_len), table_len,
+                                   shinglebar_area(out, out_len), out_len);
+}
+
+static inline uint64_t shinglebar_ingress_any(const struct shinglebar_settings *settings,
+                                              const struct shinglebar_encapsulation *given,
+                                              const uint8_t *frame, size_t frame_len, uint8_t *out,
+                                              size_t out_len)
+{
+    return shinglebar_ingress(settings->port, settings->inner, settings->nickname,
+                              settings->compact, settings->confidence, settings->seconds,
+                              shinglebar_const_area(settings->map, settings->map_len),
+                              settings->map_len, given->outer_destination, given->outer_source,
+                              given->m, given->hop_count, given->egress, given->ingress,
                               shinglebar_const_area(frame, frame_len), frame_len,
-                              shinglebar_area(table, table_len), table_len,
                               shinglebar_area(out, out_len), out_len);
 }
 
-static inline uint64_t shinglebar_compact_any(uint64_t port, uint64_t inner, uint32_t nickname,
-                                              uint32_t compact, uint32_t confidence,
-                                              uint32_t seconds, const uint8_t *frame,
-                                              size_t frame_len, uint8_t *out, size_t out_len)
+static inline uint64_t shinglebar_compact_any(const struct shinglebar_settings *far,
+                                              const uint8_t *frame, size_t frame_len, uint8_t *out,
+                                              size_t out_len)
 {
-    return shinglebar_compact(port, inner, nickname, compact, confidence, seconds,
-                              shinglebar_const_area(frame, frame_len), frame_len,
+    return shinglebar_compact(far->port, far->inner, far->nickname, far->compact, far->confidence,
+                              far->seconds, shinglebar_const_area(frame, frame_len), frame_len,
                               shinglebar_area(out, out_len), out_len);
 }
 
-static inline uint64_t shinglebar_expand_any(uint64_t port, uint64_t inner, uint32_t nickname,
-                                             uint32_t compact, uint32_t confidence,
-                                             uint32_t seconds, uint64_t outer_source,
-                                             uint32_t tagged, uint32_t tag, const uint8_t *frame,
-                                             size_t frame_len, uint8_t *out, size_t out_len)
+static inline uint64_t shinglebar_expand_any(const struct shinglebar_settings *far,
+                                             uint64_t outer_source, uint32_t tagged, uint32_t tag,
+                                             const uint8_t *frame, size_t frame_len, uint8_t *out,
+                                             size_t out_len)
 {
-    return shinglebar_expand(port, inner, nickname, compact, confidence, seconds, outer_source,
-                             tagged, tag, shinglebar_const_area(frame, frame_len), frame_len,
+    return shinglebar_expand(far->port, far->inner, far->nickname, far->compact, far->confidence,
+                             far->seconds, outer_source, tagged, tag,
+                             shinglebar_const_area(frame, frame_len), frame_len,
                              shinglebar_area(out, out_len), out_len);
 }
 
-static inline uint64_t shinglebar_send_any(uint64_t port, uint64_t inner, uint32_t nickname,
-                                           uint32_t compact, uint32_t confidence, uint32_t seconds,
+static inline uint64_t shinglebar_send_any(const struct shinglebar_settings *far,
                                            const uint8_t *frame, size_t frame_len, uint8_t *work,
                                            size_t work_len)
 {
-    return shinglebar_send(port, inner, nickname, compact, confidence, seconds,
-                           shinglebar_const_area(frame, frame_len), frame_len,
+    return shinglebar_send(far->port, far->inner, far->nickname, far->compact, far->confidence,
+                           far->seconds, shinglebar_const_area(frame, frame_len), frame_len,
                            shinglebar_area(work, work_len), work_len);
 }
 
@@ -695,13 +790,13 @@ static inline uint64_t shinglebar_write_flush_any(const uint8_t *nicknames, size
                                   shinglebar_area(out, out_len), out_len);
 }
 
-static inline uint64_t shinglebar_send_watched_any(uint64_t port, uint64_t inner, uint32_t nickname,
-                                                   uint32_t compact, uint32_t confidence,
-                                                   uint32_t seconds, struct shinglebar_watch *watch,
-                                                   uint32_t now, const uint8_t *frame,
-                                                   size_t frame_len, uint8_t *work, size_t work_len)
+static inline uint64_t shinglebar_send_watched_any(const struct shinglebar_settings *far,
+                                                   struct shinglebar_watch *watch, uint32_t now,
+                                                   const uint8_t *frame, size_t frame_len,
+                                                   uint8_t *work, size_t work_len)
 {
-    return shinglebar_send_watched(port, inner, nickname, compact, confidence, seconds, watch, now,
+    return shinglebar_send_watched(far->port, far->inner, far->nickname, far->compact,
+                                   far->confidence, far->seconds, watch, now,
                                    shinglebar_const_area(frame, frame_len), frame_len,
                                    shinglebar_area(work, work_len), work_len);
 }

@@ -5,8 +5,9 @@
 
 pub use shinglebar::exports::{
     shinglebar_age, shinglebar_compact, shinglebar_expand, shinglebar_flush,
-    shinglebar_flush_portion, shinglebar_flush_vlan_only, shinglebar_free_slot, shinglebar_lookup,
-    shinglebar_receive, shinglebar_send, shinglebar_spoilt, shinglebar_write_flush,
+    shinglebar_flush_portion, shinglebar_flush_vlan_only, shinglebar_free_slot, shinglebar_ingress,
+    shinglebar_lookup, shinglebar_receive, shinglebar_receive_port, shinglebar_send,
+    shinglebar_spoilt, shinglebar_widen, shinglebar_write_flush,
 };
 
 pub type Lookup = unsafe extern "C" fn(
@@ -51,6 +52,49 @@ pub type Receive = unsafe extern "C" fn(
     frame_len: usize,
     table: *mut u8,
     table_len: usize,
+    out: *mut u8,
+    out_len: usize,
+) -> u64;
+
+pub type Widen =
+    unsafe extern "C" fn(old: *const u8, old_len: usize, out: *mut u8, out_len: usize) -> u64;
+
+pub type ReceivePort = unsafe extern "C" fn(
+    port: u64,
+    inner: u64,
+    nickname: u32,
+    compact: u32,
+    confidence: u32,
+    seconds: u32,
+    multihomed: u32,
+    smart: u32,
+    map: *const u8,
+    map_len: usize,
+    frame: *const u8,
+    frame_len: usize,
+    table: *mut u8,
+    table_len: usize,
+    out: *mut u8,
+    out_len: usize,
+) -> u64;
+
+pub type Ingress = unsafe extern "C" fn(
+    port: u64,
+    inner: u64,
+    nickname: u32,
+    compact: u32,
+    confidence: u32,
+    seconds: u32,
+    map: *const u8,
+    map_len: usize,
+    outer_destination: u64,
+    outer_source: u64,
+    m: u32,
+    hop_count: u32,
+    egress: u32,
+    ingress: u32,
+    frame: *const u8,
+    frame_len: usize,
     out: *mut u8,
     out_len: usize,
 ) -> u64;

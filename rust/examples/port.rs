@@ -14,6 +14,8 @@ const PORT: Settings = Settings {
     compact: true,
     confidence: 20,
     seconds: 0,
+    multihomed: 0,
+    smart: false,
 };
 
 const SOURCE: Mac = Mac([0x02, 0, 0, 0, 0, 0x01]);

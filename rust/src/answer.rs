@@ -2,12 +2,12 @@
 //!
 //! | call | low byte | bits |
 //! |---|---|---|
-//! | receive | 64 onward | |
-//! | receive | 65 delivered | 8..23 length, 24..25 learning, 32 label kind, 40..63 label |
-//! | receive | 66 other channel | |
-//! | receive, flush, flush_vlan_only | 67 flushed | 8..23 records cleared |
+//! | receive, receive_port | 64 onward | |
+//! | receive, receive_port | 65 delivered | 8..23 length, 24..25 learning, 32 label kind, 40..63 label |
+//! | receive, receive_port | 66 other channel | |
+//! | receive, receive_port, flush, flush_vlan_only | 67 flushed | 8..23 records cleared |
 //! | flush_portion | 64 portion done | 8..23 cleared, 24..39 next slot, 40..55 examined |
-//! | compact, expand, widen, write_flush | 64 written | 8..23 length |
+//! | compact, expand, ingress, widen, write_flush | 64 written | 8..23 length |
 //! | send, send_watched | 64 compacted | 8..23 length |
 //! | send, send_watched | 65 the frame itself | |
 //! | lookup | 64 found | 8..23 nickname |
@@ -109,6 +109,21 @@ pub struct Expanded {
 /// The payload of an Address Flush starts the output area.
 #[derive(Clone, Copy, Debug, PartialEq, Eq, Hash)]
 pub struct Written {
+    /// The bytes written.
+    pub length: usize,
+}
+
+/// What reading a frame at a port with a map came to: the answers of [`Received`], and the refusals of the
+/// map too. The label is the campus label, the length that of the bytes written.
+#[derive(Clone, Copy, Debug, PartialEq, Eq, Hash)]
+pub struct ReceivedAtPort(
+    /// The answer.
+    pub Received,
+);
+
+/// The General frame that ingress made starts the output area.
+#[derive(Clone, Copy, Debug, PartialEq, Eq, Hash)]
+pub struct Ingressed {
     /// The bytes written.
     pub length: usize,
 }
@@ -362,6 +377,66 @@ impl Answer for Received {
             Received::OtherChannel => 66,
             Received::Flushed { count } => with_value(67, count),
         }
+    }
+}
+
+impl Answer for ReceivedAtPort {
+    const REFUSALS: &'static [Refusal] = &[
+        Refusal::Settings,
+        Refusal::TableLength,
+        Refusal::FrameLength,
+        Refusal::NotTrill,
+        Refusal::NotForThisPort,
+        Refusal::Cut,
+        Refusal::Version,
+        Refusal::HopCount,
+        Refusal::Nickname,
+        Refusal::Label,
+        Refusal::GroupSource,
+        Refusal::Multicast,
+        Refusal::ReservedDestination,
+        Refusal::Channel,
+        Refusal::Payload,
+        Refusal::OutputLength,
+        Refusal::Map,
+        Refusal::NoPair,
+    ];
+
+    fn from_word(word: u64) -> Option<ReceivedAtPort> {
+        Received::from_word(word).map(ReceivedAtPort)
+    }
+
+    fn word(&self) -> u64 {
+        self.0.word()
+    }
+}
+
+impl Answer for Ingressed {
+    const REFUSALS: &'static [Refusal] = &[
+        Refusal::Settings,
+        Refusal::FrameLength,
+        Refusal::Cut,
+        Refusal::HopCount,
+        Refusal::Nickname,
+        Refusal::Label,
+        Refusal::GroupSource,
+        Refusal::Multicast,
+        Refusal::OutputLength,
+        Refusal::Map,
+        Refusal::NoPair,
+    ];
+
+    fn from_word(word: u64) -> Option<Ingressed> {
+        match kind(word) {
+            64 => Some(Ingressed {
+                length: length(word)?,
+            }),
+            _ => None,
+        }
+    }
+
+    fn word(&self) -> u64 {
+        with_length(64, self.length)
     }
 }
 

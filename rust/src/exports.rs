@@ -28,6 +28,46 @@ extern "C" {
         out_len: usize,
     ) -> u64;
 
+    pub fn shinglebar_receive_port(
+        port: u64,
+        inner: u64,
+        nickname: u32,
+        compact: u32,
+        confidence: u32,
+        seconds: u32,
+        multihomed: u32,
+        smart: u32,
+        map: *const u8,
+        map_len: usize,
+        frame: *const u8,
+        frame_len: usize,
+        table: *mut u8,
+        table_len: usize,
+        out: *mut u8,
+        out_len: usize,
+    ) -> u64;
+
+    pub fn shinglebar_ingress(
+        port: u64,
+        inner: u64,
+        nickname: u32,
+        compact: u32,
+        confidence: u32,
+        seconds: u32,
+        map: *const u8,
+        map_len: usize,
+        outer_destination: u64,
+        outer_source: u64,
+        m: u32,
+        hop_count: u32,
+        egress: u32,
+        ingress: u32,
+        frame: *const u8,
+        frame_len: usize,
+        out: *mut u8,
+        out_len: usize,
+    ) -> u64;
+
     pub fn shinglebar_flush(
         ingress: u32,
         payload: *const u8,

@@ -8,6 +8,8 @@
 //! | call | what it does |
 //! |---|---|
 //! | [`receive`] | reads a frame: delivers a native frame and learns its source, or carries out a flush |
+//! | [`receive_port`] | the same at a port with a map between its VLANs and the campus's fine-grained labels |
+//! | [`ingress`] | makes a General frame of a native one that came in at such a port |
 //! | [`flush`] | carries out the payload of an Address Flush |
 //! | [`flush_portion`] | carries out a portion of it, at most so many slots |
 //! | [`flush_vlan_only`] | carries it out as the VLAN-only model does |
@@ -33,6 +35,7 @@
 //!     compact: true,
 //!     confidence: 20,
 //!     seconds: 0,
+//!     ..Settings::default()
 //! };
 //! // Compact Format: inner addresses, VLAN 10, TRILL header from 1234 to 0102, content.
 //! let frame = [
@@ -64,18 +67,17 @@ pub mod exports;
 pub mod raw;
 mod refusal;
 mod values;
-mod write;
 mod watch;
+mod write;
 
 pub use answer::{
-    decode, encode, Aged, Answer, Compacted, Expanded, Flushed, Found, FreeSlot, Learning,
-    Portioned, Received, Sent, Spoilt, UnknownWord, Widened,
-    Written,
+    decode, encode, Aged, Answer, Compacted, Expanded, Flushed, Found, FreeSlot, Ingressed,
+    Learning, Portioned, Received, ReceivedAtPort, Sent, Spoilt, UnknownWord, Widened, Written,
 };
 pub use refusal::Refusal;
-pub use values::{Label, Mac, Outer, Settings};
-pub use write::{write_flush, Asked};
+pub use values::{CampusLabel, Encapsulation, Label, Mac, Outer, Pair, PortVlan, Settings};
 pub use watch::{send_watched, Event, Left, Watch};
+pub use write::{write_flush, Asked};
 
 /// The version of the package, which is that of the library's header.
 pub const VERSION: &str = env!("CARGO_PKG_VERSION");
@@ -118,6 +120,7 @@ fn answered<A: Answer>(word: u64) -> Result<A, Refusal> {
 ///     compact: false,
 ///     confidence: 20,
 ///     seconds: 0,
+///     ..Settings::default()
 /// };
 /// let mut table = [0; shinglebar::RECORD_LENGTH];
 /// let refused = shinglebar::receive(&settings, &[0xFF; 60], &mut table, &mut []);
@@ -131,6 +134,110 @@ pub fn receive(
     out: &mut [u8],
 ) -> Result<Received, Refusal> {
     answered(raw::receive(&settings.into(), frame, table, out))
+}
+
+/// Reads one Ethernet frame at a port with these settings and this map: as [`receive`], but a
+/// fine-grained frame is delivered with a tag of the VLAN that its label has on this port. With an
+/// empty map it is [`receive`].
+///
+/// ```
+/// use shinglebar::{CampusLabel, Encapsulation, Ingressed, Label, Learning, Mac, Pair, PortVlan};
+/// use shinglebar::{Received, Refusal, Settings};
+///
+/// let settings = Settings {
+///     port: Mac([0x02, 0, 0, 0, 0, 0xA1]),
+///     inner: Mac([0x02, 0, 0, 0, 0, 0xB1]),
+///     nickname: 0x0102,
+///     ..Settings::default()
+/// };
+/// // VLAN 10 of both ports is the campus's fine-grained label ABCDEF.
+/// let map = [Pair::new(PortVlan(10), CampusLabel(0xABCDEF))];
+/// let native = [
+///     0x02, 0, 0, 0, 0, 0x0D, 0x02, 0, 0, 0, 0, 0x01, 0x81, 0x00, 0x60, 0x0A, 0x08, 0x00, 0x45, 0x00,
+/// ];
+/// let given = Encapsulation {
+///     outer_destination: settings.port,
+///     outer_source: Mac([0x02, 0, 0, 0, 0, 0xB2]),
+///     multicast: false,
+///     hop_count: 5,
+///     egress: 0x0102,
+///     ingress: 0x1234,
+/// };
+/// let mut general = [0; 44];
+/// let ingressed = shinglebar::ingress(&settings, &map, &given, &native, &mut general);
+/// assert_eq!(ingressed, Ok(Ingressed { length: 44 }));
+///
+/// let mut table = [0; shinglebar::RECORD_LENGTH];
+/// let mut out = [0; 20];
+/// let delivered = Received::Delivered {
+///     length: 20,
+///     learning: Learning::Learned,
+///     label: Label::Fine(0xABCDEF),
+/// };
+/// let read = shinglebar::receive_port(&settings, &map, &general, &mut table, &mut out);
+/// assert_eq!((read, out), (Ok(delivered), native));
+///
+/// let other = [Pair::new(PortVlan(10), CampusLabel(0xABCDEE))];
+/// let read = shinglebar::receive_port(&settings, &other, &general, &mut table, &mut out);
+/// assert_eq!(read, Err(Refusal::NoPair));
+/// ```
+#[inline]
+pub fn receive_port(
+    settings: &Settings,
+    map: &[Pair],
+    frame: &[u8],
+    table: &mut [u8],
+    out: &mut [u8],
+) -> Result<Received, Refusal> {
+    let map = raw::map_bytes(map);
+    answered(raw::receive_port(&settings.into(), map, frame, table, out))
+        .map(|ReceivedAtPort(received)| received)
+}
+
+/// Makes a General frame of a native one that came in, tagged, at a port with these settings and this
+/// map: its VLAN becomes the fine-grained label that it has on the campus.
+///
+/// ```
+/// use shinglebar::{CampusLabel, Encapsulation, Mac, Pair, PortVlan, Refusal, Settings};
+///
+/// let settings = Settings {
+///     port: Mac([0x02, 0, 0, 0, 0, 0xA1]),
+///     inner: Mac([0x02, 0, 0, 0, 0, 0xB1]),
+///     nickname: 0x0102,
+///     ..Settings::default()
+/// };
+/// let given = Encapsulation {
+///     outer_destination: Mac([0x02, 0, 0, 0, 0, 0xA2]),
+///     outer_source: settings.port,
+///     multicast: false,
+///     hop_count: 5,
+///     egress: 0x1234,
+///     ingress: 0x0102,
+/// };
+/// let untagged = [0x02, 0, 0, 0, 0, 0x0D, 0x02, 0, 0, 0, 0, 0x01, 0x08, 0x00, 0x45, 0x00];
+/// let twice = [Pair::new(PortVlan(10), CampusLabel(7)), Pair::new(PortVlan(11), CampusLabel(7))];
+/// let mut out = [0; 64];
+/// let refused = shinglebar::ingress(&settings, &twice, &given, &untagged, &mut out);
+/// assert_eq!(refused, Err(Refusal::Map));
+/// let refused = shinglebar::ingress(&settings, &twice[..1], &given, &untagged, &mut out);
+/// assert_eq!(refused, Err(Refusal::Label));
+/// ```
+#[inline]
+pub fn ingress(
+    settings: &Settings,
+    map: &[Pair],
+    given: &Encapsulation,
+    frame: &[u8],
+    out: &mut [u8],
+) -> Result<Ingressed, Refusal> {
+    let map = raw::map_bytes(map);
+    answered(raw::ingress(
+        &settings.into(),
+        map,
+        &given.into(),
+        frame,
+        out,
+    ))
 }
 
 /// Carries out the payload of an Address Flush that came with this ingress nickname; one outside
@@ -232,6 +339,7 @@ pub fn compact(far: &Settings, frame: &[u8], out: &mut [u8]) -> Result<Compacted
 ///     compact: true,
 ///     confidence: 20,
 ///     seconds: 0,
+///     ..Settings::default()
 /// };
 /// let outer = Outer {
 ///     source: Mac([0x02, 0, 0, 0, 0, 0xB2]),

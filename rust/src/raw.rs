@@ -5,12 +5,11 @@
 
 #![allow(unsafe_code)]
 
-use crate::exports;
-use crate::Watch;
+use crate::{exports, Pair, Watch};
 
 /// The settings of a port as the C boundary passes them: any numbers. Those out of range are
-/// refusal 1.
-#[derive(Clone, Copy, Debug, PartialEq, Eq)]
+/// refusal 1. Only [`receive_port`] takes the last two.
+#[derive(Clone, Copy, Debug, Default, PartialEq, Eq)]
 pub struct Settings {
     /// The port's address, a number below 2^48, the first byte on the wire most significant.
     pub port: u64,
@@ -24,6 +23,10 @@ pub struct Settings {
     pub confidence: u32,
     /// The learning seconds, 0 for the default.
     pub seconds: u32,
+    /// The R bit that marks frames of a station on two switches: 0 none, 1 the first, 2 the second.
+    pub multihomed: u32,
+    /// 0.
+    pub smart: u32,
 }
 
 /// The part of a General frame that an expansion adds, as the C boundary passes it: any numbers.
@@ -35,6 +38,23 @@ pub struct Outer {
     pub tagged: u32,
     /// The number in the outer tag; not read without one.
     pub tag: u32,
+}
+
+/// What ingress puts around a native frame, as the C boundary passes it: any numbers.
+#[derive(Clone, Copy, Debug, PartialEq, Eq)]
+pub struct Encapsulation {
+    /// The outer destination.
+    pub outer_destination: u64,
+    /// The outer source.
+    pub outer_source: u64,
+    /// The M bit of the header.
+    pub m: u32,
+    /// The hop count of the header.
+    pub hop_count: u32,
+    /// The egress nickname of the header.
+    pub egress: u32,
+    /// The ingress nickname of the header.
+    pub ingress: u32,
 }
 
 /// Reads one Ethernet frame.
@@ -58,6 +78,82 @@ pub fn receive(settings: &Settings, frame: &[u8], table: &mut [u8], out: &mut [u
             out.len(),
         )
     }
+}
+
+/// Reads one Ethernet frame at a port with a map.
+#[inline]
+pub fn receive_port(
+    settings: &Settings,
+    map: &[u8],
+    frame: &[u8],
+    table: &mut [u8],
+    out: &mut [u8],
+) -> u64 {
+    // SAFETY: four slices: none is null, each is as long as said, and the two that are lent for
+    // writing overlap nothing, being `&mut`.
+    unsafe {
+        exports::shinglebar_receive_port(
+            settings.port,
+            settings.inner,
+            settings.nickname,
+            settings.compact,
+            settings.confidence,
+            settings.seconds,
+            settings.multihomed,
+            settings.smart,
+            map.as_ptr(),
+            map.len(),
+            frame.as_ptr(),
+            frame.len(),
+            table.as_mut_ptr(),
+            table.len(),
+            out.as_mut_ptr(),
+            out.len(),
+        )
+    }
+}
+
+/// Makes a General frame of a native one that came in at a port with a map.
+#[inline]
+pub fn ingress(
+    settings: &Settings,
+    map: &[u8],
+    given: &Encapsulation,
+    frame: &[u8],
+    out: &mut [u8],
+) -> u64 {
+    // SAFETY: three slices: none is null, each is as long as said, and the one that is lent for
+    // writing overlaps nothing, being `&mut`.
+    unsafe {
+        exports::shinglebar_ingress(
+            settings.port,
+            settings.inner,
+            settings.nickname,
+            settings.compact,
+            settings.confidence,
+            settings.seconds,
+            map.as_ptr(),
+            map.len(),
+            given.outer_destination,
+            given.outer_source,
+            given.m,
+            given.hop_count,
+            given.egress,
+            given.ingress,
+            frame.as_ptr(),
+            frame.len(),
+            out.as_mut_ptr(),
+            out.len(),
+        )
+    }
+}
+
+/// The bytes of a map.
+#[inline]
+pub fn map_bytes(map: &[Pair]) -> &[u8] {
+    // SAFETY: a pair is its six bytes and nothing else (`repr(transparent)`), so the slice is so many
+    // times six bytes, which live as long and are only read.
+    unsafe { core::slice::from_raw_parts(map.as_ptr().cast(), core::mem::size_of_val(map)) }
 }
 
 /// Carries out the payload of an Address Flush.

@@ -57,6 +57,8 @@ refusals! {
     OutputLength = 16, "output area shorter than the result";
     NotCompactable = 17, "frame may not be compacted";
     General = 18, "a General frame given where Compact is required";
+    Map = 21, "map: a VLAN or label twice, a VLAN outside 1 to FFE, a label over FFFFFF, or a length that is no multiple of 6";
+    NoPair = 22, "no pair found in the map";
     Lists = 23, "lists that cannot be written as a flush";
     Portion = 24, "k is 0, or the slot number is n or more";
 }

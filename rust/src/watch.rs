@@ -139,6 +139,7 @@ impl Watch {
 ///     compact: true,
 ///     confidence: 20,
 ///     seconds: 0,
+///     ..Settings::default()
 /// };
 /// let frame = [
 ///     0x02, 0, 0, 0, 0, 0xA1, 0x02, 0, 0, 0, 0, 0xB2, 0x22, 0xF3, 0x00, 0x05, 0x01, 0x02, 0x12,

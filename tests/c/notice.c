@@ -24,6 +24,7 @@ static unsigned long seen(const char *digits, size_t length, int kind)
 
 int main(void)
 {
+    const struct shinglebar_settings far = {0x0200000000A1u, 0x0200000000B1u, 0x0102, 1, 20, 0, 0, 0, NULL, 0};
     struct shinglebar_watch watch = {0, 0};
     uint64_t result;
 
@@ -55,7 +56,7 @@ int main(void)
     expect("stopped", watch.left, 131070);
     expect("unknown kind", shinglebar_watch_event(&watch, 6, 4, 0), 1);
     expect("as it was", watch.reading, 5);
-    expect("send with NULL", shinglebar_send_watched_any(0x0200000000A1u, 0x0200000000B1u, 0x0102, 1, 20, 0, &watch, 9, NULL, 0, NULL, 0), 16);
+    expect("send with NULL", shinglebar_send_watched_any(&far, &watch, 9, NULL, 0, NULL, 0), 16);
     expect("a second less", shinglebar_seconds_left(shinglebar_watch_tick(&watch, 6)), 131069);
     expect("reset", shinglebar_seconds_left(shinglebar_watch_reset(&watch, 7)), 0);
     expect("the reading", watch.reading, 7);

@@ -1,4 +1,4 @@
-/* The wrappers of lookup, age and spoilt with NULL and with a table, and the decoders. Compiled as C
+/* The inline calls of lookup, age and spoilt with NULL and with a table, and the decoders. Compiled as C
  * and as C++. */
 #include "shinglebar.h"
 
@@ -75,12 +75,12 @@ static void decoders(void)
     uint64_t written = (UINT64_C(9204) << 8) | SHINGLEBAR_COMPACT_WRITTEN;
     uint64_t number;
 
-    for (number = 1; number <= 18; number++) {
+    for (number = 1; number <= 22; number++) {
         expect("a refusal", (uint64_t)shinglebar_is_refusal(number), 1);
         expect("refusal number", shinglebar_refusal(number), number);
         expect("kind of a refusal", shinglebar_kind(number), 0);
     }
-    expect("last refusal", SHINGLEBAR_REFUSAL_GENERAL, 18);
+    expect("last refusal", SHINGLEBAR_REFUSAL_NO_PAIR, 22);
     expect("no refusal", (uint64_t)shinglebar_is_refusal(delivered), 0);
     expect("no refusal number", shinglebar_refusal(delivered), 0);
     expect("onward is no refusal", (uint64_t)shinglebar_is_refusal(SHINGLEBAR_RECEIVE_ONWARD), 0);

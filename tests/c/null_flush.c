@@ -1,4 +1,4 @@
-/* The wrapper of flush with NULL. Compiled as C and as C++. */
+/* The inline call of flush with NULL. Compiled as C and as C++. */
 #include "shinglebar.h"
 
 #include "expect.h"

@@ -33,8 +33,10 @@ static uint8_t table[SHINGLEBAR_TABLE_LENGTH_MAX];
 static uint8_t out[SHINGLEBAR_FRAME_LENGTH_MAX];
 static uint8_t frame[SHINGLEBAR_FRAME_LENGTH_MAX];
 static uint8_t payload[PAYLOAD_MAX];
+static uint8_t map[SHINGLEBAR_MAP_LENGTH_MAX];
 static size_t frame_length;
 static size_t payload_length;
+static size_t map_length;
 
 /* ---- what the calls are made on */
 
@@ -139,11 +141,39 @@ static void make_frame(int compact)
     }
 }
 
+/* A good map of so many pairs, the label of make_frame in the last. */
+static void make_map(unsigned pairs)
+{
+    unsigned i;
+    for (i = 1; i <= pairs; i++)
+        shinglebar_pack_pair((uint16_t)i, i == pairs ? 0x123456 : i * 2731, map + (i - 1) * SHINGLEBAR_PAIR_LENGTH);
+    map_length = (size_t)pairs * SHINGLEBAR_PAIR_LENGTH;
+}
+
+/* A native frame of the most bytes that ingress allows, tagged with VLAN 1. */
+static void make_native(void)
+{
+    put(0, "02000000000D" "020000000001" "81006001");
+    frame_length = SHINGLEBAR_FRAME_LENGTH_MAX - 24;
+}
+
 /* ---- the calls */
 
 static uint64_t call_receive(void)
 {
     return shinglebar_receive(SETTINGS, frame, frame_length, table, sizeof table, out, sizeof out);
+}
+
+static uint64_t call_receive_port(void)
+{
+    return shinglebar_receive_port(SETTINGS, 0, 0, map, map_length, frame, frame_length, table, sizeof table, out,
+                                   sizeof out);
+}
+
+static uint64_t call_ingress(void)
+{
+    return shinglebar_ingress(SETTINGS, map, map_length, PORT, SOURCE, 0, 5, 0x0102, 0x1234, frame, frame_length, out,
+                              sizeof out);
 }
 
 static uint64_t call_flush(void)
@@ -336,10 +366,33 @@ static void others(void)
     within("write_flush", taken("write_flush", call_write_flush, SHINGLEBAR_WRITE_FLUSH_WRITTEN), most);
 }
 
+/* With maps of lengths on both sides of those where judging takes other areas. */
+static void maps(void)
+{
+    static const unsigned PAIRS[] = {1, 2, 8, 16, 17, 32, 33, 50, 64, 65, 100, 128, 129, 256, 257, 1000, 2048, 4094};
+    size_t receive = 0, ingress = 0, took, p;
+    for (p = 0; p < sizeof PAIRS / sizeof PAIRS[0]; p++) {
+        make_map(PAIRS[p]);
+        make_frame(0);
+        took = taken("receive_port", call_receive_port, SHINGLEBAR_RECEIVE_DELIVERED);
+        receive = took > receive ? took : receive;
+        make_native();
+        took = taken("ingress", call_ingress, SHINGLEBAR_INGRESS_WRITTEN);
+        ingress = took > ingress ? took : ingress;
+    }
+    within("receive_port without a flush", receive, SHINGLEBAR_STACK_MAX_WITHOUT_FLUSH);
+    within("ingress", ingress, SHINGLEBAR_STACK_MAX_WITHOUT_FLUSH);
+    make_payload(9170, 255, 0x1FE);
+    make_flush_frame();
+    within("receive_port with a flush", taken("receive_port", call_receive_port, SHINGLEBAR_RECEIVE_FLUSHED),
+           SHINGLEBAR_STACK_MAX);
+}
+
 int main(void)
 {
     fill_table();
     flushes();
     others();
+    maps();
     return failures == 0 ? 0 : 1;
 }

@@ -1,6 +1,6 @@
 /*
- * A receive that does one thing wrong, named by SHINGLEBAR_FAULT: the fuzz target is compiled to call it
- * and must end on its corpus. With no fault named it is the library's.
+ * A receive and an ingress that do one thing wrong, named by SHINGLEBAR_FAULT: the fuzz target is compiled to
+ * call them and must end on its corpus. With no fault named they are the library's.
  */
 #include <stdlib.h>
 #include <string.h>
@@ -10,6 +10,12 @@
 uint64_t wrong_receive(uint64_t port, uint64_t inner, uint32_t nickname, uint32_t compact,
                        uint32_t confidence, uint32_t seconds, const uint8_t *frame, size_t frame_len,
                        uint8_t *table, size_t table_len, uint8_t *out, size_t out_len);
+
+uint64_t wrong_ingress(uint64_t port, uint64_t inner, uint32_t nickname, uint32_t compact,
+                       uint32_t confidence, uint32_t seconds, const uint8_t *map, size_t map_len,
+                       uint64_t outer_destination, uint64_t outer_source, uint32_t m,
+                       uint32_t hop_count, uint32_t egress, uint32_t ingress, const uint8_t *frame,
+                       size_t frame_len, uint8_t *out, size_t out_len);
 
 static int is(const char *fault)
 {
@@ -60,5 +66,27 @@ uint64_t wrong_receive(uint64_t port, uint64_t inner, uint32_t nickname, uint32_
         *((volatile uint8_t *)out - 1) = 0;
     if (is("a write to the frame") && frame_len > 0)
         *(volatile uint8_t *)(uintptr_t)frame = frame[0];
+    return word;
+}
+
+uint64_t wrong_ingress(uint64_t port, uint64_t inner, uint32_t nickname, uint32_t compact,
+                       uint32_t confidence, uint32_t seconds, const uint8_t *map, size_t map_len,
+                       uint64_t outer_destination, uint64_t outer_source, uint32_t m,
+                       uint32_t hop_count, uint32_t egress, uint32_t ingress, const uint8_t *frame,
+                       size_t frame_len, uint8_t *out, size_t out_len)
+{
+    uint64_t word = shinglebar_ingress(port, inner, nickname, compact, confidence, seconds, map,
+                                       map_len, outer_destination, outer_source, m, hop_count,
+                                       egress, ingress, frame, frame_len, out, out_len);
+    int written = shinglebar_kind(word) == SHINGLEBAR_INGRESS_WRITTEN;
+
+    if (is("ingress tells a byte less") && written)
+        word -= 0x100;
+    if (is("a map that is refused with 2") && word == SHINGLEBAR_REFUSAL_MAP)
+        word = SHINGLEBAR_REFUSAL_TABLE_LENGTH;
+    if (is("a read behind the map"))
+        word ^= (uint64_t)0 & ((const volatile uint8_t *)map)[map_len];
+    if (is("a write to the map") && map_len > 0)
+        *(volatile uint8_t *)(uintptr_t)map = map[0];
     return word;
 }

@@ -4,12 +4,12 @@
 //! word as it is. The package must know the word: it is decoded to the answer, and packed again.
 
 use shinglebar::{
-    decode, encode, raw, Aged, Answer, Compacted, Expanded, Flushed, Found, FreeSlot, Portioned,
-    Received, Sent, Spoilt, Widened, Written,
+    decode, encode, raw, Aged, Answer, Compacted, Expanded, Flushed, Found, FreeSlot, Ingressed,
+    Portioned, Received, ReceivedAtPort, Sent, Spoilt, Widened, Written,
 };
 
 use crate::lend::Lend;
-use crate::reference::Settings;
+use crate::reference::{Encapsulation, Settings};
 
 pub(crate) fn numbers(settings: &Settings) -> raw::Settings {
     raw::Settings {
@@ -19,6 +19,8 @@ pub(crate) fn numbers(settings: &Settings) -> raw::Settings {
         compact: settings.compact,
         confidence: settings.confidence,
         seconds: settings.seconds,
+        multihomed: settings.multihomed,
+        smart: settings.smart,
     }
 }
 
@@ -38,17 +40,55 @@ pub fn receive(
     out: &mut [u8],
 ) -> u64 {
     known::<Received>(lender.lend(
-        ("frame", frame),
+        [("frame", frame)],
         [("table", table), ("output area", out)],
-        |frame, [table, out]| raw::receive(&numbers(settings), frame, table, out),
+        |[frame], [table, out]| raw::receive(&numbers(settings), frame, table, out),
+    ))
+}
+
+pub fn receive_port(
+    lender: &mut impl Lend,
+    settings: &Settings,
+    map: &[u8],
+    frame: &[u8],
+    table: &mut [u8],
+    out: &mut [u8],
+) -> u64 {
+    known::<ReceivedAtPort>(lender.lend(
+        [("map", map), ("frame", frame)],
+        [("table", table), ("output area", out)],
+        |[map, frame], [table, out]| raw::receive_port(&numbers(settings), map, frame, table, out),
+    ))
+}
+
+pub fn ingress(
+    lender: &mut impl Lend,
+    settings: &Settings,
+    map: &[u8],
+    given: &Encapsulation,
+    frame: &[u8],
+    out: &mut [u8],
+) -> u64 {
+    let given = raw::Encapsulation {
+        outer_destination: given.outer_destination,
+        outer_source: given.outer_source,
+        m: given.m,
+        hop_count: given.hop_count,
+        egress: given.egress,
+        ingress: given.ingress,
+    };
+    known::<Ingressed>(lender.lend(
+        [("map", map), ("frame", frame)],
+        [("output area", out)],
+        |[map, frame], [out]| raw::ingress(&numbers(settings), map, &given, frame, out),
     ))
 }
 
 pub fn flush(lender: &mut impl Lend, ingress: u32, payload: &[u8], table: &mut [u8]) -> u64 {
     known::<Flushed>(lender.lend(
-        ("payload", payload),
+        [("payload", payload)],
         [("table", table)],
-        |payload, [table]| raw::flush(ingress, payload, table),
+        |[payload], [table]| raw::flush(ingress, payload, table),
     ))
 }
 
@@ -59,9 +99,9 @@ pub fn flush_vlan_only(
     table: &mut [u8],
 ) -> u64 {
     known::<Flushed>(lender.lend(
-        ("payload", payload),
+        [("payload", payload)],
         [("table", table)],
-        |payload, [table]| raw::flush_vlan_only(ingress, payload, table),
+        |[payload], [table]| raw::flush_vlan_only(ingress, payload, table),
     ))
 }
 
@@ -74,18 +114,18 @@ pub fn flush_portion(
     table: &mut [u8],
 ) -> u64 {
     known::<Portioned>(lender.lend(
-        ("payload", payload),
+        [("payload", payload)],
         [("table", table)],
-        |payload, [table]| raw::flush_portion(ingress, payload, slot, k, table),
+        |[payload], [table]| raw::flush_portion(ingress, payload, slot, k, table),
     ))
 }
 
 pub fn compact(lender: &mut impl Lend, settings: &Settings, frame: &[u8], out: &mut [u8]) -> u64 {
-    known::<Compacted>(
-        lender.lend(("frame", frame), [("output area", out)], |frame, [out]| {
-            raw::compact(&numbers(settings), frame, out)
-        }),
-    )
+    known::<Compacted>(lender.lend(
+        [("frame", frame)],
+        [("output area", out)],
+        |[frame], [out]| raw::compact(&numbers(settings), frame, out),
+    ))
 }
 
 pub fn expand(
@@ -102,52 +142,49 @@ pub fn expand(
         tagged,
         tag,
     };
-    known::<Expanded>(
-        lender.lend(("frame", frame), [("output area", out)], |frame, [out]| {
-            raw::expand(&numbers(settings), &outer, frame, out)
-        }),
-    )
+    known::<Expanded>(lender.lend(
+        [("frame", frame)],
+        [("output area", out)],
+        |[frame], [out]| raw::expand(&numbers(settings), &outer, frame, out),
+    ))
 }
 
 pub fn send(lender: &mut impl Lend, settings: &Settings, frame: &[u8], work: &mut [u8]) -> u64 {
     known::<Sent>(lender.lend(
-        ("frame", frame),
+        [("frame", frame)],
         [("working area", work)],
-        |frame, [work]| raw::send(&numbers(settings), frame, work),
+        |[frame], [work]| raw::send(&numbers(settings), frame, work),
     ))
 }
 
 pub fn lookup(lender: &mut impl Lend, kind: u32, label: u32, mac: u64, table: &[u8]) -> u64 {
-    known::<Found>(lender.lend(("table", table), [], |table, []| {
+    known::<Found>(lender.lend([("table", table)], [], |[table], []| {
         raw::lookup(kind, label, mac, table)
     }))
 }
 
 pub fn age(lender: &mut impl Lend, seconds: u16, table: &mut [u8]) -> u64 {
-    known::<Aged>(
-        lender.lend(("no area", &[]), [("table", table)], |_, [table]| {
-            raw::age(seconds, table)
-        }),
-    )
+    known::<Aged>(lender.lend([], [("table", table)], |[], [table]| {
+        raw::age(seconds, table)
+    }))
 }
 
 pub fn spoilt(lender: &mut impl Lend, table: &[u8]) -> u64 {
-    known::<Spoilt>(lender.lend(("table", table), [], |table, []| raw::spoilt(table)))
+    known::<Spoilt>(lender.lend([("table", table)], [], |[table], []| raw::spoilt(table)))
 }
 
 pub fn widen(lender: &mut impl Lend, old: &[u8], out: &mut [u8]) -> u64 {
     known::<Widened>(lender.lend(
-        ("older table", old),
+        [("older table", old)],
         [("output area", out)],
-        |old, [out]| raw::widen(old, out),
+        |[old], [out]| raw::widen(old, out),
     ))
 }
 
 pub fn free_slot(lender: &mut impl Lend, table: &[u8]) -> u64 {
-    known::<FreeSlot>(lender.lend(("table", table), [], |table, []| raw::free_slot(table)))
+    known::<FreeSlot>(lender.lend([("table", table)], [], |[table], []| raw::free_slot(table)))
 }
 
-/// Each of the four lists is lent in turn, on the same output area; the answers and areas must be the same.
 pub fn write_flush(
     lender: &mut impl Lend,
     nicknames: &[u8],
@@ -156,22 +193,14 @@ pub fn write_flush(
     macs: &[u8],
     out: &mut [u8],
 ) -> u64 {
-    let lists = [nicknames, vlans, fine, macs];
-    let given = out.to_vec();
-    let mut call = |lent: usize, out: &mut [u8]| {
-        known::<Written>(lender.lend(
-            ("list", lists[lent]),
-            [("output area", out)],
-            |list, [out]| {
-                let at = |place: usize| if place == lent { list } else { lists[place] };
-                raw::write_flush(at(0), at(1), at(2), at(3), out)
-            },
-        ))
-    };
-    let word = call(0, out);
-    for lent in 1..lists.len() {
-        let mut again = given.clone();
-        assert!(call(lent, &mut again) == word && again == out);
-    }
-    word
+    known::<Written>(lender.lend(
+        [
+            ("nicknames", nicknames),
+            ("VLAN blocks", vlans),
+            ("fine-grained blocks", fine),
+            ("MAC blocks", macs),
+        ],
+        [("output area", out)],
+        |[nicknames, vlans, fine, macs], [out]| raw::write_flush(nicknames, vlans, fine, macs, out),
+    ))
 }

@@ -11,6 +11,8 @@ pub const PORT: Settings = Settings {
     compact: 1,
     confidence: 32,
     seconds: 0,
+    multihomed: 0,
+    smart: 0,
 };
 /// The port at the other end of the lab's link.
 const RIGHT: Settings = Settings {

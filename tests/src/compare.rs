@@ -3,7 +3,7 @@
 
 use crate::boundary;
 use crate::lend::Lend;
-use crate::reference::{self, Settings};
+use crate::reference::{self, Encapsulation, Settings};
 
 /// Bytes in hexadecimal.
 pub fn hex(bytes: &[u8]) -> String {
@@ -161,6 +161,64 @@ pub fn receive(
         hex(frame),
         hex(&given_table),
         hex(&given_out)
+    );
+    paper
+}
+
+/// What `receive_port` gives: the word, and the areas after the call in `table` and `out`.
+pub fn receive_port(
+    lender: &mut impl Lend,
+    settings: &Settings,
+    map: &[u8],
+    frame: &[u8],
+    table: &mut [u8],
+    out: &mut [u8],
+) -> u64 {
+    let (given_table, given_out) = (table.to_vec(), out.to_vec());
+    let (mut after_table, mut after_out) = (table.to_vec(), out.to_vec());
+    let library = boundary::receive_port(
+        lender,
+        settings,
+        map,
+        frame,
+        &mut after_table,
+        &mut after_out,
+    );
+    let paper = reference::receive_port(settings, map, frame, table, out);
+    assert!(
+        library == paper && after_table == table && after_out == out,
+        "receive_port: {}{}{}{settings:#x?}\nmap {}\nframe {}\ntable {}\noutput area {}",
+        words(library, paper),
+        difference("table", &after_table, table),
+        difference("output area", &after_out, out),
+        hex(map),
+        hex(frame),
+        hex(&given_table),
+        hex(&given_out)
+    );
+    paper
+}
+
+pub fn ingress(
+    lender: &mut impl Lend,
+    settings: &Settings,
+    map: &[u8],
+    given: &Encapsulation,
+    frame: &[u8],
+    out: &mut [u8],
+) -> u64 {
+    let before = out.to_vec();
+    let mut after = out.to_vec();
+    let library = boundary::ingress(lender, settings, map, given, frame, &mut after);
+    let paper = reference::ingress(settings, map, given, frame, out);
+    assert!(
+        library == paper && after == out,
+        "ingress: {}{}{settings:#x?}\nmap {}\n{given:#x?}\nframe {}\noutput area {}",
+        words(library, paper),
+        difference("output area", &after, out),
+        hex(map),
+        hex(frame),
+        hex(&before)
     );
     paper
 }

@@ -3,46 +3,74 @@
 
 use std::collections::BTreeMap;
 
-/// The calls' numbers are those of docs/REPLAY.md.
-const NAMES: [&str; 9] = [
-    "table", "receive", "flush", "age", "lookup", "spoilt", "compact", "expand", "send",
-];
-const TABLE: u8 = 0;
-/// Widening, whose number is that of its request.
-const WIDEN: u8 = 0x12;
+use crate::vectors::{FREE_SLOT, INGRESS, RECEIVE_PORT, TABLE, WIDEN, WRITE};
 
-fn name_of(call: u8) -> &'static str {
-    match call {
+/// The name of a call by its number in docs/REPLAY.md. None for the calls that other targets make: portions, the VLAN-only model and the
+/// watch.
+fn name(call: u8) -> Option<&'static str> {
+    let name = match call {
+        1 => "receive",
+        2 => "flush",
+        3 => "age",
+        4 => "lookup",
+        5 => "spoilt",
+        6 => "compact",
+        7 => "expand",
+        8 => "send",
+        RECEIVE_PORT => "receive_port",
+        INGRESS => "ingress",
         WIDEN => "widen",
-        _ => NAMES[usize::from(call)],
-    }
+        WRITE => "write",
+        FREE_SLOT => "free_slot",
+        _ => return None,
+    };
+    Some(name)
 }
 
-/// The call in the bits of the fuzz target's selector: send is 0, and widening the one behind the others.
-fn selector(call: u8) -> u8 {
-    let number = match name_of(call) {
+/// The call in the bits of the fuzz target's selector (fuzz/input.h): those from 1 to 7 have their own numbers there.
+fn selector(name: &str, call: u8) -> u8 {
+    let number = match name {
         "send" => 0,
-        "widen" => 8,
+        "receive_port" => 8,
+        "ingress" => 9,
+        "widen" => 10,
+        "write" => 11,
+        "free_slot" => 12,
         _ => call,
     };
     number & 7 | (number >> 3) << 5
 }
 
-/// The numbers in front of the frame, payload or table: settings are 32 bytes, an area's length 2.
-fn numbers_length(call: u8) -> usize {
-    match name_of(call) {
+/// The numbers in front of the map, frame, payload or table: settings are 32 bytes, an area's length 2.
+fn numbers_length(name: &str) -> usize {
+    match name {
         "receive" | "compact" | "send" => 32 + 2,
         "expand" => 32 + 8 + 4 + 4 + 2,
-        "widen" => 2,
         "flush" => 4,
         "age" => 2,
         "lookup" => 4 + 4 + 8,
+        "receive_port" => 32 + 4 + 4 + 2,
+        "ingress" => 32 + 8 + 8 + 4 * 4 + 2,
+        "widen" => 2,
         _ => 0,
     }
 }
 
-fn has_table(call: u8) -> bool {
-    !matches!(name_of(call), "compact" | "expand" | "send" | "widen")
+fn has_table(name: &str) -> bool {
+    !matches!(
+        name,
+        "compact" | "expand" | "send" | "ingress" | "widen" | "write"
+    )
+}
+
+/// The bytes of the map's length and of the map, behind the numbers.
+fn map_length(name: &str, rest: &[u8]) -> usize {
+    match (name, rest) {
+        ("receive_port" | "ingress", [high, low, ..]) => {
+            2 + usize::from(u16::from_be_bytes([*high, *low]))
+        }
+        _ => 0,
+    }
 }
 
 fn bytes(hex: &str) -> Vec<u8> {
@@ -57,12 +85,14 @@ fn part(line: &str, at: usize) -> &str {
 
 /// The input for a call on a table. Its numbers are to be taken as they are where the answer says that
 /// they are out of range.
-fn input(call: u8, answer: u8, body: &[u8], table: &[u8]) -> Vec<u8> {
-    let (numbers, rest) = body.split_at(numbers_length(call));
+fn input(name: &str, call: u8, answer: u8, body: &[u8], table: &[u8]) -> Vec<u8> {
+    let (numbers, rest) = body.split_at(numbers_length(name));
+    let (map, rest) = rest.split_at(map_length(name, rest));
     let as_they_are = matches!(answer, 1 | 2);
-    let mut input = vec![selector(call) | u8::from(as_they_are) << 4];
+    let mut input = vec![selector(name, call) | u8::from(as_they_are) << 4];
     input.extend(numbers);
-    if has_table(call) {
+    input.extend(map);
+    if has_table(name) {
         input.extend((table.len() as u16).to_be_bytes());
         input.extend(table);
     }
@@ -83,11 +113,13 @@ pub fn files(stdin: &str, stdout: &str) -> BTreeMap<String, Vec<u8>> {
         }
         let result = results.next().expect("a line of stdout for each call");
         let answer = bytes(part(result, 0))[7];
-        let name = format!("{}-{answer:02}", name_of(call));
-        let input = input(call, answer, &body, &table);
-        let kept = files.entry(name).or_insert_with(|| input.clone());
-        if input.len() < kept.len() {
-            *kept = input;
+        if let Some(name) = name(call) {
+            let input = input(name, call, answer, &body, &table);
+            let file = format!("{name}-{answer:02}");
+            let kept = files.entry(file).or_insert_with(|| input.clone());
+            if input.len() < kept.len() {
+                *kept = input;
+            }
         }
         table = bytes(part(result, 1));
     }

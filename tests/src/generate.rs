@@ -67,19 +67,19 @@ impl Pool {
         pool
     }
 
-    fn vlan(&self, random: &mut Random) -> u16 {
+    pub fn vlan(&self, random: &mut Random) -> u16 {
         random.pick(&self.vlans)
     }
 
-    fn fine(&self, random: &mut Random) -> u32 {
+    pub fn fine(&self, random: &mut Random) -> u32 {
         random.pick(&self.fine)
     }
 
-    fn mac(&self, random: &mut Random) -> u64 {
+    pub fn mac(&self, random: &mut Random) -> u64 {
         random.pick(&self.macs)
     }
 
-    fn nickname(&self, random: &mut Random) -> u16 {
+    pub fn nickname(&self, random: &mut Random) -> u16 {
         random.pick(&self.nicknames)
     }
 }
@@ -116,6 +116,8 @@ pub fn good_settings(random: &mut Random, pool: &Pool) -> Settings {
             0 => random.pick(&[0, 10, 11, 300, 8190, 8191]),
             _ => random.between(10, 8191) as u32,
         },
+        multihomed: 0,
+        smart: 0,
     }
 }
 
@@ -163,6 +165,8 @@ pub fn disturb_settings(random: &mut Random, settings: &mut Settings) {
                     compact: random.number() as u32,
                     confidence: random.number() as u32,
                     seconds: random.number() as u32,
+                    multihomed: 0,
+                    smart: 0,
                 }
             }
         }
@@ -170,7 +174,7 @@ pub fn disturb_settings(random: &mut Random, settings: &mut Settings) {
 }
 
 /// An address that may be a group address or 2^48 and more.
-fn edge_address(random: &mut Random, address: u64) -> u64 {
+pub fn edge_address(random: &mut Random, address: u64) -> u64 {
     match random.below(5) {
         0 => address | GROUP,
         1 => address | (1 << random.between(48, 63)),
@@ -692,7 +696,7 @@ fn three_bytes(number: u32) -> [u8; 3] {
     [a, b, c]
 }
 
-fn six_bytes(number: u64) -> [u8; 6] {
+pub fn six_bytes(number: u64) -> [u8; 6] {
     let [_, _, bytes @ ..] = number.to_be_bytes();
     bytes
 }
@@ -1005,7 +1009,7 @@ fn channel_content(random: &mut Random, protocol: u16, payload: &[u8]) -> Vec<u8
     content
 }
 
-fn data_content(random: &mut Random) -> Vec<u8> {
+pub fn data_content(random: &mut Random) -> Vec<u8> {
     let ethertype: u16 = match random.below(12) {
         0 => random.pick(&[
             0x8100, 0x893B, 0x22F3, 0x8945, 0x8947, 0x4689, 0x0946, 0x8906,

@@ -16,11 +16,11 @@ pub type Write<'a> = (&'static str, &'a mut [u8]);
 pub trait Lend {
     /// Makes a call on areas with these bytes and gives back its word. Then the bytes of `write` are
     /// those that the call left in its areas. Ends the run if the call touched what it may not.
-    fn lend<const W: usize>(
+    fn lend<const R: usize, const W: usize>(
         &mut self,
-        read: Read,
+        read: [Read; R],
         write: [Write; W],
-        call: impl FnOnce(&[u8], [&mut [u8]; W]) -> u64,
+        call: impl FnOnce([&[u8]; R], [&mut [u8]; W]) -> u64,
     ) -> u64;
 }
 
@@ -87,16 +87,21 @@ impl Area {
 }
 
 impl Lend for Random {
-    fn lend<const W: usize>(
+    fn lend<const R: usize, const W: usize>(
         &mut self,
-        (read_name, read): Read,
+        read: [Read; R],
         write: [Write; W],
-        call: impl FnOnce(&[u8], [&mut [u8]; W]) -> u64,
+        call: impl FnOnce([&[u8]; R], [&mut [u8]; W]) -> u64,
     ) -> u64 {
-        let mut read_area = Area::new(self, read);
+        let mut read_areas = read.map(|(_, bytes)| Area::new(self, bytes));
         let mut areas = write.each_ref().map(|(_, bytes)| Area::new(self, bytes));
-        let word = call(read_area.lent(), areas.each_mut().map(Area::lent));
-        read_area.check_only_read(read_name, read);
+        let word = call(
+            read_areas.each_mut().map(|area| &*area.lent()),
+            areas.each_mut().map(Area::lent),
+        );
+        for ((name, bytes), area) in read.into_iter().zip(&read_areas) {
+            area.check_only_read(name, bytes);
+        }
         for ((name, bytes), area) in write.into_iter().zip(&areas) {
             bytes.copy_from_slice(area.bytes(name));
         }
@@ -124,7 +129,7 @@ mod tests {
     fn what_a_call_writes_is_given_back() {
         let (mut first, mut second) = ([1, 2, 3], [4; 20]);
         let areas = [("first", &mut first[..]), ("second", &mut second[..])];
-        let word = Random::new(1).lend(("read", &[5, 6]), areas, |read, [first, second]| {
+        let word = Random::new(1).lend([("read", &[5, 6])], areas, |[read], [first, second]| {
             assert_eq!(read, [5, 6]);
             first[1] = 7;
             second.fill(8);

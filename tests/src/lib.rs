@@ -18,7 +18,8 @@
 //! | tests/refusals.rs | all: the order of refusals in docs/FORMATS.md |
 //! | tests/formats.rs | receive, compact, flush, spoilt: the examples of docs/FORMATS.md |
 //! | tests/driver.rs | all, through the port driver |
-//! | tests/lists.rs | receive, compact, lookup, age, spoilt: whole call lists |
+//! | tests/map.rs | receive_port, ingress, and receive and compact beside them |
+//! | tests/lists.rs | receive_port, compact, lookup, age, spoilt: whole call lists |
 //! | tests/pages.rs | all, with areas against memory that cannot be accessed |
 //! | tests/words.rs | all, with typed answers; words that are no answers |
 //! | tests/fuzz.rs | all, by the fuzz target of fuzz/ on its corpus |
@@ -39,6 +40,7 @@ pub mod compare;
 pub mod corpus;
 pub mod generate;
 pub mod lend;
+pub mod maps;
 pub mod outside;
 pub mod pages;
 pub mod random;

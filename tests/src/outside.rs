@@ -23,6 +23,8 @@ const SETTINGS: Settings = Settings {
     compact: 1,
     confidence: 32,
     seconds: 0,
+    multihomed: 0,
+    smart: 0,
 };
 
 /// The frames, made by the library.

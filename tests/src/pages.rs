@@ -144,7 +144,7 @@ impl Drop for ReadOnly<'_> {
 /// A lender of such areas, each in a region of its own.
 pub struct Pages {
     side: Side,
-    read: Region,
+    read: [Region; 4],
     write: [Region; 2],
 }
 
@@ -152,7 +152,7 @@ impl Pages {
     pub fn new(side: Side) -> Pages {
         Pages {
             side,
-            read: Region::new(),
+            read: [(); 4].map(|()| Region::new()),
             write: [Region::new(), Region::new()],
         }
     }
@@ -164,19 +164,26 @@ impl Pages {
 }
 
 impl Lend for Pages {
-    fn lend<const W: usize>(
+    fn lend<const R: usize, const W: usize>(
         &mut self,
-        (_, read): Read,
+        read: [Read; R],
         write: [Write; W],
-        call: impl FnOnce(&[u8], [&mut [u8]; W]) -> u64,
+        call: impl FnOnce([&[u8]; R], [&mut [u8]; W]) -> u64,
     ) -> u64 {
-        let read_area = self.read.lend_to_read(self.side, read);
+        let mut regions = self.read.iter_mut();
+        let read_areas = read.map(|(_, bytes)| {
+            let region = regions.next().expect("a call reads four areas at most");
+            region.lend_to_read(self.side, bytes)
+        });
         let mut regions = self.write.iter_mut();
         let mut areas = write.each_ref().map(|(_, bytes)| {
             let region = regions.next().expect("a call writes two areas at most");
             region.lend(self.side, bytes)
         });
-        let word = call(&read_area, areas.each_mut().map(|area| &mut **area));
+        let word = call(
+            read_areas.each_ref().map(|area| &**area),
+            areas.each_mut().map(|area| &mut **area),
+        );
         for ((_, bytes), area) in write.into_iter().zip(areas) {
             bytes.copy_from_slice(area);
         }

@@ -61,6 +61,46 @@ pub const RECEIVE: Answers = &[
     (67, "flushed"),
 ];
 
+pub const RECEIVE_PORT: Answers = &[
+    (1, "refusal 1: settings"),
+    (2, "refusal 2: table length"),
+    (3, "refusal 3: frame length"),
+    (4, "refusal 4: 22F3 not at its place"),
+    (5, "refusal 5: not for this port"),
+    (6, "refusal 6: cut"),
+    (7, "refusal 7: V"),
+    (8, "refusal 8: Hop Count"),
+    (9, "refusal 9: nickname"),
+    (10, "refusal 10: label"),
+    (11, "refusal 11: group source"),
+    (12, "refusal 12: M"),
+    (13, "refusal 13: reserved destination"),
+    (14, "refusal 14: channel"),
+    (15, "refusal 15: flush payload corrupt"),
+    (16, "refusal 16: output area"),
+    (21, "refusal 21: map"),
+    (22, "refusal 22: no pair found"),
+    (64, "onward"),
+    (65, "delivered"),
+    (66, "other channel"),
+    (67, "flushed"),
+];
+
+pub const INGRESS: Answers = &[
+    (1, "refusal 1: settings"),
+    (3, "refusal 3: frame length"),
+    (6, "refusal 6: cut"),
+    (8, "refusal 8: Hop Count"),
+    (9, "refusal 9: nickname"),
+    (10, "refusal 10: label"),
+    (11, "refusal 11: group source"),
+    (12, "refusal 12: M"),
+    (16, "refusal 16: output area"),
+    (21, "refusal 21: map"),
+    (22, "refusal 22: no pair found"),
+    (64, "written"),
+];
+
 pub const COMPACT: Answers = &[
     (1, "refusal 1: settings"),
     (3, "refusal 3: frame length"),

@@ -5,8 +5,9 @@ use std::collections::BTreeMap;
 
 use crate::captures;
 use crate::generate::{self, Pool};
+use crate::maps;
 use crate::random::Random;
-use crate::reference::{self, write, Entry, Label, Settings, OLD_RECORD, RECORD};
+use crate::reference::{self, write, Encapsulation, Entry, Label, Settings, OLD_RECORD, RECORD};
 use crate::run::{self, Answers};
 use crate::watched;
 
@@ -81,16 +82,29 @@ enum Call {
         macs: Vec<u8>,
         room: usize,
     },
+    ReceivePort {
+        settings: Settings,
+        map: Vec<u8>,
+        room: usize,
+        frame: Vec<u8>,
+    },
+    Ingress {
+        settings: Settings,
+        map: Vec<u8>,
+        given: Encapsulation,
+        room: usize,
+        frame: Vec<u8>,
+    },
 }
 
-/// The number of the search for a free slot (2026-04).
-const FREE_SLOT: u8 = 0x24;
-
-/// The number of widening, which is that of its request.
-const WIDEN: u8 = 0x12;
-
-/// The number of writing a flush.
+/// The numbers of the calls of document 02 (docs/REPLAY.md).
+pub const RECEIVE_PORT: u8 = 0x09;
+pub const INGRESS: u8 = 0x0A;
+pub const WIDEN: u8 = 0x12;
 pub const WRITE: u8 = 0x13;
+pub const FREE_SLOT: u8 = 0x24;
+const PORTION: u8 = 0x25;
+const VLAN_ONLY: u8 = 0x27;
 
 /// The calls' numbers, and the answers that each must give in some vector.
 pub const ANSWERS: &[(u8, Answers)] = &[
@@ -104,11 +118,12 @@ pub const ANSWERS: &[(u8, Answers)] = &[
     (8, run::SEND),
     (FREE_SLOT, run::FREE_SLOT),
     (WIDEN, run::WIDEN),
-    (0x25, run::PORTION),
-    (0x27, run::FLUSH),
+    (PORTION, run::PORTION),
+    (VLAN_ONLY, run::FLUSH),
     (WRITE, run::WRITE),
+    (RECEIVE_PORT, run::RECEIVE_PORT),
+    (INGRESS, run::INGRESS),
 ];
-
 pub(crate) fn settings_bytes(settings: &Settings) -> Vec<u8> {
     let mut bytes = Vec::new();
     bytes.extend(settings.port.to_be_bytes());
@@ -117,6 +132,16 @@ pub(crate) fn settings_bytes(settings: &Settings) -> Vec<u8> {
     bytes.extend(settings.compact.to_be_bytes());
     bytes.extend(settings.confidence.to_be_bytes());
     bytes.extend(settings.seconds.to_be_bytes());
+    bytes
+}
+
+fn encapsulation_bytes(given: &Encapsulation) -> Vec<u8> {
+    let mut bytes = Vec::new();
+    bytes.extend(given.outer_destination.to_be_bytes());
+    bytes.extend(given.outer_source.to_be_bytes());
+    for number in [given.m, given.hop_count, given.egress, given.ingress] {
+        bytes.extend(number.to_be_bytes());
+    }
     bytes
 }
 
@@ -190,6 +215,36 @@ impl Call {
         }
     }
 
+    /// Reading with a map, or ingress.
+    fn with_map(random: &mut Random, pool: &Pool) -> Call {
+        let map = maps::small_map(random, pool);
+        if random.one_in(2) {
+            let settings = maps::settings(random, pool);
+            let frame = generate::frame(random, pool, &settings);
+            let room = generate::area_length(random, 16 + frame.content.len());
+            let frame = generate::damage(random, frame.bytes());
+            Call::ReceivePort {
+                settings,
+                map,
+                room,
+                frame,
+            }
+        } else {
+            let settings = generate::settings(random, pool);
+            let given = maps::encapsulation(random, pool, &settings);
+            let frame = maps::native(random, pool, &map).bytes();
+            let room = generate::area_length(random, frame.len() + 24);
+            let frame = generate::damage(random, frame);
+            Call::Ingress {
+                settings,
+                map,
+                given,
+                room,
+                frame,
+            }
+        }
+    }
+
     fn number(&self) -> u8 {
         match self {
             Call::Receive { .. } => 1,
@@ -202,9 +257,11 @@ impl Call {
             Call::Expand { .. } => 7,
             Call::Send { .. } => 8,
             Call::Widen { .. } => WIDEN,
-            Call::Portion { .. } => 0x25,
-            Call::VlanOnly { .. } => 0x27,
+            Call::Portion { .. } => PORTION,
+            Call::VlanOnly { .. } => VLAN_ONLY,
             Call::Write { .. } => WRITE,
+            Call::ReceivePort { .. } => RECEIVE_PORT,
+            Call::Ingress { .. } => INGRESS,
         }
     }
 
@@ -216,7 +273,9 @@ impl Call {
             | Call::Expand { room, .. }
             | Call::Send { room, .. }
             | Call::Widen { room, .. }
-            | Call::Write { room, .. } => *room,
+            | Call::Write { room, .. }
+            | Call::ReceivePort { room, .. }
+            | Call::Ingress { room, .. } => *room,
             Call::Flush { .. }
             | Call::Age { .. }
             | Call::Lookup { .. }
@@ -257,6 +316,36 @@ impl Call {
                 &tagged.to_be_bytes(),
                 &tag.to_be_bytes(),
                 &length(*room),
+                frame,
+            ]
+            .concat(),
+            Call::ReceivePort {
+                settings,
+                map,
+                room,
+                frame,
+            } => [
+                &settings_bytes(settings)[..],
+                &settings.multihomed.to_be_bytes(),
+                &settings.smart.to_be_bytes(),
+                &length(*room),
+                &length(map.len()),
+                map,
+                frame,
+            ]
+            .concat(),
+            Call::Ingress {
+                settings,
+                map,
+                given,
+                room,
+                frame,
+            } => [
+                &settings_bytes(settings)[..],
+                &encapsulation_bytes(given),
+                &length(*room),
+                &length(map.len()),
+                map,
                 frame,
             ]
             .concat(),
@@ -312,6 +401,19 @@ impl Call {
                 room,
                 frame,
             } => reference::receive(settings, frame, table, &mut area[..*room]),
+            Call::ReceivePort {
+                settings,
+                map,
+                room,
+                frame,
+            } => reference::receive_port(settings, map, frame, table, &mut area[..*room]),
+            Call::Ingress {
+                settings,
+                map,
+                given,
+                room,
+                frame,
+            } => reference::ingress(settings, map, given, frame, &mut area[..*room]),
             Call::Flush { ingress, payload } => reference::flush(*ingress, payload, table),
             Call::Age { seconds } => reference::age(*seconds, table),
             Call::Lookup { kind, label, mac } => reference::lookup(*kind, *label, *mac, table),
@@ -418,12 +520,13 @@ impl Replay {
         (self.table, self.area) = (after, area);
     }
 
-    fn is_whole(&self) -> bool {
+    /// Whether there are vectors enough, and every answer of the calls but those whose turn comes later.
+    fn is_whole(&self, later: &[u8]) -> bool {
         let kept = |number, answer| self.answers.contains_key(&(number, answer));
         self.vectors >= AT_LEAST
             && ANSWERS
                 .iter()
-                .filter(|(number, _)| *number != WRITE)
+                .filter(|(number, _)| !later.contains(number))
                 .all(|(number, answers)| answers.iter().all(|(answer, _)| kept(*number, *answer)))
     }
 }
@@ -597,6 +700,102 @@ fn write_calls() -> Vec<Call> {
     ]
 }
 
+/// A station on two switches (2026-12), on three free slots: its first home and its second, each in Compact Format again, at a port whose
+/// bit is the other one, and then without a mark.
+fn homes_calls(room: usize) -> Vec<Call> {
+    let frame = |nickname, reserved, compact| generate::Frame {
+        compact,
+        outer_destination: captures::PORT.port,
+        outer_source: 0x0200_0000_00B2,
+        outer_tag: None,
+        trill: 0x22F3,
+        version: 0,
+        reserved,
+        multicast: false,
+        option_length: 0,
+        hop_count: 5,
+        egress: captures::PORT.nickname as u16,
+        ingress: nickname,
+        options: Vec::new(),
+        inner_destination: 0x0200_0000_000D,
+        inner_source: 0x0200_0000_0001,
+        label: vec![0x81, 0x00, 0x00, 0x0A],
+        content: vec![0x08, 0x00, 0x45, 0x00],
+    };
+    let read = |multihomed, nickname, reserved, compact| Call::ReceivePort {
+        settings: Settings {
+            multihomed,
+            ..captures::PORT
+        },
+        map: Vec::new(),
+        room,
+        frame: frame(nickname, reserved, compact).bytes(),
+    };
+    vec![
+        read(1, 0x1234, 0b10, false),
+        read(1, 0x5678, 0b10, false),
+        read(1, 0x1234, 0b11, true),
+        read(2, 0x5678, 0b01, true),
+        read(2, 0x9ABC, 0b01, false),
+        read(3, 0x1234, 0b11, false),
+        read(2, 0x5678, 0b10, false),
+    ]
+}
+
+/// The native frame of 2026-01 through ingress and mapped reading, with DEI, cut and untagged; then at ports with other maps.
+fn map_calls(room: usize) -> Vec<Call> {
+    let settings = captures::PORT;
+    let given = Encapsulation {
+        outer_destination: settings.port,
+        outer_source: 0x0200_0000_00B2,
+        m: 0,
+        hop_count: 5,
+        egress: settings.nickname,
+        ingress: 0x1234,
+    };
+    let map = maps::bytes(&[(10, 0xAB_CDEF)]);
+    let native = |tag| maps::Native {
+        destination: 0x0200_0000_000D,
+        source: 0x0200_0000_0001,
+        tag,
+        content: vec![0x08, 0x00, 0x45, 0x00],
+    };
+    let frame = native(Some((0x8100, 0x600A))).bytes();
+    let ingress = |map: &[u8], frame: &[u8]| Call::Ingress {
+        settings,
+        map: map.to_vec(),
+        given,
+        room,
+        frame: frame.to_vec(),
+    };
+    let mut general = vec![0; frame.len() + 24];
+    reference::ingress(&settings, &map, &given, &frame, &mut general);
+    let mut compact = vec![0; general.len() - 12];
+    reference::compact(&settings, &general, &mut compact);
+    let read = |map: Vec<u8>, frame: &[u8]| Call::ReceivePort {
+        settings,
+        map,
+        room,
+        frame: frame.to_vec(),
+    };
+    vec![
+        ingress(&map, &frame),
+        read(map.clone(), &general),
+        read(map.clone(), &compact),
+        ingress(&map, &native(Some((0x8100, 0x700A))).bytes()),
+        ingress(&map, &frame[..17]),
+        ingress(&map, &frame[..15]),
+        ingress(&map, &native(None).bytes()),
+        // No map, another label, a VLAN twice, a label twice, half a pair.
+        read(Vec::new(), &general),
+        read(maps::bytes(&[(10, 0xAB_CDEE)]), &general),
+        read(maps::bytes(&[(10, 0xAB_CDEF), (10, 1)]), &general),
+        ingress(&maps::bytes(&[(10, 7), (11, 7)]), &frame),
+        ingress(&map[..3], &frame),
+        ingress(&[], &frame),
+    ]
+}
+
 /// The input and the output of the program; always the same ones.
 pub fn files() -> (String, String) {
     let mut replay = Replay {
@@ -634,7 +833,7 @@ pub fn files() -> (String, String) {
     offer_portions(&mut replay);
     offer_vlan_only(&mut replay);
     let mut case = 0;
-    while !replay.is_whole() {
+    while !replay.is_whole(&[WRITE, RECEIVE_PORT, INGRESS]) {
         assert!(
             case < 1_000_000,
             "an answer is missing: {:?}",
@@ -659,6 +858,34 @@ pub fn files() -> (String, String) {
     }
     for call in write_calls() {
         replay.offer(replay.table.clone(), &call);
+    }
+    // A port's map (2026-01), on two free slots; then any.
+    for (place, call) in map_calls(64).iter().enumerate() {
+        let table = match place {
+            0 => vec![0; 2 * RECORD],
+            _ => replay.table.clone(),
+        };
+        replay.offer(table, call);
+    }
+    for (place, call) in homes_calls(32).iter().enumerate() {
+        let table = match place {
+            0 => vec![0; 3 * RECORD],
+            _ => replay.table.clone(),
+        };
+        replay.offer(table, call);
+    }
+    let mut case = 0;
+    while !replay.is_whole(&[]) {
+        assert!(
+            case < 1_000_000,
+            "an answer is missing: {:?}",
+            replay.answers
+        );
+        let random = &mut Random::for_case(7172, case);
+        let pool = Pool::new(random);
+        let call = Call::with_map(random, &pool);
+        replay.offer(small_table(random, &pool), &call);
+        case += 1;
     }
     (replay.input, replay.output)
 }

@@ -86,7 +86,7 @@ impl Place for Random {
         let mut guarded = Guarded(before, *watch, behind);
         let place: *mut Guarded = &mut guarded;
         let areas = [("working area", work)];
-        let word = Lend::lend(self, ("frame", frame), areas, |frame, [work]| {
+        let word = Lend::lend(self, [("frame", frame)], areas, |[frame], [work]| {
             // SAFETY: the address of a field of what lives here.
             call(unsafe { &raw mut (*place).1 }, frame, work)
         });
@@ -110,7 +110,7 @@ impl Place for Pages {
         let [e, f, g, h] = watch.reading.to_ne_bytes();
         let mut bytes = [a, b, c, d, e, f, g, h];
         let areas = [("watch", &mut bytes[..]), ("working area", work)];
-        let word = Lend::lend(self, ("frame", frame), areas, |frame, [watch, work]| {
+        let word = Lend::lend(self, [("frame", frame)], areas, |[frame], [watch, work]| {
             assert_eq!(watch.as_ptr().align_offset(align_of::<Watch>()), 0);
             call(watch.as_mut_ptr().cast(), frame, work)
         });

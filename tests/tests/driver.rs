@@ -12,8 +12,11 @@ use std::time::{Duration, Instant};
 
 use shinglebar_tests::captures::{self, Form, PORT, USUAL};
 use shinglebar_tests::generate;
+use shinglebar_tests::maps;
 use shinglebar_tests::random::Random;
-use shinglebar_tests::reference::{self, write, Entry, Label, OLD_RECORD, RECORD, TABLE};
+use shinglebar_tests::reference::{
+    self, write, Encapsulation, Entry, Label, OLD_RECORD, RECORD, TABLE,
+};
 
 /// The options of the settings `captures::PORT`.
 const SETTINGS: [&str; 8] = [
@@ -1998,6 +2001,12 @@ fn bad_command_lines_get_a_message_and_status_2() {
     let lookup = ["lookup", "--table", "t", "--mac", "020000000001"];
     let receive = [&["receive", "in", "--table", "t"][..], &SETTINGS].concat();
     let expand = [&["expand", "in", "--out", "o"][..], &SETTINGS].concat();
+    let ingress = [
+        &["ingress", "in", "--out", "o", "--source", "020000000001"][..],
+        &["--to", "020000000002", "--egress", "0002"],
+        &SETTINGS,
+    ]
+    .concat();
     let and = |words: &[&'static str], more: &[&'static str]| [words, more].concat();
     let cases: Vec<(Vec<&str>, &str)> = vec![
         (vec!["remove"], "`remove` is no command"),
@@ -2086,6 +2095,17 @@ fn bad_command_lines_get_a_message_and_status_2() {
             and(&expand, &["--source", "020000000001", "--tag", "4095"]),
             "--tag takes a number from 1 to 4094",
         ),
+        (ingress.clone(), "--map FILE is needed"),
+        (and(&ingress, &["--map", "o"]), "--map is a file of its own"),
+        (and(&receive, &["--map", "t"]), "--map is a file of its own"),
+        (
+            and(&ingress, &["--map", "m", "--hops", "64"]),
+            "--hops takes a number from 1 to 63",
+        ),
+        (
+            and(&["ingress", "in", "--out", "o", "--map", "m"], &SETTINGS),
+            "--source ADDRESS is needed",
+        ),
         (
             and(&["live", "--table", "t"], &SETTINGS),
             "--interface NAME is needed",
@@ -2123,13 +2143,15 @@ fn each_command_has_help_on_each_of_its_options() {
         "--confidence",
         "--seconds",
     ];
-    let commands: [(&str, &[&str], bool); 11] = [
+    let commands: [(&str, &[&str], bool); 13] = [
         (
             "receive",
             &[
                 "--table",
                 "--slots",
                 "--out",
+                "--map",
+                "--multihomed",
                 "--no-ageing",
                 "--dry-run",
                 "--mac",
@@ -2143,6 +2165,13 @@ fn each_command_has_help_on_each_of_its_options() {
         (
             "expand",
             &["--out", "--source", "--tag", "--json", "--quiet"],
+            true,
+        ),
+        (
+            "ingress",
+            &[
+                "--out", "--map", "--source", "--to", "--egress", "--hops", "--json", "--quiet",
+            ],
             true,
         ),
         (
@@ -2174,6 +2203,21 @@ fn each_command_has_help_on_each_of_its_options() {
         ),
         ("widen", &["--table", "--dry-run", "--json"], false),
         (
+            "write",
+            &[
+                "--out",
+                "--source",
+                "--nickname",
+                "--vlan",
+                "--fgl",
+                "--mac",
+                "--payload",
+                "--ingress",
+                "--json",
+            ],
+            false,
+        ),
+        (
             "live",
             &[
                 "--interface",
@@ -2184,6 +2228,8 @@ fn each_command_has_help_on_each_of_its_options() {
                 "--table",
                 "--slots",
                 "--out",
+                "--map",
+                "--multihomed",
                 "--mac",
                 "--json",
                 "--watch",
@@ -2308,7 +2354,7 @@ fn the_words_for_refusals_are_those_of_the_header() {
     };
     let words: Option<Vec<String>> = lines.windows(2).filter(numbered).map(comment).collect();
     let words = words.expect("the words");
-    assert!(words.len() >= 19);
+    assert_eq!(words.len(), 22);
     let strings: Vec<&str> = lines
         .iter()
         .skip_while(|line| **line != "\"no refusal\",")
@@ -2319,8 +2365,8 @@ fn the_words_for_refusals_are_those_of_the_header() {
                 .strip_prefix('"')?
                 .strip_suffix('"')
         })
-        .filter(|words| *words != "no refusal")
         .collect();
+    // 19 and 20, which are the numbers of none, have no string
     assert_eq!(strings, words);
 
     let folder = folder("words");
@@ -2350,14 +2396,14 @@ fn the_words_for_refusals_are_those_of_the_header() {
             continue;
         };
         let number: usize = number.parse().expect("a number");
-        let words = &words[number - 1];
+        let words = strings[number - 1];
         if before == "  " {
             let (count, said) = said.split_once(' ').expect("a count");
             assert!(count.parse::<usize>().is_ok(), "{line}");
             assert_eq!(said, format!("({words})"), "{line}");
             counted.insert(number);
         } else {
-            let behind = said.strip_prefix(words.as_str());
+            let behind = said.strip_prefix(words);
             let behind = behind.unwrap_or_else(|| panic!("`{words}` is not in: {line}"));
             let more = number == 15 && behind.starts_with(": byte ");
             assert!(
@@ -2462,6 +2508,7 @@ fn write_makes_a_flush_that_receive_obeys() {
             nickname: 0x1234,
             confidence: 32,
             seconds: 1000,
+            multihomed: false,
         };
         write(true, &entry)
     };
@@ -2657,4 +2704,360 @@ fn what_is_no_older_table_is_not_widened() {
     fs::write(&file, vec![0; 57_344]).expect("a table");
     good(&run_in(&folder, &widen));
     assert!(bytes(&file) == vec![0; TABLE]);
+}
+
+/// A native frame with two bytes of tag, or untagged.
+fn native(mac: u64, tag: Option<u16>) -> Vec<u8> {
+    maps::Native {
+        destination: 0x0200_0000_000D,
+        source: mac,
+        tag: tag.map(|tag| (0x8100, tag)),
+        content: vec![0x08, 0x00, 0x45, 0x00],
+    }
+    .bytes()
+}
+
+/// The options of `ingress` at the port 1234, for the port of `SETTINGS`.
+const INGRESS: [&str; 18] = [
+    "ingress",
+    "in",
+    "--out",
+    "general",
+    "--map",
+    "map",
+    "--port",
+    "02-00-00-00-00-B2",
+    "--inner",
+    "02-00-00-00-00-BB",
+    "--nickname",
+    "1234",
+    "--source",
+    "02-00-00-00-00-B2",
+    "--to",
+    "02-00-00-00-00-A1",
+    "--egress",
+    "0102",
+];
+
+#[test]
+fn native_frames_go_in_at_one_port_and_come_out_at_the_other_by_the_map() {
+    let folder = folder("map");
+    let map = maps::bytes(&[(10, 0xAB_CDEF), (11, 7)]);
+    let lines = "10 0xABCDEF\n\n# the second hall\n 11\t7 # scanners\n";
+    fs::write(folder.join("map"), lines).expect("a map");
+    let frames = [
+        native(0x0200_0000_0001, Some(0x600A)),
+        native(0x0200_0000_0002, Some(0xF00B)),
+        native(0x0200_0000_0001, None),
+        native(0x0200_0000_0001, Some(12)),
+        native(0x0200_0000_0001, Some(10))[..17].to_vec(),
+        native(0x0300_0000_0001, Some(10)),
+    ];
+    fs::write(folder.join("in"), captures::capture(USUAL, &frames)).expect("a capture");
+    let given = Encapsulation {
+        outer_destination: PORT.port,
+        outer_source: 0x0200_0000_00B2,
+        m: 0,
+        hop_count: 63,
+        egress: 0x0102,
+        ingress: 0x1234,
+    };
+    let near = reference::Settings {
+        port: 0x0200_0000_00B2,
+        inner: 0x0200_0000_00BB,
+        nickname: 0x1234,
+        ..PORT
+    };
+    let ingressed = |given: &Encapsulation| -> Vec<(usize, Vec<u8>)> {
+        let mut general = Vec::new();
+        for (place, frame) in frames.iter().enumerate() {
+            let mut out = vec![0; 9_216];
+            let word = reference::ingress(&near, &map, given, frame, &mut out);
+            if word & 0xFF == 64 {
+                out.truncate((word >> 8) as usize);
+                general.push((place, out));
+            }
+        }
+        general
+    };
+    let printed = good(&run_in(&folder, &INGRESS));
+    let general = ingressed(&given);
+    assert_eq!(general.len(), 2);
+    assert!(bytes(&folder.join("general")) == capture_of(USUAL, &general));
+    for (number, said) in [
+        (1, "native, 20 bytes, VLAN 10, 02-00-00-00-00-01 to 02-00-00-00-00-0D, type 0800 | ingressed to 44 bytes of FGL 11259375"),
+        (2, "native, 20 bytes, VLAN 11, 02-00-00-00-00-02 to 02-00-00-00-00-0D, type 0800 | ingressed to 44 bytes of FGL 7"),
+        (3, "native, 16 bytes, 02-00-00-00-00-01 to 02-00-00-00-00-0D, type 0800 | left out, refused 10: "),
+        (4, "| left out, refused 22: no pair found in the map"),
+        (5, "| left out, refused 6: "),
+        (6, "| left out, refused 11: "),
+    ] {
+        let line = printed.lines().nth(number - 1).expect("a line");
+        assert!(line.starts_with(&format!("frame {number}: ")), "{line}");
+        assert!(line.contains(said), "{line}");
+    }
+    let totals = "6 frames: 2 ingressed, 4 left out";
+    assert_eq!(printed.lines().nth(6), Some(totals));
+    let objects = good(&run_in(&folder, &[&INGRESS[..], &["--json"]].concat()));
+    same_facts(&printed, &objects);
+
+    // The far port, with the same map: the native frames, DEI 0.
+    let receive = [&receive_words("general")[..], &["--map", "map"]].concat();
+    let printed = good(&run_in(&folder, &receive));
+    let native = |place: usize| {
+        let mut frame = frames[place].clone();
+        frame[14] &= 0xEF;
+        (place, frame)
+    };
+    assert!(bytes(&folder.join("out")) == capture_of(USUAL, &[native(0), native(1)]));
+    let said = "delivered 20 bytes of FGL 11259375, learned, tagged VLAN 10 | ";
+    assert!(printed.contains(said), "{printed}");
+    fs::remove_file(folder.join("table")).expect("the table");
+    let objects = good(&run_in(&folder, &[&receive[..], &["--json"]].concat()));
+    assert!(objects.contains("\"native_vlan\":11"), "{objects}");
+    fs::remove_file(folder.join("table")).expect("the table");
+    same_facts(&good(&run_in(&folder, &receive)), &objects);
+
+    // With another map there is no pair for the first; an empty map is none.
+    fs::write(folder.join("map"), "11 7\n").expect("a map");
+    let printed = good(&run_in(&folder, &receive));
+    assert!(
+        printed.contains("refused 22: no pair found in the map | "),
+        "{printed}"
+    );
+    assert!(bytes(&folder.join("out")) == capture_of(USUAL, &[native(1)]));
+    fs::write(folder.join("map"), "# none\n").expect("a map");
+    let printed = good(&run_in(&folder, &receive));
+    let said = "delivered 16 bytes of FGL 7, refreshed | ";
+    assert!(printed.contains(said), "{printed}");
+
+    // To many, with M, and another hop count.
+    fs::write(folder.join("map"), lines).expect("a map");
+    let mut words = [&INGRESS[..], &["--hops", "5"]].concat();
+    words[15] = "01-80-C2-00-00-40";
+    good(&run_in(&folder, &words));
+    let to_many = Encapsulation {
+        outer_destination: 0x0180_C200_0040,
+        m: 1,
+        hop_count: 5,
+        ..given
+    };
+    assert!(bytes(&folder.join("general")) == capture_of(USUAL, &ingressed(&to_many)));
+}
+
+#[test]
+fn a_map_file_that_is_no_map_is_refused_by_its_line() {
+    let folder = folder("bad_map");
+    fs::write(folder.join("in"), USUAL.header()).expect("a capture");
+    let receive = [&receive_words("in")[..], &["--map", "map"]].concat();
+    bad(&run_in(&folder, &receive), 1, "map: No such file");
+    let mut all: Vec<String> = (1..=4094).map(|vlan| format!("{vlan} {vlan}\n")).collect();
+    all.push("1 5000\n".to_string());
+    let all = all.concat();
+    let long = format!("10{}7\n", " ".repeat(300));
+    for (lines, said) in [
+        ("10 7\n11\n", "map: line 2 is not `VLAN LABEL`"),
+        ("10 7 1\n", "map: line 1 is not `VLAN LABEL`"),
+        ("10, 7\n", "map: line 1 is not `VLAN LABEL`"),
+        ("65546 7\n", "map: line 1 is not `VLAN LABEL`"),
+        ("10 4294967303\n", "map: line 1 is not `VLAN LABEL`"),
+        (long.as_str(), "map: line 1 is not `VLAN LABEL`"),
+        ("\n0 7\n", "map: line 2: the VLAN is outside 1 to 4094"),
+        ("0xFFF 7\n", "map: line 1: the VLAN is outside 1 to 4094"),
+        ("10 0x1000000\n", "map: line 1: the label is over 16777215"),
+        (
+            "10 7\n\n10 8\n",
+            "map: line 3: the VLAN is in line 1 already",
+        ),
+        (
+            "10 7\n11 8\n12 7",
+            "map: line 3: the label is in line 1 already",
+        ),
+        (
+            all.as_str(),
+            "map: line 4095: the VLAN is in line 1 already",
+        ),
+    ] {
+        fs::write(folder.join("map"), lines).expect("a map");
+        bad(&run_in(&folder, &receive), 1, said);
+        bad(&run_in(&folder, &INGRESS), 1, said);
+        assert_eq!(names(&folder), ["in", "map"]);
+    }
+    // A pair for each VLAN.
+    let (good_map, _) = all.split_at(all.len() - "1 5000\n".len());
+    fs::write(folder.join("map"), good_map).expect("a map");
+    good(&run_in(&folder, &INGRESS));
+    good(&run_in(&folder, &receive));
+}
+
+/// Document 02, 2026-12: the option names the R bit, and reaches the call.
+#[test]
+fn the_option_multihomed_names_the_bit_that_marks_frames() {
+    let folder = folder("multihomed");
+    let from = |nickname, reserved, compact| {
+        let frame = generate::Frame {
+            compact,
+            outer_destination: PORT.port,
+            outer_source: 0x0200_0000_00B2,
+            outer_tag: None,
+            trill: 0x22F3,
+            version: 0,
+            reserved,
+            multicast: false,
+            option_length: 0,
+            hop_count: 5,
+            egress: PORT.nickname as u16,
+            ingress: nickname,
+            options: Vec::new(),
+            inner_destination: 0x0200_0000_000D,
+            inner_source: 0x0200_0000_0001,
+            label: vec![0x81, 0x00, 0x00, 0x0A],
+            content: vec![0x08, 0x00, 0x45, 0x00],
+        };
+        frame.bytes()
+    };
+    let (first, second) = (0b10, 0b01);
+    let frames = [
+        from(0x1234, first, false),
+        from(0x5678, first, true),
+        from(0x1234, first, true),
+        from(0x9ABC, second, false),
+    ];
+    fs::write(folder.join("in"), captures::capture(USUAL, &frames)).expect("a capture");
+    let words = |bit| [&receive_words("in")[..], &["--no-ageing"], bit].concat();
+    for (multihomed, bit) in [
+        (1, &["--multihomed", "first"][..]),
+        (2, &["--multihomed=second"]),
+        (0, &[]),
+    ] {
+        let settings = reference::Settings { multihomed, ..PORT };
+        let mut table = vec![0; 16 * RECORD];
+        for frame in &frames {
+            reference::receive_port(&settings, &[], frame, &mut table, &mut [0; 16]);
+        }
+        let printed = good(&run_in(&folder, &words(bit)));
+        assert!(bytes(&folder.join("table")).ends_with(&table), "{printed}");
+        let marked = printed.matches(", multihomed").count();
+        assert_eq!(marked > 0, multihomed > 0, "{printed}");
+        fs::remove_file(folder.join("table")).expect("the table");
+        let objects = good(&run_in(&folder, &[&words(bit)[..], &["--json"]].concat()));
+        same_facts(&printed, &objects);
+        fs::remove_file(folder.join("table")).expect("the table");
+    }
+    let said = "--multihomed takes first or second, not `third`";
+    bad(
+        &run_in(&folder, &words(&["--multihomed", "third"])),
+        2,
+        said,
+    );
+}
+
+/// A marked frame of `frame_from`: the first R bit, or the second.
+fn marked(mut frame: Vec<u8>, bit: u8) -> Vec<u8> {
+    frame[14] |= bit;
+    frame
+}
+
+#[test]
+fn two_homes_stand_side_by_side_where_the_option_names_the_bit() {
+    let folder = folder("homes");
+    let mac = 0x0200_0000_0001;
+    let from = |nickname| frame_from(mac, 10, nickname);
+    for (option, bit, number) in [("first", 0x20, 1), ("second", 0x10, 2)] {
+        let frames = [
+            from(0x1234),
+            marked(from(0x1235), bit),
+            marked(from(0x1234), bit),
+            marked(from(0x1235), bit),
+            // the other bit does not mark
+            marked(from(0x1236), 0x30 ^ bit),
+        ];
+        fs::write(folder.join("in"), captures::capture(USUAL, &frames)).expect("a capture");
+        let _ = fs::remove_file(folder.join("table"));
+        let files = [
+            "receive",
+            "in",
+            "--table",
+            "table",
+            "--slots",
+            "3",
+            "--no-ageing",
+        ];
+        let words = [&files[..], &["--multihomed", option], &SETTINGS].concat();
+        let printed = good(&run_in(&folder, &words));
+        let wanted = [
+            "slot 0: free -> learned VLAN 10 02-00-00-00-00-01 behind 1234, confidence 32, 1200 s",
+            "slot 0: VLAN 10 02-00-00-00-00-01 behind 1234 -> 1235, now multihomed",
+            "slot 1: free -> learned VLAN 10 02-00-00-00-00-01 behind 1234, confidence 32, 1200 s, multihomed",
+            "table unchanged (slot 0: learned VLAN 10 02-00-00-00-00-01 behind 1235, confidence 32, 1200 s, multihomed)",
+            "slot 0: VLAN 10 02-00-00-00-00-01 behind 1235 -> 1236, no longer multihomed; \
+             slot 1: VLAN 10 02-00-00-00-00-01 behind 1234 -> free",
+        ];
+        for (place, wanted) in wanted.iter().enumerate() {
+            assert_eq!(parts(&printed, place + 1)[2], *wanted);
+        }
+        let settings = reference::Settings {
+            multihomed: number,
+            ..PORT
+        };
+        let mut table = vec![0; 3 * RECORD];
+        for frame in &frames {
+            reference::receive_port(&settings, &[], frame, &mut table, &mut [0; 9_216]);
+        }
+        assert!(bytes(&folder.join("table")) == table);
+    }
+}
+
+/// A configured record keeps frames whatever its slot, and is its pair's only record.
+#[test]
+fn a_configured_record_takes_the_place_of_all_homes() {
+    let folder = folder("one_home");
+    let home = |nickname, multihomed| Entry {
+        label: vlan(10),
+        mac: 0x0200_0000_0001,
+        nickname,
+        confidence: 9,
+        seconds: 9,
+        multihomed,
+    };
+    let table = [
+        write(true, &home(0x1234, true)),
+        [0; RECORD],
+        write(true, &home(0x1235, true)),
+    ]
+    .concat();
+    fs::write(folder.join("table"), &table).expect("a table");
+    let pair = ["--table", "table", "--vlan", "10", "--mac", "020000000001"];
+    let set = [&["set"][..], &pair, &["--nickname", "1236"]].concat();
+    assert_eq!(
+        good(&run_in(&folder, &set)),
+        "slot 0: learned -> configured VLAN 10 02-00-00-00-00-01 behind 1234 -> 1236, confidence 9 -> 255, 9 -> 0 s, \
+         no longer multihomed\n\
+         slot 2: VLAN 10 02-00-00-00-00-01 behind 1235 -> free\n"
+    );
+    // one that stands above a home keeps frames and is the one that is removed
+    let above = [
+        write(true, &home(0x1234, true)),
+        write(false, &home(0x1235, false)),
+    ]
+    .concat();
+    fs::write(folder.join("table"), &above).expect("a table");
+    let frames = [marked(frame_from(0x0200_0000_0001, 10, 0x1234), 0x20)];
+    fs::write(folder.join("in"), captures::capture(USUAL, &frames)).expect("a capture");
+    let receive = [
+        "receive",
+        "in",
+        "--table",
+        "table",
+        "--no-ageing",
+        "--multihomed",
+        "first",
+    ];
+    let printed = good(&run_in(&folder, &[&receive[..], &SETTINGS].concat()));
+    let kept = "kept | table unchanged (slot 1: configured VLAN 10 02-00-00-00-00-01 behind 1235, confidence 9, 9 s)";
+    assert!(printed.contains(kept), "{printed}");
+    assert_eq!(
+        good(&run_in(&folder, &[&["unset"][..], &pair].concat())),
+        "slot 1: VLAN 10 02-00-00-00-00-01 behind 1235 -> free\n"
+    );
 }

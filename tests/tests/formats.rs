@@ -5,7 +5,10 @@ use std::collections::BTreeSet;
 use std::fs;
 use std::path::{Path, PathBuf};
 
-use shinglebar::{Compacted, Flushed, Label, Learning, Mac, Received, Refusal, Settings, Spoilt};
+use shinglebar::{
+    CampusLabel, Compacted, Encapsulation, Flushed, Ingressed, Label, Learning, Mac, Pair,
+    PortVlan, Received, Refusal, Settings, Spoilt,
+};
 use shinglebar_tests::reference::{self, Entry, Record, RECORD};
 
 fn root() -> PathBuf {
@@ -63,6 +66,18 @@ fn steps(document: &str) -> Vec<Vec<&str>> {
         .collect()
 }
 
+/// The numbers of the tests of ingress.
+fn ingress_numbers(document: &str) -> Vec<u8> {
+    let start = document.find("## A port's map").expect("the section");
+    let section = document[start..].split("\n## ").next().expect("it");
+    let rows = section.lines().filter(|line| line.starts_with("| "));
+    let cells = rows.map(|row| row.trim_matches('|').split('|').map(str::trim));
+    cells
+        .filter(|cells| cells.clone().count() == 2)
+        .filter_map(|cells| cells.last()?.parse().ok())
+        .collect()
+}
+
 #[test]
 fn the_order_of_refusals_has_every_number_and_a_definition_in_each_row() {
     let document = formats();
@@ -78,6 +93,9 @@ fn the_order_of_refusals_has_every_number_and_a_definition_in_each_row() {
             numbers.insert(number.parse::<u8>().expect("a number"));
         }
     }
+    let ingress = ingress_numbers(&document);
+    assert_eq!(ingress, [1, 21, 3, 10, 6, 10, 6, 11, 8, 9, 12, 22, 16]);
+    numbers.extend(ingress);
     let later = "## The order in the calls of document 02";
     let (_, section) = document.split_once(later).expect("the section");
     let rows = section.lines().filter(|line| line.starts_with("| "));
@@ -118,12 +136,14 @@ const PORT: Settings = Settings {
     compact: true,
     confidence: 20,
     seconds: 300,
+    multihomed: 0,
+    smart: false,
 };
 
 #[test]
 fn the_examples_of_the_formats_are_what_they_say() {
     let examples = examples(&formats());
-    let [record, general, compact, native, payload, flush] = &examples[..] else {
+    let [record, general, compact, native, tagged, fine, payload, flush] = &examples[..] else {
         panic!("{} examples", examples.len())
     };
     let entry = Entry {
@@ -157,6 +177,30 @@ fn the_examples_of_the_formats_are_what_they_say() {
         assert_eq!(&out[..], &native[..]);
         assert_eq!(&table[..], &record[..]);
     }
+
+    // ingress makes the fine-grained frame, and reading brings the tagged one back
+    let map = [Pair::new(PortVlan(10), CampusLabel(0xAB_CDEF))];
+    let given = Encapsulation {
+        outer_destination: PORT.port,
+        outer_source: Mac([0x02, 0, 0, 0, 0, 0xB2]),
+        multicast: false,
+        hop_count: 5,
+        egress: 0x0102,
+        ingress: 0x1234,
+    };
+    let mut written = [0; 44];
+    let outcome = shinglebar::ingress(&PORT, &map, &given, tagged, &mut written);
+    assert_eq!(outcome, Ok(Ingressed { length: 44 }));
+    assert_eq!(&written[..], &fine[..]);
+    let (mut table, mut out) = ([0; reference::RECORD], [0; 20]);
+    let delivered = Received::Delivered {
+        length: 20,
+        learning: Learning::Learned,
+        label: Label::Fine(0xAB_CDEF),
+    };
+    let outcome = shinglebar::receive_port(&PORT, &map, fine, &mut table, &mut out);
+    assert_eq!(outcome, Ok(delivered));
+    assert_eq!(&out[..], &tagged[..]);
 
     // the payload clears it, alone and in its frame
     let mut table = record.clone();

@@ -79,7 +79,7 @@ fn the_target_accepts_its_corpus_and_reaches_every_answer() {
     let output = run_on_corpus(&program, "");
     let told = String::from_utf8_lossy(&output.stderr);
     assert!(output.status.success(), "{}\n{told}", output.status);
-    let calls: [(&str, Answers); 9] = [
+    let calls: [(&str, Answers); 13] = [
         ("send", run::SEND),
         ("receive", run::RECEIVE),
         ("flush", run::FLUSH),
@@ -88,12 +88,16 @@ fn the_target_accepts_its_corpus_and_reaches_every_answer() {
         ("spoilt", run::SPOILT),
         ("compact", run::COMPACT),
         ("expand", run::EXPAND),
+        ("receive_port", run::RECEIVE_PORT),
+        ("ingress", run::INGRESS),
         ("widen", run::WIDEN),
+        ("write", run::WRITE),
+        ("free_slot", run::FREE_SLOT),
     ];
     // A file for each answer, and each run twice.
     let mut expected = String::new();
     for (name, answers) in calls {
-        expected += &format!("{name:<8}");
+        expected += &format!("{name:<12}");
         for (answer, _) in answers {
             expected += &format!(" {answer}:2");
         }
@@ -108,10 +112,16 @@ fn the_target_ends_where_a_call_does_something_wrong() {
     const SIGSEGV: i32 = 11;
     let wrong = compile("wrong.o", &["-c", "tests/c/wrong.c"]);
     let archive = env!("SHINGLEBAR_ARCHIVE");
-    let renamed = "-Dshinglebar_receive=wrong_receive";
     let program = compile(
         "fuzz_wrong",
-        &[renamed, "fuzz/boundary.c", "fuzz/main.c", &wrong, archive],
+        &[
+            "-Dshinglebar_receive=wrong_receive",
+            "-Dshinglebar_ingress=wrong_ingress",
+            "fuzz/boundary.c",
+            "fuzz/main.c",
+            &wrong,
+            archive,
+        ],
     );
     assert!(run_on_corpus(&program, "").status.success());
     for (fault, signal) in [
@@ -131,6 +141,10 @@ fn the_target_ends_where_a_call_does_something_wrong() {
         ("a read behind the table", SIGSEGV),
         ("a write before the output area", SIGSEGV),
         ("a write to the frame", SIGSEGV),
+        ("ingress tells a byte less", SIGABRT),
+        ("a map that is refused with 2", SIGABRT),
+        ("a read behind the map", SIGSEGV),
+        ("a write to the map", SIGSEGV),
     ] {
         let status = run_on_corpus(&program, fault).status;
         assert_eq!(status.signal(), Some(signal), "{fault}: {status}");

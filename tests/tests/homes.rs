@@ -2,7 +2,7 @@
 //! tables widened, compared through the C boundary.
 
 use shinglebar_tests::compare;
-use shinglebar_tests::generate::{self, Frame, Raw, MARK};
+use shinglebar_tests::generate::{self, Frame, Pool, Raw, MARK};
 use shinglebar_tests::random::Random;
 use shinglebar_tests::reference::{
     self, homes_are_apart, read, write, Entry, Label, Record, Settings, OLD_RECORD, RECORD, SLOTS,
@@ -10,49 +10,40 @@ use shinglebar_tests::reference::{
 };
 use shinglebar_tests::run::{self, Answers, Tally};
 
-/// A port's settings, with the R bit that marks frames.
-#[derive(Clone, Copy)]
-struct Port {
-    settings: Settings,
-    multihomed: u32,
-}
-
-/// Reading at a port: through the C boundary where no bit marks frames, else by the second implementation alone.
+/// Reading at a port without a map; where no bit marks frames, the call without the setting does the same.
 fn receive(
     lender: &mut Random,
-    port: &Port,
+    settings: &Settings,
     frame: &[u8],
     table: &mut [u8],
     out: &mut [u8],
 ) -> u64 {
-    match port.multihomed {
-        0 => compare::receive(lender, &port.settings, frame, table, out),
-        bit => reference::receive_homes(&port.settings, bit, frame, table, out),
+    let (mut same_table, mut same_out) = (table.to_vec(), out.to_vec());
+    let word = compare::receive_port(lender, settings, &[], frame, table, out);
+    if settings.multihomed == 0 {
+        let same = compare::receive(lender, settings, frame, &mut same_table, &mut same_out);
+        assert!(same == word && same_table == table && same_out == out);
     }
+    word
 }
 
-const PORT: Port = Port {
-    settings: Settings {
-        port: 0x0200_0000_00A1,
-        inner: 0x0200_0000_00B1,
-        nickname: 0x0102,
-        compact: 1,
-        confidence: 20,
-        seconds: 300,
-    },
+const PORT: Settings = Settings {
+    port: 0x0200_0000_00A1,
+    inner: 0x0200_0000_00B1,
+    nickname: 0x0102,
+    compact: 1,
+    confidence: 20,
+    seconds: 300,
     multihomed: 1,
+    smart: 0,
 };
 
-/// The same with another setting and confidence.
-fn port(multihomed: u32, confidence: u8) -> Port {
-    let confidence = u32::from(confidence);
-    let settings = Settings {
-        confidence,
-        ..PORT.settings
-    };
-    Port {
-        settings,
+/// The same with another bit and confidence.
+fn port(multihomed: u32, confidence: u8) -> Settings {
+    Settings {
+        confidence: u32::from(confidence),
         multihomed,
+        ..PORT
     }
 }
 
@@ -80,7 +71,7 @@ fn tag(label: Label) -> Vec<u8> {
 fn frame(label: Label, mac: u64, nickname: u16, reserved: u8) -> Frame {
     Frame {
         compact: false,
-        outer_destination: PORT.settings.port,
+        outer_destination: PORT.port,
         outer_source: 0x0200_0000_00B2,
         outer_tag: None,
         trill: 0x22F3,
@@ -89,7 +80,7 @@ fn frame(label: Label, mac: u64, nickname: u16, reserved: u8) -> Frame {
         multicast: false,
         option_length: 0,
         hop_count: 5,
-        egress: PORT.settings.nickname as u16,
+        egress: PORT.nickname as u16,
         ingress: nickname,
         options: Vec::new(),
         inner_destination: 0x0200_0000_000D,
@@ -582,6 +573,52 @@ fn homes_are_learned_as_the_paper_says_and_stay_apart() {
                 } else {
                     assert!(homes_are_apart(&table), "{}", compare::hex(&table));
                     tally.situation(situation);
+                }
+            }
+        },
+    );
+}
+
+/// Any frames, good and damaged, on any tables with the setting on: what the older comparison does at a port without it.
+#[test]
+fn reading_with_the_setting_answers_as_the_paper_says() {
+    run::cases(
+        "reading_with_the_setting_answers_as_the_paper_says",
+        1,
+        &[],
+        &[
+            "learned",
+            "refreshed",
+            "kept",
+            "full",
+            "flushed",
+            "refused",
+            "apart",
+        ],
+        |random, tally| {
+            let pool = Pool::new(random);
+            let mut settings = generate::settings(random, &pool);
+            settings.multihomed = random.pick(&[1, 2]);
+            let mut table = generate::table(random, &pool);
+            for _ in 0..4 {
+                let frame = generate::frame(random, &pool, &settings);
+                let room = generate::area_length(random, 12 + frame.content.len());
+                let mut out = random.bytes(room);
+                let bytes = generate::damage(random, frame.bytes());
+                let apart = table.len() <= 40 * RECORD && homes_are_apart(&table);
+                let word = receive(random, &settings, &bytes, &mut table, &mut out);
+                if apart {
+                    assert!(homes_are_apart(&table), "{}", compare::hex(&table));
+                    tally.situation("apart");
+                }
+                match (word & 0xFF, word >> 24 & 3) {
+                    (65, LEARNED) => tally.situation("learned"),
+                    (65, REFRESHED) => tally.situation("refreshed"),
+                    (65, KEPT) => tally.situation("kept"),
+                    (65, _) => tally.situation("full"),
+                    (67, _) => tally.situation("flushed"),
+                    (..=63, _) => tally.situation("refused"),
+                    _ => {}
                 }
             }
         },

@@ -122,7 +122,8 @@ fn the_old_default_of_the_second_implementation_is_300() {
     let (_, hall) = captures::all().swap_remove(0);
     for (life, seconds) in [(reference::OLD_LIFE, 300), (reference::DEFAULT_LIFE, 1200)] {
         let mut table = [0; RECORD];
-        let word = reference::receive_with(life, &settings, &hall[0], &mut table, &mut [0; 64]);
+        let word =
+            reference::receive_with(life, &settings, &[], &hall[0], &mut table, &mut [0; 64]);
         assert_eq!(word, delivered(LEARNED));
         assert_eq!(seconds_of(&table), seconds);
     }

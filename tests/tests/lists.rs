@@ -1,15 +1,18 @@
 //! Whole call lists, once as they are and once with frames compacted, through the C boundary; and with the old and the new default life.
+//! Each reading has a map of its own, often none (document 02, 2026-01), and the port any R bit that marks frames, or none (2026-12).
 
 use shinglebar_tests::boundary;
 use shinglebar_tests::compare::hex;
 use shinglebar_tests::generate::{self, Pool};
+use shinglebar_tests::maps;
 use shinglebar_tests::random::Random;
-use shinglebar_tests::reference::{self, Settings};
+use shinglebar_tests::reference::{self, Record, Settings, RECORD};
 use shinglebar_tests::run::{self, Tally};
 
 /// A call of the list of demand 3.
 enum Call {
     Receive {
+        map: Vec<u8>,
         frame: Vec<u8>,
         out: Vec<u8>,
     },
@@ -61,9 +64,14 @@ fn call(random: &mut Random, pool: &Pool, settings: &Settings, table: &[u8]) -> 
             if frame.content.starts_with(&[0x89, 0x46]) && !random.one_in(4) {
                 frame.inner_destination = settings.inner & ((1 << 48) - 1);
             }
-            let out_length = generate::area_length(random, 12 + frame.content.len());
+            let map = match random.below(3) {
+                0 => Vec::new(),
+                _ => maps::small_map(random, pool),
+            };
+            let out_length = generate::area_length(random, 16 + frame.content.len());
             let frame = generate::damage(random, frame.bytes());
             Call::Receive {
+                map,
                 frame,
                 out: random.bytes(out_length),
             }
@@ -80,9 +88,12 @@ fn make(
     table: &mut [u8],
 ) -> (u64, Vec<u8>) {
     match call {
-        Call::Receive { out, .. } => {
+        Call::Receive { map, out, .. } => {
             let mut out = out.clone();
-            let word = boundary::receive(random, settings, frame, table, &mut out);
+            let word = match (map.as_slice(), settings.multihomed) {
+                ([], 0) => boundary::receive(random, settings, frame, table, &mut out),
+                (map, _) => boundary::receive_port(random, settings, map, frame, table, &mut out),
+            };
             (word, out)
         }
         Call::Age { seconds } => (boundary::age(random, *seconds, table), Vec::new()),
@@ -112,9 +123,9 @@ fn make_by_paper(
     table: &mut [u8],
 ) -> (u64, Vec<u8>) {
     match call {
-        Call::Receive { out, .. } => {
+        Call::Receive { map, out, .. } => {
             let mut out = out.clone();
-            let word = reference::receive_with(life, settings, frame, table, &mut out);
+            let word = reference::receive_with(life, settings, map, frame, table, &mut out);
             (word, out)
         }
         Call::Age { seconds } => (reference::age(*seconds, table), Vec::new()),
@@ -146,6 +157,23 @@ fn count_control(tally: &mut Tally, frame: &[u8], word: u64) {
     }
 }
 
+/// Reading of stations on two switches (document 02, 2026-12): "R passes through compaction, so demand 3 stands over the wider table."
+fn count_homes(tally: &mut Tally, before: &[u8], after: &[u8], word: u64) {
+    if word & 0xFF != 65 {
+        return;
+    }
+    let records = before.chunks(RECORD).zip(after.chunks(RECORD));
+    for (before, after) in records.filter(|(before, after)| before != after) {
+        match reference::read(after) {
+            Record::Learned(entry) if entry.multihomed => {
+                tally.situation("compacted: a marked record is written");
+            }
+            Record::Free => tally.situation("compacted: a learned record is cleared beside"),
+            _ => assert!(!matches!(reference::read(before), Record::Configured(_))),
+        }
+    }
+}
+
 fn count_replaced(tally: &mut Tally, word: u64) {
     tally.situation(match word & 0xFF {
         2 => "compacted: refusal 2",
@@ -156,6 +184,8 @@ fn count_replaced(tally: &mut Tally, word: u64) {
         14 => "compacted: refusal 14",
         15 => "compacted: refusal 15",
         16 => "compacted: refusal 16",
+        21 => "compacted: refusal 21",
+        22 => "compacted: refusal 22",
         64 => "compacted: onward",
         65 => match word >> 24 & 3 {
             0 => "compacted: delivered, learned",
@@ -185,6 +215,11 @@ fn call_lists_give_the_same_with_frames_compacted() {
             "compacted: refusal 14",
             "compacted: refusal 15",
             "compacted: refusal 16",
+            "compacted: refusal 21",
+            "compacted: refusal 22",
+            "compacted: delivered with a tag by the map",
+            "compacted: a marked record is written",
+            "compacted: a learned record is cleared beside",
             "compacted: onward",
             "compacted: delivered, learned",
             "compacted: delivered, refreshed",
@@ -210,6 +245,7 @@ fn call_lists_give_the_same_with_frames_compacted() {
             let pool = Pool::new(random);
             let mut settings = generate::settings(random, &pool);
             settings.compact = 1;
+            settings.multihomed = random.pick(&[0, 1, 2]);
             let start = generate::table(random, &pool);
             let (mut plain, mut mixed, mut paper) = (start.clone(), start.clone(), start.clone());
             for step in 0..random.length(1, 16) {
@@ -237,6 +273,7 @@ fn call_lists_give_the_same_with_frames_compacted() {
                     Call::Portion { .. } => tally.situation("portion"),
                 }
                 let replaced = compacted.as_deref().unwrap_or(given);
+                let before = plain.clone();
                 let first = make(random, &settings, &call, given, &mut plain);
                 let second = make(random, &settings, &call, replaced, &mut mixed);
                 let third =
@@ -273,6 +310,12 @@ fn call_lists_give_the_same_with_frames_compacted() {
                         (64, _) => "portion: some cleared",
                         _ => "portion: refused",
                     });
+                }
+                if let (Some(_), Call::Receive { map, .. }) = (&compacted, &call) {
+                    if maps::is_tagged(map, first.0) {
+                        tally.situation("compacted: delivered with a tag by the map");
+                    }
+                    count_homes(tally, &before, &plain, first.0);
                 }
             }
         },

@@ -227,6 +227,7 @@ fn a_message_that_is_corrupt_to_the_full_model_alone_is_carried_out_by_the_small
         nickname: 0x1234,
         confidence: 20,
         seconds: 300,
+        multihomed: false,
     };
     let known = reference::write(true, &entry).to_vec();
     for kind in [3, 4, 7, 8] {

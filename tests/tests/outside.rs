@@ -176,6 +176,8 @@ impl Judged {
             compact: 0,
             confidence: 77,
             seconds: 1234,
+            multihomed: 0,
+            smart: 0,
         }
     }
 

@@ -7,6 +7,7 @@ use std::process::{Command, ExitStatus};
 
 use shinglebar_tests::compare;
 use shinglebar_tests::generate::{self, Pool};
+use shinglebar_tests::maps;
 use shinglebar_tests::pages::{Access, Pages};
 use shinglebar_tests::random::Random;
 use shinglebar_tests::reference::{Settings, OLD_RECORD, RECORD};
@@ -79,6 +80,66 @@ fn receive_touches_only_what_it_is_lent() {
                 for pages in &mut both {
                     let (mut table, mut out) = (table.clone(), out.clone());
                     let word = compare::receive(pages, &settings, &bytes, &mut table, &mut out);
+                    tally.word(word);
+                }
+            }
+        },
+    );
+}
+
+#[test]
+fn receive_port_touches_only_what_it_is_lent() {
+    let mut both = Pages::both();
+    run::cases(
+        "receive_port_touches_only_what_it_is_lent",
+        SHARE,
+        run::RECEIVE_PORT,
+        &["delivered with a tag"],
+        |random, tally| {
+            let pool = Pool::new(random);
+            let settings = maps::settings(random, &pool);
+            let map = maps::map(random, &pool);
+            let frame = generate::frame(random, &pool, &settings);
+            let length = generate::area_length(random, 16 + frame.content.len());
+            let out = random.bytes(length);
+            let table = table(random, &pool);
+            let bytes = generate::damage(random, frame.bytes());
+            for bytes in variants(random, bytes) {
+                for pages in &mut both {
+                    let (mut table, mut out) = (table.clone(), out.clone());
+                    let word =
+                        compare::receive_port(pages, &settings, &map, &bytes, &mut table, &mut out);
+                    tally.word(word);
+                    if maps::is_tagged(&map, word) {
+                        tally.situation("delivered with a tag");
+                    }
+                }
+            }
+        },
+    );
+}
+
+#[test]
+fn ingress_touches_only_what_it_is_lent() {
+    let mut both = Pages::both();
+    run::cases(
+        "ingress_touches_only_what_it_is_lent",
+        SHARE,
+        run::INGRESS,
+        &[],
+        |random, tally| {
+            let pool = Pool::new(random);
+            let settings = generate::settings(random, &pool);
+            let map = maps::map(random, &pool);
+            let given = maps::encapsulation(random, &pool, &settings);
+            let frame = maps::native(random, &pool, &map).bytes();
+            let length = generate::area_length(random, frame.len() + 24);
+            let out = random.bytes(length);
+            let frame = generate::damage(random, frame);
+            for frame in variants(random, frame) {
+                for pages in &mut both {
+                    let mut out = out.clone();
+                    let word = compare::ingress(pages, &settings, &map, &given, &frame, &mut out);
                     tally.word(word);
                 }
             }

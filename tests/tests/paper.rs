@@ -19,6 +19,8 @@ const SETTINGS: Settings = Settings {
     compact: 1,
     confidence: 20,
     seconds: 300,
+    multihomed: 0,
+    smart: 0,
 };
 
 const OFF: Settings = Settings {

@@ -316,6 +316,8 @@ fn the_ranges_of_the_settings_are_as_the_paper_says() {
         compact: 1,
         confidence: 20,
         seconds: 0,
+        multihomed: 0,
+        smart: 0,
     };
     let frame = [
         0x02, 0, 0, 0, 0, 0x0D, 0x02, 0, 0, 0, 0, 0x01, 0x81, 0, 0, 0x0A, 0x22, 0xF3, 0x08, 0x05,

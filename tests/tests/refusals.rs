@@ -145,6 +145,8 @@ impl Case {
                 compact: 1,
                 confidence: 20,
                 seconds: 0,
+                multihomed: 0,
+                smart: 0,
             },
             outer: raw::Outer {
                 source: 0x0200_0000_00B2,

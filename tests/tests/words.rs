@@ -3,10 +3,12 @@
 //! taken for any.
 
 use shinglebar::{
-    decode, encode, raw, Aged, Answer, Compacted, Expanded, Flushed, Found, Label, Learning, Mac,
-    Outer, Portioned, Received, Refusal, Sent, Settings, Spoilt, Widened,
+    decode, encode, raw, Aged, Answer, CampusLabel, Compacted, Encapsulation, Expanded, Flushed,
+    Found, Ingressed, Label, Learning, Mac, Outer, Pair, PortVlan, Portioned, Received,
+    ReceivedAtPort, Refusal, Sent, Settings, Spoilt, Widened,
 };
 use shinglebar_tests::generate::{self, Pool};
+use shinglebar_tests::maps;
 use shinglebar_tests::random::Random;
 use shinglebar_tests::reference::{self, OLD_RECORD, RECORD};
 use shinglebar_tests::run::{self, Answers};
@@ -45,6 +47,18 @@ impl Packed for Received {
             Received::OtherChannel => 66,
             Received::Flushed { count } => value(67, usize::from(*count)),
         }
+    }
+}
+
+impl Packed for ReceivedAtPort {
+    fn packed(&self) -> u64 {
+        self.0.packed()
+    }
+}
+
+impl Packed for Ingressed {
+    fn packed(&self) -> u64 {
+        value(64, self.length)
     }
 }
 
@@ -136,6 +150,8 @@ fn settings(random: &mut Random, pool: &Pool) -> (Settings, reference::Settings)
         compact: numbers.compact == 1,
         confidence: numbers.confidence as u8,
         seconds: numbers.seconds as u16,
+        multihomed: 0,
+        smart: false,
     };
     (settings, numbers)
 }
@@ -165,6 +181,84 @@ fn typed_receive_gives_what_the_paper_says() {
             assert_eq!(packed(outcome), paper, "{outcome:?}");
             assert!(table == paper_table && out == paper_out);
             tally.word(paper);
+        },
+    );
+}
+
+/// A typed map, which has no length but whole pairs.
+fn pairs(map: &[u8]) -> Vec<Pair> {
+    let pair = |bytes: &[u8]| {
+        let vlan = u16::from_be_bytes([bytes[0], bytes[1]]);
+        let label = u32::from_be_bytes([bytes[2], bytes[3], bytes[4], bytes[5]]);
+        Pair::new(PortVlan(vlan), CampusLabel(label))
+    };
+    map.chunks_exact(6).map(pair).collect()
+}
+
+#[test]
+fn typed_reading_with_a_map_and_typed_ingress_give_what_the_paper_says() {
+    run::cases(
+        "typed_reading_with_a_map_and_typed_ingress_give_what_the_paper_says",
+        1,
+        run::RECEIVE_PORT,
+        &["ingressed", "ingress refused"],
+        |random, tally| {
+            let pool = Pool::new(random);
+            let (mut settings, mut numbers) = settings(random, &pool);
+            if random.one_in(50) {
+                (settings.multihomed, numbers.multihomed) = (3, 3);
+            } else if random.one_in(2) {
+                let bit = random.between(1, 2) as u8;
+                (settings.multihomed, numbers.multihomed) = (bit, u32::from(bit));
+            }
+            if random.one_in(50) {
+                (settings.smart, numbers.smart) = (true, 1);
+            }
+            let map = pairs(&maps::small_map(random, &pool));
+            let map_bytes = raw::map_bytes(&map);
+            assert_eq!(pairs(map_bytes), map);
+            let frame = generate::frame(random, &pool, &numbers);
+            let length = generate::area_length(random, 16 + frame.content.len());
+            let frame = generate::damage(random, frame.bytes());
+            let (mut table, mut out) = (generate::table(random, &pool), random.bytes(length));
+            let (mut paper_table, mut paper_out) = (table.clone(), out.clone());
+            let outcome = shinglebar::receive_port(&settings, &map, &frame, &mut table, &mut out);
+            let paper = reference::receive_port(
+                &numbers,
+                map_bytes,
+                &frame,
+                &mut paper_table,
+                &mut paper_out,
+            );
+            assert_eq!(packed(outcome), paper, "{outcome:?}");
+            assert!(table == paper_table && out == paper_out);
+            tally.word(paper);
+
+            let mut given = maps::encapsulation(random, &pool, &numbers);
+            given.outer_destination &= (1 << 48) - 1;
+            given.outer_source &= (1 << 48) - 1;
+            given.m &= 1;
+            given.hop_count &= 0xFF;
+            given.egress &= 0xFFFF;
+            given.ingress &= 0xFFFF;
+            let typed = Encapsulation {
+                outer_destination: mac(given.outer_destination),
+                outer_source: mac(given.outer_source),
+                multicast: given.m == 1,
+                hop_count: given.hop_count as u8,
+                egress: given.egress as u16,
+                ingress: given.ingress as u16,
+            };
+            let native = maps::native(random, &pool, map_bytes).bytes();
+            let native = generate::damage(random, native);
+            let outcome = shinglebar::ingress(&settings, &map, &typed, &native, &mut out);
+            let paper = reference::ingress(&numbers, map_bytes, &given, &native, &mut paper_out);
+            assert_eq!(packed(outcome), paper, "{outcome:?}");
+            assert!(out == paper_out);
+            tally.situation(match outcome {
+                Ok(_) => "ingressed",
+                Err(_) => "ingress refused",
+            });
         },
     );
 }
@@ -417,6 +511,17 @@ fn a_word_that_is_no_answer_is_not_taken_for_one() {
             bits(67, ONE_VALUE, 67),
         ],
     );
+    check_words::<ReceivedAtPort>(
+        "receive_port",
+        run::RECEIVE_PORT,
+        &[
+            bits(64, NO_VALUE, 64),
+            bits(65, delivered, 0x0000_0A00_0000_1041),
+            bits(65, delivered, 0x8000_0001_0000_1041),
+            bits(66, NO_VALUE, 66),
+            bits(67, ONE_VALUE, 67),
+        ],
+    );
     check_words::<Flushed>("flush", run::FLUSH, &[bits(67, ONE_VALUE, 67)]);
     check_words::<Portioned>(
         "flush_portion",
@@ -424,6 +529,7 @@ fn a_word_that_is_no_answer_is_not_taken_for_one() {
         &[bits(64, 0x001F_FF1F_FF1F_FF00, 0x0000_0100_0100_0040)],
     );
     check_words::<Compacted>("compact", run::COMPACT, &[bits(64, ONE_VALUE, 0x1040)]);
+    check_words::<Ingressed>("ingress", run::INGRESS, &[bits(64, ONE_VALUE, 0x1040)]);
     check_words::<Expanded>("expand", run::EXPAND, &[bits(64, ONE_VALUE, 0x1040)]);
     check_words::<Sent>(
         "send",
@@ -470,11 +576,10 @@ fn values_that_no_answer_has_are_not_taken_for_one() {
 #[test]
 fn the_refusals_are_those_of_the_header() {
     let header = include_str!("../../include/shinglebar.h");
-    assert!(Refusal::ALL
-        .windows(2)
-        .all(|two| two[0].number() < two[1].number()));
-    for refusal in Refusal::ALL {
-        let number = u64::from(refusal.number());
+    let numbers: Vec<u64> = (1..=18).chain(21..=24).collect();
+    assert_eq!(Refusal::ALL.len(), numbers.len());
+    for (number, refusal) in numbers.into_iter().zip(Refusal::ALL) {
+        assert_eq!(u64::from(refusal.number()), number);
         assert_eq!(Refusal::from_number(number), Some(*refusal));
         let comment = format!("/* {refusal} */\n    SHINGLEBAR_REFUSAL_");
         let (_, behind) = header
@@ -487,7 +592,7 @@ fn the_refusals_are_those_of_the_header() {
             "{line}"
         );
     }
-    for number in [0, 19, 64, 257, u64::MAX] {
+    for number in [0, 19, 20, 25, 64, 257, u64::MAX] {
         assert_eq!(Refusal::from_number(number), None);
     }
 }
@@ -501,8 +606,20 @@ fn empty_slices_are_areas_too() {
         compact: 1,
         confidence: 20,
         seconds: 0,
+        multihomed: 0,
+        smart: 0,
+    };
+    let given = raw::Encapsulation {
+        outer_destination: 0x0200_0000_00A1,
+        outer_source: 0x0200_0000_00B2,
+        m: 0,
+        hop_count: 5,
+        egress: 0x0102,
+        ingress: 0x1234,
     };
     assert_eq!(raw::receive(&settings, &[], &mut [], &mut []), 2);
+    assert_eq!(raw::receive_port(&settings, &[], &[], &mut [], &mut []), 2);
+    assert_eq!(raw::ingress(&settings, &[], &given, &[], &mut []), 3);
     assert_eq!(raw::compact(&settings, &[], &mut []), 3);
     assert_eq!(raw::send(&settings, &[], &mut []), 16);
     assert_eq!(raw::flush(1, &[], &mut []), 2);

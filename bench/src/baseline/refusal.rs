@@ -36,5 +36,9 @@ pub const OUTPUT_LENGTH: u64 = 16;
 pub const NOT_COMPACTABLE: u64 = 17;
 /// a General frame given where Compact is required
 pub const GENERAL: u64 = 18;
+/// map has a VLAN or label twice, a VLAN outside 1 to FFE or a label over FFFFFF
+pub const MAP: u64 = 21;
+/// no pair found
+pub const NO_PAIR: u64 = 22;
 /// k is 0, or the slot number is n or more
 pub const PORTION: u64 = 24;

@@ -10,6 +10,8 @@ pub struct Port {
     pub compact: bool,
     pub confidence: u8,
     pub seconds: u16,
+    /// The R bit that marks frames of a station on two switches, in the first byte of the header; 0 for none.
+    pub mark: u8,
 }
 
 /// An individual address, below 2^48.
@@ -44,6 +46,14 @@ impl Port {
             compact: compact == 1,
             confidence: confidence as u8,
             seconds: seconds as u16,
+            mark: 0,
         })
+    }
+
+    /// The same with the setting 0 none, 1 the first R bit, 2 the second.
+    #[inline(always)]
+    pub fn marking(self, multihomed: u32) -> Port {
+        let mark = [0, 0x20, 0x10][multihomed as usize];
+        Port { mark, ..self }
     }
 }

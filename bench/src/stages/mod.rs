@@ -6,14 +6,18 @@ use crate::report::Report;
 mod convert;
 #[cfg(feature = "flush")]
 mod flush;
+#[cfg(feature = "homes")]
+mod homes;
+#[cfg(feature = "map")]
+mod map;
 #[cfg(feature = "receive")]
 mod receive;
 #[cfg(feature = "table")]
 mod table;
-#[cfg(feature = "flush")]
-mod write;
 #[cfg(feature = "convert")]
 mod watch;
+#[cfg(feature = "flush")]
+mod write;
 
 const STAGES: &[fn(&Report)] = &[
     #[cfg(feature = "table")]
@@ -28,6 +32,10 @@ const STAGES: &[fn(&Report)] = &[
     write::run,
     #[cfg(feature = "convert")]
     watch::run,
+    #[cfg(feature = "map")]
+    map::run,
+    #[cfg(feature = "homes")]
+    homes::run,
 ];
 
 pub fn run(report: &Report) {

@@ -3,8 +3,8 @@
 use crate::baseline;
 use crate::buffer::Buffer;
 use crate::inputs::{
-    entries, last_free, mac, table, Entry, Format, Frame, Label, Settings, DEFAULT_SECONDS, LEARNED, RECORD,
-    SETTINGS, SIZES, SLOTS,
+    entries, last_free, mac, table, Entry, Format, Frame, Label, Settings, DEFAULT_SECONDS,
+    LEARNED, RECORD, SETTINGS, SIZES, SLOTS,
 };
 use crate::library::{self, Receive};
 use crate::measure::{Areas, Lent, Pair};

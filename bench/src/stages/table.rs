@@ -30,8 +30,14 @@ const FREE_SLOT: Pair<Spoilt> = Pair {
 /// How many spoilt records of state 0 stand before the free slot.
 const FREE_ROWS: [(&str, usize); 3] = [
     ("free slot: the last of 4,096", 0),
-    ("free slot: the last of 4,096, one spoilt of state 0 before it", 1),
-    ("free slot: the last of 4,096, 4,095 spoilt of state 0 before it", SLOTS - 1),
+    (
+        "free slot: the last of 4,096, one spoilt of state 0 before it",
+        1,
+    ),
+    (
+        "free slot: the last of 4,096, 4,095 spoilt of state 0 before it",
+        SLOTS - 1,
+    ),
 ];
 
 const DONE: u64 = 64;
@@ -69,7 +75,11 @@ fn free_rows(report: &Report, entries: &[Entry]) {
     };
     let last = (SLOTS as u64 - 1) << 8 | 64;
     for (name, spoilt) in FREE_ROWS {
-        row(name, &last_free(entries, spoilt), last | (spoilt as u64 + 1) << 32);
+        row(
+            name,
+            &last_free(entries, spoilt),
+            last | (spoilt as u64 + 1) << 32,
+        );
     }
     row("free slot: none in 4,096", &table(entries), NONE);
 }

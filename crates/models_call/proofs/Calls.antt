@@ -30,7 +30,8 @@ use Rattle.flush_marks.proofs.Clearing.{cleared-whole}
 use Rattle.flush_marks.proofs.Filters.{chosen-same}
 use Rattle.flush_call.specs.Clearing.{payloadFrom}
 use Rattle.flush_call.proofs.Tests.{either-neither}
-use Rattle.flush_call.proofs.Calls.{range-cleared, whole-within, count-few, flush-slots}
+use Rattle.flush_call.proofs.Calls.{range-cleared, whole-within, flush-slots}
+use Rattle.table.proofs.Slots.{count-few}
 use Rattle.models.specs.Models.{flushedBy, flushedVlanOnly}
 use Rattle.models_call.proofs.Marks.{first-exact, slot-none, none-cleared}
 
@@ -105,5 +106,5 @@ module _ (l : List ℕ) (j : Judged) (judged : JudgedPayload vlanTypes l j) wher
         unfolding clearedBy
         small-fits =
             let n : c ≡ countSlots (slotMeant vlanTypes (made l) ingress) 0 (slotsOf t) t = ap (λ (x : OnTable ℕ). x .answer) same in
-            let few = count-few (slotMeant vlanTypes (made l) ingress) 0 t (slotsOf t) in
+            let few = count-few (slotMeant vlanTypes (made l) ingress) t 0 (slotsOf t) in
             omega (arith, flush-slots t g whole ok)

@@ -138,7 +138,7 @@ module _ (n : ℕ) (r : List ℕ) (f : Kinds) (noted : Noted vlanTypes n (pieces
     not-learned (Configured x) e = refl
 
     by-learned : (s : List ℕ) (b : Bool) → isLearned (unpacked s) ≡ b → slotMeant vlanTypes p ingress s ≡ both b (entryMeant vlanTypes p ingress (entryOf (recordOf s)))
-    unfolding slotMeant both
+    unfolding slotMeant entryMeant both
     by-learned s true e = ap (heldMeant vlanTypes p ingress) (learned-entry s e)
     by-learned s false e = not-learned (unpacked s) e
 

@@ -60,7 +60,7 @@ fn two_bytes(number: u64) -> [u8; 2] {
 
 /// "Compact on or off doesn't bear on these two calls."
 pub fn compact(settings: &Settings, frame: &[u8], out: &mut [u8]) -> u64 {
-    word(compacted(settings, frame, out))
+    word(compacted(&settings.six(), frame, out))
 }
 
 fn compacted(settings: &Settings, frame: &[u8], out: &mut [u8]) -> Result<Written, Refusal> {
@@ -83,7 +83,14 @@ pub fn expand(
     frame: &[u8],
     out: &mut [u8],
 ) -> u64 {
-    word(expanded(settings, outer_source, tagged, tag, frame, out))
+    word(expanded(
+        &settings.six(),
+        outer_source,
+        tagged,
+        tag,
+        frame,
+        out,
+    ))
 }
 
 fn expanded(
@@ -142,7 +149,7 @@ fn expanded(
 /// far port has Compact off. Other refusals stand." "Sending now gives 16 exactly if the area is
 /// shorter, after 1 and before reading the frame" (document 02, 2026-11).
 pub fn send(settings: &Settings, frame: &[u8], work: &mut [u8]) -> u64 {
-    word(sent(settings, frame, work))
+    word(sent(&settings.six(), frame, work))
 }
 
 fn sent(settings: &Settings, frame: &[u8], work: &mut [u8]) -> Result<Sent, Refusal> {

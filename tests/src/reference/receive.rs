@@ -4,10 +4,11 @@ use super::answer::{word, Received};
 use super::flush::clear;
 use super::frame::{
     check_length as check_frame_length, front, is_reserved, read_compact, read_general, Fields,
-    Front, CHANNEL,
+    Front, CHANNEL, C_TAG,
 };
 use super::homes::learn;
-use super::record::Entry;
+use super::map::{CampusLabel, Map, PortVlan};
+use super::record::{Entry, Label};
 use super::refusal::Refusal;
 use super::settings::{MultihomingBit, Port, Settings, DEFAULT_LIFE};
 use super::table::check_length as check_table_length;
@@ -20,27 +21,26 @@ const ALL_EGRESS_RBRIDGES: u64 = 0x0180_C200_0042;
 const ADDRESS_FLUSH: u64 = 0x009;
 
 pub fn receive(settings: &Settings, frame: &[u8], table: &mut [u8], out: &mut [u8]) -> u64 {
-    receive_with(DEFAULT_LIFE, settings, frame, table, out)
+    receive_port(&settings.six(), &[], frame, table, out)
 }
 
-/// Reading at a port with the setting of 2026-12.
-pub fn receive_homes(
+/// Reading at a port with a map and the setting that says which bit marks frames (document 02, 2026-01 and 2026-12); without them it is
+/// `receive`.
+pub fn receive_port(
     settings: &Settings,
-    multihomed: u32,
+    map: &[u8],
     frame: &[u8],
     table: &mut [u8],
     out: &mut [u8],
 ) -> u64 {
-    let checked = settings
-        .check()
-        .and_then(|port| Ok((port, MultihomingBit::check(multihomed)?)));
-    word(checked.and_then(|(port, bit)| received(&port, bit, frame, table, out)))
+    receive_with(DEFAULT_LIFE, settings, map, frame, table, out)
 }
 
 /// Reading with another default of the learning seconds.
 pub fn receive_with(
     life: u16,
     settings: &Settings,
+    map: &[u8],
     frame: &[u8],
     table: &mut [u8],
     out: &mut [u8],
@@ -48,22 +48,23 @@ pub fn receive_with(
     word(
         settings
             .check_with(life)
-            .and_then(|port| received(&port, MultihomingBit::None, frame, table, out)),
+            .and_then(|port| received(&port, map, frame, table, out)),
     )
 }
 
 /// "Order: 1, 2, 3, 5; then the fields from left to right, with 6, 4, 7, 12, 10 at the field where
 /// each arises [..]. Then, on the fields read and alike for both formats: 8, 9, 11; onward; 13; 6
 /// where the four bytes after 8946 are cut; 14, 15, 16." "A refusal returns the number only and
-/// changes nothing."
+/// changes nothing." Document 02, 2026-01: "21 [..] (after 2), 22 no pair found (before 16)".
 fn received(
     port: &Port,
-    bit: MultihomingBit,
+    map: &[u8],
     frame: &[u8],
     table: &mut [u8],
     out: &mut [u8],
 ) -> Result<Received, Refusal> {
     check_table_length(table)?;
+    let map = Map::check(map)?;
     check_frame_length(frame.len())?;
     // "Anything else is Compact if the port has it on, else refusal 5."
     let fields = match front(port.port, frame) {
@@ -94,7 +95,7 @@ fn received(
     if number(ethertype) == CHANNEL {
         channel(port, &fields, rest, table)
     } else {
-        deliver(port, bit, &fields, table, out)
+        deliver(port, &map, &fields, table, out)
     }
 }
 
@@ -103,7 +104,7 @@ fn received(
 /// its length, its label, and learned, refreshed, kept or full."
 fn deliver(
     port: &Port,
-    bit: MultihomingBit,
+    map: &Map,
     fields: &Fields,
     table: &mut [u8],
     out: &mut [u8],
@@ -112,7 +113,7 @@ fn deliver(
     if is_reserved(fields.inner_destination) {
         return Err(Refusal::ReservedDestination);
     }
-    let native = [fields.addresses, fields.content].concat();
+    let native = [fields.addresses, &port_tag(map, fields)?, fields.content].concat();
     // 16: "output area shorter than the result"
     let Some(area) = out.get_mut(..native.len()) else {
         return Err(Refusal::OutputLength);
@@ -126,7 +127,7 @@ fn deliver(
             nickname: fields.ingress,
             confidence: port.confidence,
             seconds: port.seconds,
-            multihomed: is_marked(bit, fields),
+            multihomed: is_marked(port.multihomed, fields),
         },
     );
     Ok(Received::Delivered {
@@ -145,6 +146,23 @@ fn is_marked(bit: MultihomingBit, fields: &Fields) -> bool {
         MultihomingBit::FirstReserved => first & 0x20 != 0,
         MultihomingBit::SecondReserved => first & 0x10 != 0,
     }
+}
+
+/// "Outbound, a delivered fine-grained frame gets the VLAN tag back, with the second label part's
+/// priority and DEI 0. Without a map (an empty one is none), or with a VLAN label, delivery stays as it
+/// is" (document 02, 2026-01).
+fn port_tag(map: &Map, fields: &Fields) -> Result<Vec<u8>, Refusal> {
+    let Label::Fine(label) = fields.label else {
+        return Ok(Vec::new());
+    };
+    if map.is_none() {
+        return Ok(Vec::new());
+    }
+    let PortVlan(vlan) = map.vlan_of(CampusLabel(label))?;
+    // 893B and two bytes, twice; the priority is the highest three bits of the last two.
+    let priority = number(&fields.label_bytes[6..]) as u16 >> 13;
+    let tag = [C_TAG as u16, priority << 13 | vlan];
+    Ok(tag.map(u16::to_be_bytes).concat())
 }
 
 /// "Content: 8946, version 4 bits, protocol 12, flags 12 (not read), ERR 4, payload." "Channel

@@ -1,6 +1,6 @@
 //! The refusal numbers.
 
-/// "Numbers a caller can get", in the words of document 01.
+/// "Numbers a caller can get", in the words of documents 01 and 02.
 #[derive(Clone, Copy, Debug, PartialEq, Eq)]
 #[repr(u8)]
 pub enum Refusal {
@@ -45,4 +45,8 @@ pub enum Refusal {
     Portion = 24,
     /// lists that cannot be written as a flush (document 02, 2026-03)
     Lists = 23,
+    /// map has a VLAN or label twice, a VLAN outside 1 to FFE or a label over FFFFFF
+    Map = 21,
+    /// no pair found
+    NoPair = 22,
 }

@@ -9,8 +9,9 @@ pub const DEFAULT_LIFE: u16 = 1200;
 /// What 0 meant before, for "a port passing 300 behaves after the change as one passing 0 did before".
 pub const OLD_LIFE: u16 = 300;
 
-/// The settings as the C boundary passes them: any numbers.
-#[derive(Clone, Copy, Debug, PartialEq, Eq)]
+/// The settings as the C boundary passes them: any numbers. The last two are those of `receive_port`
+/// alone.
+#[derive(Clone, Copy, Debug, Default, PartialEq, Eq)]
 pub struct Settings {
     pub port: u64,
     pub inner: u64,
@@ -18,6 +19,8 @@ pub struct Settings {
     pub compact: u32,
     pub confidence: u32,
     pub seconds: u32,
+    pub multihomed: u32,
+    pub smart: u32,
 }
 
 /// Settings in their ranges.
@@ -28,6 +31,7 @@ pub struct Port {
     pub compact: bool,
     pub confidence: u8,
     pub seconds: u16,
+    pub multihomed: MultihomingBit,
 }
 
 /// An address is a number below 2^48.
@@ -45,6 +49,15 @@ pub fn check_outer_source(address: u64) -> Result<u64, Refusal> {
 }
 
 impl Settings {
+    /// The settings of a call that takes six numbers.
+    pub fn six(&self) -> Settings {
+        Settings {
+            multihomed: 0,
+            smart: 0,
+            ..*self
+        }
+    }
+
     pub fn check(&self) -> Result<Port, Refusal> {
         self.check_with(DEFAULT_LIFE)
     }
@@ -66,14 +79,18 @@ impl Settings {
             10..=8191 => Some(self.seconds as u16),
             _ => None,
         };
+        let multihomed = MultihomingBit::check(self.multihomed)?;
+        // The setting of a request that has not landed: 0.
+        let later = self.smart == 0;
         match seconds {
-            Some(seconds) if addresses && nickname && compact && confidence => Ok(Port {
+            Some(seconds) if addresses && nickname && compact && confidence && later => Ok(Port {
                 port: self.port,
                 inner: self.inner,
                 nickname: self.nickname as u16,
                 compact: self.compact == 1,
                 confidence: self.confidence as u8,
                 seconds,
+                multihomed,
             }),
             _ => Err(Refusal::Settings),
         }
@@ -89,7 +106,7 @@ pub enum MultihomingBit {
 }
 
 impl MultihomingBit {
-    pub fn check(setting: u32) -> Result<MultihomingBit, Refusal> {
+    fn check(setting: u32) -> Result<MultihomingBit, Refusal> {
         match setting {
             0 => Ok(MultihomingBit::None),
             1 => Ok(MultihomingBit::FirstReserved),
