@@ -7,7 +7,7 @@ pub use shinglebar::exports::{
     shinglebar_age, shinglebar_compact, shinglebar_expand, shinglebar_flush,
     shinglebar_flush_portion, shinglebar_flush_vlan_only, shinglebar_free_slot, shinglebar_ingress,
     shinglebar_lookup, shinglebar_receive, shinglebar_receive_port, shinglebar_send,
-    shinglebar_spoilt, shinglebar_write_flush,
+    shinglebar_spoilt, shinglebar_widen, shinglebar_write_flush,
 };
 
 pub type Lookup = unsafe extern "C" fn(
@@ -55,6 +55,9 @@ pub type Receive = unsafe extern "C" fn(
     out: *mut u8,
     out_len: usize,
 ) -> u64;
+
+pub type Widen =
+    unsafe extern "C" fn(old: *const u8, old_len: usize, out: *mut u8, out_len: usize) -> u64;
 
 pub type ReceivePort = unsafe extern "C" fn(
     port: u64,

@@ -2951,3 +2951,113 @@ fn the_option_multihomed_names_the_bit_that_marks_frames() {
         said,
     );
 }
+
+/// A marked frame of `frame_from`: the first R bit, or the second.
+fn marked(mut frame: Vec<u8>, bit: u8) -> Vec<u8> {
+    frame[14] |= bit;
+    frame
+}
+
+#[test]
+fn two_homes_stand_side_by_side_where_the_option_names_the_bit() {
+    let folder = folder("homes");
+    let mac = 0x0200_0000_0001;
+    let from = |nickname| frame_from(mac, 10, nickname);
+    for (option, bit, number) in [("first", 0x20, 1), ("second", 0x10, 2)] {
+        let frames = [
+            from(0x1234),
+            marked(from(0x1235), bit),
+            marked(from(0x1234), bit),
+            marked(from(0x1235), bit),
+            // the other bit does not mark
+            marked(from(0x1236), 0x30 ^ bit),
+        ];
+        fs::write(folder.join("in"), captures::capture(USUAL, &frames)).expect("a capture");
+        let _ = fs::remove_file(folder.join("table"));
+        let files = [
+            "receive",
+            "in",
+            "--table",
+            "table",
+            "--slots",
+            "3",
+            "--no-ageing",
+        ];
+        let words = [&files[..], &["--multihomed", option], &SETTINGS].concat();
+        let printed = good(&run_in(&folder, &words));
+        let wanted = [
+            "slot 0: free -> learned VLAN 10 02-00-00-00-00-01 behind 1234, confidence 32, 1200 s",
+            "slot 0: VLAN 10 02-00-00-00-00-01 behind 1234 -> 1235, now multihomed",
+            "slot 1: free -> learned VLAN 10 02-00-00-00-00-01 behind 1234, confidence 32, 1200 s, multihomed",
+            "table unchanged (slot 0: learned VLAN 10 02-00-00-00-00-01 behind 1235, confidence 32, 1200 s, multihomed)",
+            "slot 0: VLAN 10 02-00-00-00-00-01 behind 1235 -> 1236, no longer multihomed; \
+             slot 1: VLAN 10 02-00-00-00-00-01 behind 1234 -> free",
+        ];
+        for (place, wanted) in wanted.iter().enumerate() {
+            assert_eq!(parts(&printed, place + 1)[2], *wanted);
+        }
+        let settings = reference::Settings {
+            multihomed: number,
+            ..PORT
+        };
+        let mut table = vec![0; 3 * RECORD];
+        for frame in &frames {
+            reference::receive_port(&settings, &[], frame, &mut table, &mut [0; 9_216]);
+        }
+        assert!(bytes(&folder.join("table")) == table);
+    }
+}
+
+/// A configured record keeps frames whatever its slot, and is its pair's only record.
+#[test]
+fn a_configured_record_takes_the_place_of_all_homes() {
+    let folder = folder("one_home");
+    let home = |nickname, multihomed| Entry {
+        label: vlan(10),
+        mac: 0x0200_0000_0001,
+        nickname,
+        confidence: 9,
+        seconds: 9,
+        multihomed,
+    };
+    let table = [
+        write(true, &home(0x1234, true)),
+        [0; RECORD],
+        write(true, &home(0x1235, true)),
+    ]
+    .concat();
+    fs::write(folder.join("table"), &table).expect("a table");
+    let pair = ["--table", "table", "--vlan", "10", "--mac", "020000000001"];
+    let set = [&["set"][..], &pair, &["--nickname", "1236"]].concat();
+    assert_eq!(
+        good(&run_in(&folder, &set)),
+        "slot 0: learned -> configured VLAN 10 02-00-00-00-00-01 behind 1234 -> 1236, confidence 9 -> 255, 9 -> 0 s, \
+         no longer multihomed\n\
+         slot 2: VLAN 10 02-00-00-00-00-01 behind 1235 -> free\n"
+    );
+    // one that stands above a home keeps frames and is the one that is removed
+    let above = [
+        write(true, &home(0x1234, true)),
+        write(false, &home(0x1235, false)),
+    ]
+    .concat();
+    fs::write(folder.join("table"), &above).expect("a table");
+    let frames = [marked(frame_from(0x0200_0000_0001, 10, 0x1234), 0x20)];
+    fs::write(folder.join("in"), captures::capture(USUAL, &frames)).expect("a capture");
+    let receive = [
+        "receive",
+        "in",
+        "--table",
+        "table",
+        "--no-ageing",
+        "--multihomed",
+        "first",
+    ];
+    let printed = good(&run_in(&folder, &[&receive[..], &SETTINGS].concat()));
+    let kept = "kept | table unchanged (slot 1: configured VLAN 10 02-00-00-00-00-01 behind 1235, confidence 9, 9 s)";
+    assert!(printed.contains(kept), "{printed}");
+    assert_eq!(
+        good(&run_in(&folder, &[&["unset"][..], &pair].concat())),
+        "slot 1: VLAN 10 02-00-00-00-00-01 behind 1235 -> free\n"
+    );
+}

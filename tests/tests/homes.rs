@@ -2,7 +2,7 @@
 //! tables widened, compared through the C boundary.
 
 use shinglebar_tests::compare;
-use shinglebar_tests::generate::{self, Frame, Raw, MARK};
+use shinglebar_tests::generate::{self, Frame, Pool, Raw, MARK};
 use shinglebar_tests::random::Random;
 use shinglebar_tests::reference::{
     self, homes_are_apart, read, write, Entry, Label, Record, Settings, OLD_RECORD, RECORD, SLOTS,
@@ -573,6 +573,52 @@ fn homes_are_learned_as_the_paper_says_and_stay_apart() {
                 } else {
                     assert!(homes_are_apart(&table), "{}", compare::hex(&table));
                     tally.situation(situation);
+                }
+            }
+        },
+    );
+}
+
+/// Any frames, good and damaged, on any tables with the setting on: what the older comparison does at a port without it.
+#[test]
+fn reading_with_the_setting_answers_as_the_paper_says() {
+    run::cases(
+        "reading_with_the_setting_answers_as_the_paper_says",
+        1,
+        &[],
+        &[
+            "learned",
+            "refreshed",
+            "kept",
+            "full",
+            "flushed",
+            "refused",
+            "apart",
+        ],
+        |random, tally| {
+            let pool = Pool::new(random);
+            let mut settings = generate::settings(random, &pool);
+            settings.multihomed = random.pick(&[1, 2]);
+            let mut table = generate::table(random, &pool);
+            for _ in 0..4 {
+                let frame = generate::frame(random, &pool, &settings);
+                let room = generate::area_length(random, 12 + frame.content.len());
+                let mut out = random.bytes(room);
+                let bytes = generate::damage(random, frame.bytes());
+                let apart = table.len() <= 40 * RECORD && homes_are_apart(&table);
+                let word = receive(random, &settings, &bytes, &mut table, &mut out);
+                if apart {
+                    assert!(homes_are_apart(&table), "{}", compare::hex(&table));
+                    tally.situation("apart");
+                }
+                match (word & 0xFF, word >> 24 & 3) {
+                    (65, LEARNED) => tally.situation("learned"),
+                    (65, REFRESHED) => tally.situation("refreshed"),
+                    (65, KEPT) => tally.situation("kept"),
+                    (65, _) => tally.situation("full"),
+                    (67, _) => tally.situation("flushed"),
+                    (..=63, _) => tally.situation("refused"),
+                    _ => {}
                 }
             }
         },

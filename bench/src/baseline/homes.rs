@@ -1,6 +1,9 @@
-//! Learning, with several homes of a station.
+//! Learning, with several homes of a station, and widening.
 
-use super::record::{eight, is_free, learned, Bits, Slot, CONFIGURED, RECORD};
+use std::slice;
+
+use super::record::{eight, is_free, learned, Bits, Slot, CONFIGURED, MOST_SLOTS, RECORD};
+use super::refusal;
 use super::table::{lowest, Key, ROUND};
 
 /// What learning did, with the numbers of the answer.
@@ -116,4 +119,41 @@ pub fn learn(
         }
         None => Learning::Full,
     }
+}
+
+const OLD_RECORD: usize = 14;
+const LONGEST_OLD_TABLE: usize = MOST_SLOTS * OLD_RECORD;
+const WRITTEN: u64 = 64;
+
+/// Each record of an older table, and a zero byte.
+#[inline(never)]
+pub unsafe extern "C" fn widen(
+    old: *const u8,
+    old_len: usize,
+    out: *mut u8,
+    out_len: usize,
+) -> u64 {
+    if old_len == 0 || old_len > LONGEST_OLD_TABLE || !old_len.is_multiple_of(OLD_RECORD) {
+        return refusal::TABLE_LENGTH;
+    }
+    let (old, out) = (
+        slice::from_raw_parts(old, old_len),
+        slice::from_raw_parts_mut(out, out_len),
+    );
+    let length = old_len / OLD_RECORD * RECORD;
+    let Some(wide) = out.get_mut(..length) else {
+        return refusal::OUTPUT_LENGTH;
+    };
+    let (to, _) = wide.as_chunks_mut::<RECORD>();
+    let (from, _) = old.as_chunks::<OLD_RECORD>();
+    for (to, from) in to.iter_mut().zip(from) {
+        // Two stores that overlap in a byte: the second is bytes 7 to 13 and the zero.
+        let [front, back] = [0, 6].map(|at| {
+            // SAFETY: the eight bytes are in the record.
+            u64::from_le(from.as_ptr().add(at).cast::<u64>().read_unaligned())
+        });
+        to[..8].copy_from_slice(&front.to_le_bytes());
+        to[7..].copy_from_slice(&(back >> 8).to_le_bytes());
+    }
+    WRITTEN | (length as u64) << 8
 }

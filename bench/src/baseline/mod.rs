@@ -25,6 +25,7 @@ mod write;
 
 pub use convert::{compact, expand, send};
 pub use flush::{flush, flush_portion, flush_vlan_only};
+pub use homes::widen;
 pub use ingress::ingress;
 pub use receive::{receive, receive_port};
 pub use table::{age, free_slot, lookup, spoilt};

@@ -6,6 +6,8 @@ use crate::report::Report;
 mod convert;
 #[cfg(feature = "flush")]
 mod flush;
+#[cfg(feature = "homes")]
+mod homes;
 #[cfg(feature = "map")]
 mod map;
 #[cfg(feature = "receive")]
@@ -32,6 +34,8 @@ const STAGES: &[fn(&Report)] = &[
     watch::run,
     #[cfg(feature = "map")]
     map::run,
+    #[cfg(feature = "homes")]
+    homes::run,
 ];
 
 pub fn run(report: &Report) {

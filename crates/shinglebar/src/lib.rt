@@ -30,8 +30,8 @@ use convert_expand::Outer;
 use flush::FlushAnswer;
 use flush_write::WriteAnswer;
 use frame::Settings;
-use portions::PortionAnswer;
 use ingress::Given;
+use portions::PortionAnswer;
 use receive::ReadAnswer;
 use table::AgeAnswer;
 use table::FreeAnswer;
@@ -98,10 +98,9 @@ fn free_word(a: FreeAnswer) -> u64
 {
     match a {
         FreeAnswer::Refused(n) => n as u64,
-        FreeAnswer::Lowest {
-            slot,
-            unpacked,
-        } => 64 + slot as u64 * 0x100 + unpacked as u64 * 0x1_0000_0000,
+        FreeAnswer::Lowest { slot, unpacked } => 64
+            + slot as u64 * 0x100
+            + unpacked as u64 * 0x1_0000_0000,
         FreeAnswer::Full(unpacked) => 65 + unpacked as u64 * 0x1_0000_0000,
     }
 }

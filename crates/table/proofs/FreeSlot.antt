@@ -52,20 +52,23 @@ found-at t k e = record {
   within = lowest-within freeSlot t k e;
   free = is-free (unpacked (slotAt k t)) (lowest-hit freeSlot t k e);
   lowest = λ j h. fails j t (lowest-before freeSlot t k e j h);
-  counted = unpacked-at t (At k) e }
+  counted = unpacked-at t (At k) e;
+}
 
 found-nowhere : (t : List ℕ) → lowest freeSlot t ≡ Nowhere → FoundNowhere t
 unfolding slotsUnpacked slotsSearched
 found-nowhere t e = record {
   none = λ j h. fails j t (lowest-miss freeSlot t e j h);
-  counted = unpacked-at t Nowhere e }
+  counted = unpacked-at t Nowhere e;
+}
 
 pub free-slot-found : FreeSlotFound
 unfolding freeSearch
 free-slot-found t = record {
   found = found-at t;
   nowhere = found-nowhere t;
-  only-then = λ none. by-place (lowest freeSlot t) refl none }
+  only-then = λ none. by-place (lowest freeSlot t) refl none;
+}
   where
     by-place : (p : Place) → lowest freeSlot t ≡ p → ((j : ℕ) → j < slotsOf t → IsFree j t → ⊥) → p ≡ Nowhere
     by-place (At k) e none = let f = found-at t k e in absurd (none k (f .within) (f .free))

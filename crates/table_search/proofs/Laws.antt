@@ -103,9 +103,10 @@ module _ (t : List ℕ) (i u : ℕ) (counted : u ≡ countSlots stateFree 0 i t)
 
   -- not found: the rounds pass to slot j
   pub free-on : free ≡ false → (j : ℕ) → i + 1 ≤ j → Passed (InState 0) (i + 1) j t → (firstSlot freeSlot j t ≡ Nowhere) × (v ≡ countSlots stateFree 0 j t)
-  free-on miss j h passed =
-      (free-past t (i + 1) j h passed (search-next freeSlot free-near t i so-far free here miss)
-      , count-here ∙ sym (count-past stateFree state-free-near (InState 0) state-other t (i + 1) j h passed))
+  free-on miss j h passed = (
+    free-past t (i + 1) j h passed (search-next freeSlot free-near t i so-far free here miss),
+    count-here ∙ sym (count-past stateFree state-free-near (InState 0) state-other t (i + 1) j h passed),
+  )
 
 -- at the end
 pub free-end : (t : List ℕ) (i u : ℕ) → u ≡ countSlots stateFree 0 i t → firstSlot freeSlot i t ≡ Nowhere → i ≤ slotsOf t → slotsOf t ≤ i → record { place = Nowhere; unpacked = u } ≡ freeSearch t

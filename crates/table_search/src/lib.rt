@@ -83,7 +83,8 @@ fn free_step(t: &[u8], at: usize, unpacked: usize) -> FreeStep
     }
 }
 
-// The lowest free slot, and the number of records unpacked.
+// The lowest free slot, and the number of records unpacked. Slots of state 0 often stand together, so after one the next slot is tested by
+// itself, and rounds pass the others by.
 pub fn find_free(t: &[u8]) -> FreeSearch
     ensures { λ r. ⌜ r ≡ freeSearch (now (t .entry)) ⌝ }
 {
@@ -92,6 +93,7 @@ pub fn find_free(t: &[u8]) -> FreeSearch
     let mut unpacked = 0;
     while j < n {
         let step = free_step(t, SLOT_BYTES * j, unpacked);
+        let before = unpacked;
         unpacked = step.unpacked;
         if step.free {
             return FreeSearch {
@@ -99,7 +101,10 @@ pub fn find_free(t: &[u8]) -> FreeSearch
                 unpacked,
             };
         }
-        j = table_rounds::next_in_state(t, j + 1, FREE_STATE);
+        j += 1;
+        if unpacked == before {
+            j = table_rounds::next_in_state(t, j, FREE_STATE);
+        }
     }
     FreeSearch {
         place: Place::Nowhere,
