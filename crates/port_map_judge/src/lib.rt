@@ -232,12 +232,31 @@ const SHORT_BYTES: usize = 32 * PAIR_BYTES;
 // A map whose labels are judged by bits: 512 pairs.
 const BITS_BYTES: usize = 512 * PAIR_BYTES;
 
+// Whether a map is judged by keys, and its last label is below its first: then its labels do not rise.
+fn falls(map: &[u8]) -> bool
+    ensures { λ r. ⌜ (r ≡ true → length (now (map .entry)) ≤ pairBytes * mostKeys) ⌝ }
+{
+    if map.len() <= BITS_BYTES {
+        return false;
+    }
+    if PAIR_BYTES * MOST_KEYS < map.len() {
+        return false;
+    }
+    let first = port_map_search::label_at(map, 0);
+    let last = port_map_search::label_at(map, map.len() - PAIR_BYTES);
+    last.0 < first.0
+}
+
+// The keys are made in two places, so that the compiler leaves their function and its areas out of this one.
 fn labels_good(map: &[u8]) -> bool
     requires { ⌜ length (now map) % pairBytes ≡ 0 ⌝ }
     ensures { λ r. ⌜ r ≡ goodOnce fineGood (labelsIn (now (map .entry))) ⌝ }
 {
     if map.len() <= SHORT_BYTES {
         return labels_apart(map);
+    }
+    if falls(map) {
+        return labels_by_keys(map);
     }
     if labels_rise(map) {
         return true;
