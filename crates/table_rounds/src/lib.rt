@@ -105,8 +105,8 @@ fn none_blank(t: &[u8], at: usize) -> bool
 }
 
 // The lowest slot from a slot on in whose round some slot is not of state 0 or may be free, or that is one of those after the last whole
-// round: rounds of spoilt records of state 0 are passed by, and each of these is of state 0 and not free. The two tests are branches of
-// their own: joined, the compiler makes a comparison of two bounds for each slot, which takes half as long again.
+// round: rounds of spoilt records of state 0 are passed by. A round is tested twice: as one test of each slot, the compiler compares each
+// slot with two bounds, and that takes twice as long.
 pub fn next_not_spoilt(t: &[u8], from: usize) -> usize
     requires { ⌜ from ≤ slotsOf (now t) ⌝ }
     ensures { λ r. ⌜ (from ≤ r) × ((r ≤ slotsOf (now (t .entry))) × (Passed (InOther freeState) from r (now (t .entry)) × Passed Blank from r (now (t .entry)))) ⌝ }
