@@ -116,7 +116,7 @@ module _ (k : ℕ) (w : Numbering) where
 
 length-1 : (bs : List Block) → length (tlvsBytes 1 (vlans .size) bs) ≡ tlvsLength (vlans .size) (length bs)
 length-1 bs =
-    let c = count-groups 63 (omega arith) bs in
+    let c = count-groups (perTlv (vlans .size)) (omega arith) bs in
     let x = c .holds in
     let y = c .few in
     let l = length-tlvs 1 vlans (omega arith) bs in
@@ -124,7 +124,7 @@ length-1 bs =
 
 length-3 : (bs : List Block) → length (tlvsBytes 3 (fines .size) bs) ≡ tlvsLength (fines .size) (length bs)
 length-3 bs =
-    let c = count-groups 42 (omega arith) bs in
+    let c = count-groups (perTlv (fines .size)) (omega arith) bs in
     let x = c .holds in
     let y = c .few in
     let l = length-tlvs 3 fines (omega arith) bs in
@@ -132,7 +132,7 @@ length-3 bs =
 
 length-8 : (bs : List Block) → length (tlvsBytes 8 (macs .size) bs) ≡ tlvsLength (macs .size) (length bs)
 length-8 bs =
-    let c = count-groups 21 (omega arith) bs in
+    let c = count-groups (perTlv (macs .size)) (omega arith) bs in
     let x = c .holds in
     let y = c .few in
     let l = length-tlvs 8 macs (omega arith) bs in

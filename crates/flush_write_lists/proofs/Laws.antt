@@ -10,13 +10,13 @@ use native.Mathlib.Omega.{arith}
 use lib.Dec.{leb, eqb}
 use lib.ListN.{length, take, drop, length-append, length-drop, length-take, take-append-drop, drop-of-length-le}
 use lib.Seq.{drop-drop, take-all, length-take-le}
-use borrow.Author.Tests.{le-leb, lt-leb, leb-true, leb-false, ne-eqb, eq-eqb}
+use borrow.Author.Tests.{le-leb, lt-leb, leb-true, leb-false, eqb-true, ne-eqb, eq-eqb}
 use Rattle.numbers.specs.Tests.{pick, both}
-use Rattle.numbers.specs.Bytes.{num, bytesOf}
+use Rattle.numbers.specs.Bytes.{AreBytes, num, bytesOf}
 use Rattle.numbers.specs.Numberings.{atMost}
 use Rattle.numbers.specs.declared.Numbering.{Numbering}
-use Rattle.numbers.proofs.Bytes.{length-bytesOf}
-use Rattle.numbers.proofs.Truth.{and-both}
+use Rattle.numbers.proofs.Bytes.{length-bytesOf, num-add, num-part-lt, bytesOf-low}
+use Rattle.numbers.proofs.Truth.{and-both, both-true}
 use Rattle.frame_copy.specs.Areas.{pasted}
 use Rattle.frame_copy.proofs.Copying.{paste-next}
 use Rattle.flush_write.specs.Writing.{allOf, Block, mostListed, blockGood, blocksGood, blockBytes, blocksBytes, perTlv, tlvBytes, tlvsBytes}
@@ -136,14 +136,34 @@ sized size = record { size = size; top = 0; low = 0; high = 0 }
 length-one : (size : ℕ) (b : Block) → length (blockBytes size b) ≡ 2 * size
 length-one size b = length-block (sized size) b
 
-pub pair-put : (l out o₁ o₂ : List ℕ) (from k size at s e : ℕ) → at + 2 * size ≤ length out
-    → s ≡ num (take k (drop from l)) → e ≡ num (take k (drop (from + k) l))
-    → o₁ ≡ pasted out at (bytesOf size s) → o₂ ≡ pasted o₁ (at + size) (bytesOf size e)
+pub pair-put : (l out o₁ o₂ : List ℕ) (from k size at : ℕ) → at + 2 * size ≤ length out
+    → o₁ ≡ pasted out at (bytesOf size (num (take k (drop from l)))) → o₂ ≡ pasted o₁ (at + size) (bytesOf size (num (take k (drop (from + k) l))))
     → o₂ ≡ pasted out at (blockBytes size (blockIn k (drop from l)))
 unfolding blockBytes blockIn
-pair-put l out o₁ o₂ from k size at s e room start end w₁ w₂ =
-    let n = length-bytesOf size s in
-    rw (w₂, w₁, drop-drop k from l, ← start, ← end) (paste-next out (bytesOf size s) (bytesOf size e) at (at + size) (omega arith) (omega arith))
+pair-put l out o₁ o₂ from k size at room w₁ w₂ =
+    let start : ℕ = num (take k (drop from l)) in
+    let end : ℕ = num (take k (drop (from + k) l)) in
+    let n = length-bytesOf size start in
+    rw (w₂, w₁, drop-drop k from l) (paste-next out (bytesOf size start) (bytesOf size end) at (at + size) (omega arith) (omega arith))
+
+-- the widths of a MAC
+pub both-same : (a b c d : ℕ) → eqb a b && eqb c d ≡ true → (a ≡ b) × (c ≡ d)
+both-same a b c d e = let p = both-true _ _ (sym (and-both (eqb a b) (eqb c d)) ∙ e) in (eqb-true a b (p .0), eqb-true c d (p .1))
+
+-- the last six of eight bytes
+pub last-six : (l : List ℕ) (from : ℕ) → from + 8 ≤ length l → bytesOf 6 (num (take 6 (drop (from + 2) l))) ≡ bytesOf 6 (num (take 8 (drop from l)))
+last-six l from h = sym (ap (bytesOf 6) (num-add l from 2 6 h) ∙ bytesOf-low 6 (num (take 2 (drop from l))) (num (take 6 (drop (from + 2) l))))
+
+-- two numbers of two bytes in one of four
+module _ (l : List ℕ) (at : ℕ) (bytes : AreBytes l) (h : at + 4 ≤ length l) (v : ℕ) (is : v ≡ num (take 4 (drop at l))) where
+  low-two : num (take 2 (drop (at + 2) l)) < 256 ^ 2
+  low-two = num-part-lt l (at + 2) 2 bytes (omega arith)
+
+  pub first-two : v / 0x10000 ≡ num (take 2 (drop at l))
+  first-two = let small = low-two in let split = is ∙ num-add l at 2 2 h in omega (arith, small, split)
+
+  pub second-two : v % 0x10000 ≡ num (take 2 (drop (at + 2) l))
+  second-two = let small = low-two in let split = is ∙ num-add l at 2 2 h in omega (arith, small, split)
 
 module _ (k size : ℕ) (item : Item k) (l : List ℕ) (from : ℕ) where
   blocks-left : 2 * k ≤ length l - from → blocksFrom k size l from ≡ blockBytes size (blockIn k (drop from l)) ++ blocksFrom k size l (from + 2 * k)

@@ -11,6 +11,19 @@ ghost use Rattle.flush_write.specs.Areas.{blockIn, blocksIn};
 ghost use Rattle.flush_write_lists.specs.Widths.{Item, Filling, listGood};
 use flush_write::MOST_LISTED;
 
+// The bytes of a MAC in its list, and in the message; how many values two bytes have.
+const MAC_ITEM: usize = 8;
+
+const MAC_SIZE: usize = 6;
+
+const TWO_BYTES: u64 = 0x1_0000;
+
+// A block's two numbers.
+pub struct Ends {
+    pub start: u64,
+    pub end: u64,
+}
+
 // The number of k bytes at a place; the three widths that a list has are read without a loop.
 fn number_in(l: &[u8], at: usize, k: usize) -> u64
     requires { ⌜ Item k × (at + k ≤ length (now l)) ⌝ }
@@ -25,14 +38,31 @@ fn number_in(l: &[u8], at: usize, k: usize) -> u64
     numbers::be8(l, at)
 }
 
+// The start and the end of the block at a place; those of two bytes by one load.
+fn block_in(l: &[u8], at: usize, k: usize) -> Ends
+    requires { ⌜ Item k × (at + 2 * k ≤ length (now l)) ⌝ }
+    ensures { λ r. ⌜ (r .start ≡ num (take k (drop at (now (l .entry))))) × (r .end ≡ num (take k (drop (at + k) (now (l .entry))))) ⌝ }
+{
+    if k == 2 {
+        let both = numbers::be4(l, at);
+        return Ends {
+            start: both / TWO_BYTES,
+            end: both % TWO_BYTES,
+        };
+    }
+    Ends {
+        start: number_in(l, at, k),
+        end: number_in(l, at + k, k),
+    }
+}
+
 // Whether the block at a place lies within low and high, and its end is not below its start.
 fn block_good(l: &[u8], at: usize, k: usize, low: u64, high: u64) -> bool
     requires { ⌜ Item k × (at + 2 * k ≤ length (now l)) ⌝ }
     ensures { λ r. ⌜ r ≡ blockGood low high (blockIn k (drop at (now (l .entry)))) ⌝ }
 {
-    let start = number_in(l, at, k);
-    let end = number_in(l, at + k, k);
-    (low <= start) & ((start <= end) & (end <= high))
+    let b = block_in(l, at, k);
+    (low <= b.start) & ((b.start <= b.end) & (b.end <= high))
 }
 
 // Whether a list can be written.
@@ -56,16 +86,16 @@ pub fn list_good(l: &[u8], k: usize, low: u64, high: u64) -> bool
     good
 }
 
-// Writes the low bytes of a number; a MAC's as moves of four bytes and two.
-fn put_item(v: u64, size: usize, out: &mut [u8], at: usize)
-    requires { ⌜ at + size ≤ length (now out) ⌝ }
-    ensures { λ _. ⌜ now (out .exit) ≡ pasted (now (out .entry)) at (bytesOf size v) ⌝ }
+// Writes the low bytes of the number of k bytes at a place; a MAC's, the last six of its eight, as moves of four bytes and two.
+fn put_item(l: &[u8], from: usize, k: usize, size: usize, out: &mut [u8], at: usize)
+    requires { ⌜ (Item k × (from + k ≤ length (now l))) × (at + size ≤ length (now out)) ⌝ }
+    ensures { λ _. ⌜ now (out .exit) ≡ pasted (now (out .entry)) at (bytesOf size (num (take k (drop from (now (l .entry)))))) ⌝ }
 {
-    if size == 6 {
-        frame_copy::put_address(v, out, at);
+    if (k == MAC_ITEM) & (size == MAC_SIZE) {
+        frame_copy::put_address(numbers::be6(l, from + (MAC_ITEM - MAC_SIZE)), out, at);
         return;
     }
-    frame_copy::put_number(v, size, out, at);
+    frame_copy::put_number(number_in(l, from, k), size, out, at);
 }
 
 // Writes the block at a place.
@@ -73,8 +103,8 @@ fn put_block(l: &[u8], from: usize, k: usize, size: usize, out: &mut [u8], at: u
     requires { ⌜ (Item k × (from + 2 * k ≤ length (now l))) × (at + 2 * size ≤ length (now out)) ⌝ }
     ensures { λ _. ⌜ now (out .exit) ≡ pasted (now (out .entry)) at (blockBytes size (blockIn k (drop from (now (l .entry))))) ⌝ }
 {
-    put_item(number_in(l, from, k), size, out, at);
-    put_item(number_in(l, from + k, k), size, out, at + size);
+    put_item(l, from, k, size, out, at);
+    put_item(l, from + k, k, size, out, at + size);
 }
 
 // Writes the blocks of a list, one after the other.

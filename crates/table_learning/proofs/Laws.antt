@@ -26,7 +26,7 @@ use Rattle.table.specs.declared.Place.{Place}
 use Rattle.table.specs.declared.Place.the-variants.{At, Nowhere}
 use Rattle.table.specs.declared.Learning.{Learning}
 use Rattle.table.specs.declared.Learning.the-variants as learning
-use Rattle.table.proofs.Slots.{lowest-within, lowest-hit}
+use Rattle.table.proofs.Slots.{lowest-within, lowest-hit, lowest-before}
 use Rattle.table.proofs.Contents.{record-near, holds-near}
 use Rattle.table.proofs.Apart.{slot-unmarked, slot-home, slot-marked, cleared-keeps}
 use Rattle.table.proofs.Once.{room-once}
@@ -39,7 +39,7 @@ use Rattle.table_rounds.proofs.Laws.{kept-slots}
 use Rattle.table_homes.specs.Pass.{homesTo}
 use Rattle.table_homes.specs.declared.Homes.{Homes}
 use Rattle.table_homes.proofs.Pass.{seen-once, seen-configured, seen-unmarked, seen-marked, seen-lowest}
-use Rattle.table_learning.specs.Judging.{roomIf, Judges}
+use Rattle.table_learning.specs.Judging.{roomIf, NoneBelow, Judges}
 
 -- ---- filling a free slot
 
@@ -93,6 +93,13 @@ module _ (e : Entry) (r : List ℕ) (kind label : ℕ) (is : labelFrom kind labe
     unfolding clearedPair
     clear-hit hit one = sym (pick-true _ _ _ (holds-learned-is (e .label) (e .mac) r ∙ both-pass _ _ (same-pair ∙ hit) (sym learned ∙ one)))
 
+-- slots below the lowest of the pair stay as they are
+pub clear-below : (e : Entry) (t : List ℕ) (k : ℕ) → k ≤ slotsOf t → NoneBelow e k t → t ≡ onSlots (clearedPair e) 0 k t
+unfolding onSlots clearedPair
+clear-below e t k h none =
+    kept-slots (clearedPair e) (cleared-keeps e) t t 0 refl k (omega arith) (omega arith) (λ j low high.
+    sym (pick-false _ _ _ (holds-learned-is (e .label) (e .mac) (slotAt j t) ∙ both-left _ _ (none j high))))
+
 -- slots without the key of the pair stay as they are
 module _ (e : Entry) (t u : List ℕ) (i : ℕ) (so-far : u ≡ onSlots (clearedPair e) 0 i t) (kind label : ℕ) (small : kind ≤ 1) (is : labelFrom kind label ≡ e .label) where
   pub clear-past : (key : ℕ) → key ≡ roundKeyOf (e .mac) → (j : ℕ) → i ≤ j → slotBytes * j ≤ length t → Passed (Keyed key) i j u → u ≡ onSlots (clearedPair e) 0 j t
@@ -104,6 +111,10 @@ module _ (e : Entry) (t u : List ℕ) (i : ℕ) (so-far : u ≡ onSlots (cleared
       refl)
 
 -- ---- judging
+
+pub neither : (a b : Bool) → a || b ≡ false → a ≡ false
+neither true b e = e
+neither false b e = refl
 
 module _ (e : Entry) (t : List ℕ) (k count : ℕ) (j : Judges e k count t) where
   pub judge-within : slotBytes * k + slotBytes ≤ length t
@@ -158,25 +169,28 @@ module _ (e : Entry) (t : List ℕ) where
   unfolding holds holdsMarked
   marked-holds r h = slot-home (e .label) (e .mac) (e .nickname) (unpacked r) (slot-marked (e .label) (e .mac) (e .nickname) (unpacked r) h)
 
-  record Stands (k : ℕ) : Type 0 where
+  record Stands (mark : Bool) (k : ℕ) : Type 0 where
     within : k < slotsOf t
     hit : holds (e .label) (e .mac) (slotAt k t) ≡ true
+    below : mark ≡ false → NoneBelow e k t
 
-  marked-stands : (u v : Place) (k : ℕ) → lowest (holdsUnmarked (e .label) (e .mac)) t ≡ u → lowest (holdsMarked (e .label) (e .mac) (e .nickname)) t ≡ v → orElse u v ≡ At k → Stands k
+  marked-stands : (u v : Place) (k : ℕ) → lowest (holdsUnmarked (e .label) (e .mac)) t ≡ u → lowest (holdsMarked (e .label) (e .mac) (e .nickname)) t ≡ v → orElse u v ≡ At k → Stands true k
   marked-stands (At i) v k p q h = record {
     within = lowest-within _ t k (p ∙ h);
     hit = unmarked-holds (slotAt k t) (lowest-hit _ t k (p ∙ h));
+    below = λ no. let z : _≡_ {A = ℕ} 0 1 = cc in absurd (omega arith);
   }
   marked-stands Nowhere v k p q h = record {
     within = lowest-within _ t k (q ∙ h);
     hit = marked-holds (slotAt k t) (lowest-hit _ t k (q ∙ h));
+    below = λ no. let z : _≡_ {A = ℕ} 0 1 = cc in absurd (omega arith);
   }
 
   rival-stands : (mark : Bool) (k : ℕ)
-      → pick mark (orElse (lowest (holdsUnmarked (e .label) (e .mac)) t) (lowest (holdsMarked (e .label) (e .mac) (e .nickname)) t)) (lowest (holds (e .label) (e .mac)) t) ≡ At k → Stands k
+      → pick mark (orElse (lowest (holdsUnmarked (e .label) (e .mac)) t) (lowest (holdsMarked (e .label) (e .mac) (e .nickname)) t)) (lowest (holds (e .label) (e .mac)) t) ≡ At k → Stands mark k
   unfolding pick
   rival-stands true k h = marked-stands _ _ k refl refl h
-  rival-stands false k h = record { within = lowest-within _ t k h; hit = lowest-hit _ t k h }
+  rival-stands false k h = record { within = lowest-within _ t k h; hit = lowest-hit _ t k h; below = λ no. lowest-before _ t k h }
 
   module _ (h : Homes) (seen : h ≡ homesTo e (slotsOf t) t) where
     rival-is : (p : Place) → p ≡ pick (e .multihomed) (orElse (h .unmarked) (h .marked)) (h .lowest) → p ≡ rivalOf e t
@@ -187,7 +201,7 @@ module _ (e : Entry) (t : List ℕ) where
     unfolding rivalOf
     learn-judges p is k at =
         let s = rival-stands (e .multihomed) k (sym (rival-is p is) ∙ at) in
-        record { within = s .within; hit = s .hit; counted = ap (λ (x : Homes). x .count) seen }
+        record { within = s .within; hit = s .hit; counted = ap (λ (x : Homes). x .count) seen; below = s .below }
 
     configured-is : learnt e t ≡ pick (h .configured) (onTable learning.Kept t) (judged (rivalOf e t) e t)
     unfolding learnt lowest

@@ -2,7 +2,7 @@
 // clears the others. A configured record of them in any slot keeps everything.
 ghost use Prim.Native.Nat.{_+_, _*_, _≤_};
 ghost use mathlib.Core.Path.{_≡_};
-ghost use mathlib.Core.Bool.{true, _||_};
+ghost use mathlib.Core.Bool.{_||_};
 ghost use lib.Dec.{leb};
 ghost use lib.ListN.{length};
 ghost use Rattle.numbers.specs.Tests.{pick};
@@ -10,9 +10,8 @@ ghost use Rattle.numbers.specs.After.{onTable};
 ghost use Rattle.table.specs.Learning.{putEntry, clearedPair, freeSlot, intoFree, judgedAt, learnt};
 ghost use Rattle.table.specs.Slots.{slotBytes, slotsOf, onSlots, orElse, lowest};
 ghost use Rattle.table_records.specs.Entries.{Fits};
-ghost use Rattle.table_pairs.specs.Pairs.{pairGood};
 ghost use Rattle.table_homes.specs.Steps.{Sought};
-ghost use Rattle.table_learning.specs.Judging.{roomIf, Judges};
+ghost use Rattle.table_learning.specs.Judging.{roomIf, NoneBelow, Judges};
 use table::Entry;
 use table::Learning;
 use table::Place;
@@ -36,14 +35,14 @@ fn clear_slot(slot: &mut [u8], key: u64, kind: u64, label: u64, e: Entry)
     table_records::clear(slot);
 }
 
-// Frees every slot that holds a learned record of the pair. Rounds are passed by as in the search for them.
-fn clear_slots(table: &mut [u8], key: u64, kind: u64, label: u64, e: Entry)
-    requires { ⌜ Sought key kind label e ⌝ }
+// Frees every slot that holds a learned record of the pair; none does below slot `from`. Rounds are passed by as in the search for them.
+fn clear_slots(table: &mut [u8], from: usize, key: u64, kind: u64, label: u64, e: Entry)
+    requires { ⌜ Sought key kind label e × ((from ≤ slotsOf (now table)) × NoneBelow e from (now table)) ⌝ }
     ensures { λ _. ⌜ now (table .exit) ≡ onSlots (clearedPair e) 0 (slotsOf (now (table .entry))) (now (table .entry)) ⌝ }
 {
     let round_key = table_fields::round_key_of(e.mac);
     let n = table.len() / SLOT_BYTES;
-    let mut i = 0;
+    let mut i = from;
     while i < n {
         let a = SLOT_BYTES * i;
         let b = a + SLOT_BYTES;
@@ -91,9 +90,9 @@ fn rival(h: Homes, mark: bool) -> Place
     l
 }
 
-// Frees the pair's learned records for an unmarked entry, where there are several.
-fn make_room(e: Entry, count: usize, table: &mut [u8])
-    requires { ⌜ Fits e × (pairGood (e .label) (e .mac) ≡ true) ⌝ }
+// Frees the pair's learned records for an unmarked entry, where there are several; slot k is then the lowest that holds one.
+fn make_room(e: Entry, k: usize, count: usize, table: &mut [u8])
+    requires { ⌜ Fits e × Judges e k count (now table) ⌝ }
     ensures { λ _. ⌜ now (table .exit) ≡ roomIf (e .multihomed || leb count 1) e (now (table .entry)) ⌝ }
 {
     if e.multihomed | (count <= ONE_RECORD) {
@@ -104,7 +103,7 @@ fn make_room(e: Entry, count: usize, table: &mut [u8])
     let kind = table_records::kind_number(l);
     let label = table_records::label_number(l);
     let key = table_fields::key_of(mac);
-    clear_slots(table, key, kind, label, e);
+    clear_slots(table, k, key, kind, label, e);
 }
 
 // The record in slot k is judged: a higher confidence is kept, any other is overwritten.
@@ -116,7 +115,7 @@ fn judge(e: Entry, k: usize, count: usize, table: &mut [u8]) -> Learning
     if mine < table_fields::confidence_at(table, SLOT_BYTES * k) {
         return Learning::Kept;
     }
-    make_room(e, count, table);
+    make_room(e, k, count, table);
     put(e, k, table);
     Learning::Refreshed
 }

@@ -1,19 +1,20 @@
 -- Laws of rounds over several slots.
 -- Assumes nothing.
-use Prim.Native.Nat.{ℕ, zero, suc, _+_, _-_, _*_, _<_, _≤_}
+use Prim.Native.Nat.{ℕ, zero, suc, _+_, _-_, _*_, _/_, _^_, _<_, _≤_}
 use mathlib.Core.Bool.{Bool, true, false, not, _&&_}
 use mathlib.Core.List.{List, _++_}
 use mathlib.Core.Path.{_≡_, sym, ap, _∙_}
 use native.Mathlib.Decide.{ℕ-discrete, decLt}
 use native.Mathlib.Nat.{zero-add, add-sub-cancel-left}
 use native.Mathlib.Omega.{arith}
-use lib.Dec.{eqb}
+use lib.Dec.{eqb, ltb}
 use lib.ListN.{length, take, drop, take-append-drop}
-use borrow.Author.Tests.{eqb-false, not-true, not-false}
+use borrow.Author.Tests.{eqb-false, ltb-true, not-true, not-false}
 use Rattle.numbers.proofs.Truth.{and-both, both-true}
+use Rattle.table.specs.Record.{recordOf, freeState}
 use Rattle.table.specs.Slots.{slotBytes, slotAt, onSlots}
 use Rattle.table.proofs.Slots.{Keeps, on-step}
-use Rattle.table_rounds.specs.Rounds.{fourSlots, NoneOfFour, Passed}
+use Rattle.table_rounds.specs.Rounds.{InOther, fourSlots, NoneOfFour, Passed}
 
 module _ (P : List ℕ → Type 0) (t : List ℕ) (from : ℕ) where
   pub passed-none : Passed P from from t
@@ -40,16 +41,30 @@ module _ (P : List ℕ → Type 0) (t : List ℕ) (from : ℕ) where
       let both = both-true _ _ (sym (and-both a b) ∙ not-false _ h) in
       passed-four (i + 4) (at + fourSlots) (omega arith) (passed-four i at e so-far (low (both .0))) (high (both .1)) k above (omega arith)
 
--- the test of a round: none of four numbers is v
+-- the test of a round: four answers, none of four numbers is v, each of them is below v
+four-true : (a b c d : Bool) → (a && b) && (c && d) ≡ true → (a ≡ true) × ((b ≡ true) × ((c ≡ true) × (d ≡ true)))
+four-true a b c d e =
+    let p = both-true _ _ (sym (and-both (a && b) (c && d)) ∙ e) in
+    let q = both-true _ _ (sym (and-both a b) ∙ p .0) in
+    let r = both-true _ _ (sym (and-both c d) ∙ p .1) in
+    (q .0, (q .1, (r .0, r .1)))
+
 pub four-differ : (v w x y z : ℕ) → (not (eqb w v) && not (eqb x v)) && (not (eqb y v) && not (eqb z v)) ≡ true → (w ≡ v → ⊥) × ((x ≡ v → ⊥) × ((y ≡ v → ⊥) × (z ≡ v → ⊥)))
 four-differ v w x y z e =
-    let p = both-true _ _ (sym (and-both (not (eqb w v) && not (eqb x v)) (not (eqb y v) && not (eqb z v))) ∙ e) in
-    let q = both-true _ _ (sym (and-both (not (eqb w v)) (not (eqb x v))) ∙ p .0) in
-    let r = both-true _ _ (sym (and-both (not (eqb y v)) (not (eqb z v))) ∙ p .1) in
-    (differ w (q .0), (differ x (q .1), (differ y (r .0), differ z (r .1))))
+    let p = four-true (not (eqb w v)) (not (eqb x v)) (not (eqb y v)) (not (eqb z v)) e in
+    (differ w (p .0), (differ x (p .1 .0), (differ y (p .1 .1 .0), differ z (p .1 .1 .1))))
   where
     differ : (n : ℕ) → not (eqb n v) ≡ true → n ≡ v → ⊥
     differ n h = eqb-false n v (not-true _ h)
+
+pub four-below : (v w x y z : ℕ) → (ltb w v && ltb x v) && (ltb y v && ltb z v) ≡ true → (w < v) × ((x < v) × ((y < v) × (z < v)))
+four-below v w x y z e =
+    let p = four-true (ltb w v) (ltb x v) (ltb y v) (ltb z v) e in
+    (ltb-true w v (p .0), (ltb-true x v (p .1 .0), (ltb-true y v (p .1 .1 .0), ltb-true z v (p .1 .1 .1))))
+
+-- a front below that of state 1 is of state 0
+pub front-unpacked : (r : List ℕ) (x : ℕ) → x ≡ recordOf r / 2 ^ 80 → x < 2 ^ 30 → InOther freeState r → ⊥
+front-unpacked r x e h other = other (omega arith)
 
 -- ---- slots that a change leaves as they are are passed by
 

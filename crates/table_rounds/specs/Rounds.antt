@@ -1,6 +1,6 @@
 -- What a round over several slots excludes.
 -- Assumes nothing.
-use Prim.Native.Nat.{ℕ, _+_, _*_, _<_, _≤_}
+use Prim.Native.Nat.{ℕ, _+_, _*_, _/_, _^_, _<_, _≤_}
 use mathlib.Core.List.{List}
 use mathlib.Core.Path.{_≡_}
 use lib.ListN.{drop}
@@ -14,6 +14,13 @@ Keyed key r = roundKeyOf (macOf (recordOf r)) ≡ key
 
 abbrev pub InState : ℕ → List ℕ → Type 0
 InState state r = stateOf (recordOf r) ≡ state
+
+abbrev pub InOther : ℕ → List ℕ → Type 0
+InOther state r = InState state r → ⊥
+
+-- a slot whose first four bytes are 0
+abbrev pub Blank : List ℕ → Type 0
+Blank r = recordOf r / 2 ^ 80 ≡ 0
 
 -- the bytes of four slots
 abbrev pub fourSlots : ℕ

@@ -3,9 +3,11 @@ ghost use Prim.Native.Nat.{_+_, _≤_};
 ghost use mathlib.Core.Path.{_≡_};
 ghost use mathlib.Core.Bool.{true};
 ghost use lib.ListN.{length};
+ghost use Rattle.table.specs.Record.{freeState};
 ghost use Rattle.table.specs.Slots.{slotsOf};
-ghost use Rattle.table_rounds.specs.Rounds.{Keyed, InState, fourSlots, NoneOfFour, Passed};
+ghost use Rattle.table_rounds.specs.Rounds.{Keyed, InState, InOther, Blank, fourSlots, NoneOfFour, Passed};
 use table::SLOT_BYTES;
+use table_fields::layout;
 
 // The bytes of several slots, and the slots of a round.
 const TWO_SLOTS: usize = 2 * SLOT_BYTES;
@@ -71,6 +73,55 @@ pub fn next_in_state(t: &[u8], from: usize, state: u64) -> usize
         let low = none_in_state(t, SLOT_BYTES * k, state);
         let high = none_in_state(t, SLOT_BYTES * k + FOUR_SLOTS, state);
         if !(low & high) {
+            return k;
+        }
+        k += ROUND;
+    }
+    k
+}
+
+// Whether all of them are of state 0, told by the four bytes that the next test reads too.
+fn all_unpacked(t: &[u8], at: usize) -> bool
+    requires { ⌜ at + fourSlots ≤ length (now t) ⌝ }
+    ensures { λ r. ⌜ (r ≡ true → NoneOfFour (InOther freeState) at (now (t .entry))) ⌝ }
+{
+    let a = table_fields::front_at(t, at) < layout::FRONT_STATE;
+    let b = table_fields::front_at(t, at + SLOT_BYTES) < layout::FRONT_STATE;
+    let c = table_fields::front_at(t, at + TWO_SLOTS) < layout::FRONT_STATE;
+    let d = table_fields::front_at(t, at + THREE_SLOTS) < layout::FRONT_STATE;
+    (a & b) & (c & d)
+}
+
+// Whether none of them begins with four bytes of 0, as a free slot does.
+fn none_blank(t: &[u8], at: usize) -> bool
+    requires { ⌜ at + fourSlots ≤ length (now t) ⌝ }
+    ensures { λ r. ⌜ (r ≡ true → NoneOfFour Blank at (now (t .entry))) ⌝ }
+{
+    let a = table_fields::front_at(t, at) != 0;
+    let b = table_fields::front_at(t, at + SLOT_BYTES) != 0;
+    let c = table_fields::front_at(t, at + TWO_SLOTS) != 0;
+    let d = table_fields::front_at(t, at + THREE_SLOTS) != 0;
+    (a & b) & (c & d)
+}
+
+// The lowest slot from a slot on in whose round some slot is not of state 0 or may be free, or that is one of those after the last whole
+// round: rounds of spoilt records of state 0 are passed by. A round is tested twice: as one test of each slot, the compiler compares each
+// slot with two bounds, and that takes twice as long.
+pub fn next_not_spoilt(t: &[u8], from: usize) -> usize
+    requires { ⌜ from ≤ slotsOf (now t) ⌝ }
+    ensures { λ r. ⌜ (from ≤ r) × ((r ≤ slotsOf (now (t .entry))) × (Passed (InOther freeState) from r (now (t .entry)) × Passed Blank from r (now (t .entry)))) ⌝ }
+{
+    let n = t.len() / SLOT_BYTES;
+    let mut k = from;
+    while ROUND <= n - k {
+        let low = all_unpacked(t, SLOT_BYTES * k);
+        let high = all_unpacked(t, SLOT_BYTES * k + FOUR_SLOTS);
+        if !(low & high) {
+            return k;
+        }
+        let below = none_blank(t, SLOT_BYTES * k);
+        let above = none_blank(t, SLOT_BYTES * k + FOUR_SLOTS);
+        if !(below & above) {
             return k;
         }
         k += ROUND;

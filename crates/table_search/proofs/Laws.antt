@@ -11,13 +11,13 @@ use native.Mathlib.Decide.{ℕ-discrete}
 use native.Mathlib.Omega.{arith}
 use lib.Dec.{eqb}
 use lib.ListN.{drop, length}
-use borrow.Author.Tests.{ne-eqb}
+use borrow.Author.Tests.{eq-eqb, ne-eqb}
 use Rattle.numbers.specs.Tests.{pick}
 use Rattle.numbers.specs.Result.{check, settled}
-use Rattle.numbers.proofs.Truth.{not-true-false, pick-false}
+use Rattle.numbers.proofs.Truth.{not-true-false, pick-true, pick-false}
 use Rattle.table.specs.FreeSlot.{stateFree, slotsSearched, slotsUnpacked, freeSearch, freeFound, freeAnswered}
 use Rattle.table.specs.Learning.{freeSlot}
-use Rattle.table.specs.Record.{recordOf, stateOf, nicknameOf, vlanKind, fineKind, labelFrom}
+use Rattle.table.specs.Record.{recordOf, stateOf, nicknameOf, unpacked, vlanKind, fineKind, labelFrom}
 use Rattle.table.specs.Slots.{slotBytes, mostSlots, tableGood, slotsOf, countSlots, firstSlot, lowest}
 use Rattle.table.specs.Table.{holds, placeOf, nicknameAt, lookedUp, spoiltSlot, spoiltAt, lowestSpoilt}
 use Rattle.table.specs.declared.Label.the-variants.{Vlan, Fine}
@@ -29,11 +29,12 @@ use Rattle.table.specs.declared.LookupAnswer.the-variants as lookup
 use Rattle.table.specs.declared.SpoiltAnswer.the-variants as spoilt
 use Rattle.table.proofs.Slots.{Local, search-next, search-hit, search-end, lowest-none, lowest-within, count-few, count-next, good-slots}
 use Rattle.table.proofs.FreeSlot.{state-free-near, state-other}
-use Rattle.table.proofs.Contents.{record-near, holds-near, free-near, other-than-free, holds-fits}
+use Rattle.table.proofs.Contents.{record-near, holds-near, free-is, free-near, other-than-free, holds-fits}
+use Rattle.table.proofs.Marks.{free-none}
 use Rattle.table_fields.specs.Keys.{roundKeyOf}
 use Rattle.table_pairs.specs.Pairs.{pairGood}
 use Rattle.table_pairs.proofs.Laws.{other-round-key, holds-good}
-use Rattle.table_rounds.specs.Rounds.{Keyed, InState, Passed}
+use Rattle.table_rounds.specs.Rounds.{Keyed, InState, InOther, Blank, Passed}
 
 -- slots that a round excludes are passed by
 past : (p : List ℕ → Bool) → Local p → (P : List ℕ → Type 0) → ((r : List ℕ) → (P r → ⊥) → false ≡ p r)
@@ -74,6 +75,35 @@ count-past p near P other t i j h passed = let far : j - i + i ≡ j = omega ari
         let ih = go d (omega arith) in
         rw next (count-next p near t (d + i) ∙ ap (λ (n : ℕ). countSlots p 0 (d + i) t + n) skips ∙ add-zero _ ∙ ih)
 
+-- a slot whose first four bytes are not 0 is not free; slots that are all such are passed by
+other-than-blank : (r : List ℕ) → (Blank r → ⊥) → false ≡ freeSlot r
+unfolding freeSlot unpacked
+other-than-blank r h = free-none _ _ (free-is (recordOf r) ∙ ne-eqb (recordOf r) 0 (λ z. h (omega arith)))
+
+blank-past : (t : List ℕ) (i j : ℕ) → i ≤ j → Passed Blank i j t → firstSlot freeSlot i t ≡ Nowhere → firstSlot freeSlot j t ≡ Nowhere
+blank-past = past freeSlot free-near Blank other-than-blank
+
+-- slots that are all of state 0 are counted, each
+state-same : (r : List ℕ) → (InOther 0 r → ⊥) → stateFree r ≡ true
+unfolding stateFree
+state-same r same = go (ℕ-discrete (stateOf (recordOf r)) 0)
+  where
+    go : Dec (stateOf (recordOf r) ≡ 0) → eqb (stateOf (recordOf r)) 0 ≡ true
+    go (yes e) = eq-eqb _ 0 e
+    go (no e) = absurd (same e)
+
+count-each : (t : List ℕ) (i j : ℕ) → i ≤ j → Passed (InOther 0) i j t → countSlots stateFree 0 j t ≡ countSlots stateFree 0 i t + (j - i)
+count-each t i j h passed = let far : j - i + i ≡ j = omega arith in rw far at (go (j - i) (omega arith))
+  where
+    go : (d : ℕ) → d + i ≤ j → countSlots stateFree 0 (d + i) t ≡ countSlots stateFree 0 i t + d
+    go zero b = rw (zero-add i) (sym (add-zero _))
+    go (suc d) b =
+        let next : suc d + i ≡ d + i + 1 = omega arith in
+        let one : _≡_ {A = ℕ} (pick (stateFree (drop (slotBytes * (d + i)) t)) 1 0) 1 = pick-true _ 1 0 (state-same (drop (slotBytes * (d + i)) t) (passed (d + i) (omega arith) (omega arith))) in
+        let ih = go d (omega arith) in
+        let step = count-next stateFree state-free-near t (d + i) in
+        rw next (omega (arith, ih, step, one))
+
 -- ---- the search for a free slot
 
 -- one slot, by its state: in another state it is neither free nor unpacked, and one of state 0 is unpacked
@@ -107,6 +137,17 @@ module _ (t : List ℕ) (i u : ℕ) (counted : u ≡ countSlots stateFree 0 i t)
     free-past t (i + 1) j h passed (search-next freeSlot free-near t i so-far free here miss),
     count-here ∙ sym (count-past stateFree state-free-near (InState 0) state-other t (i + 1) j h passed),
   )
+
+  -- not found: rounds of spoilt records of state 0 pass to slot j
+  pub spoilt-on : free ≡ false → (j : ℕ) → i + 1 ≤ j → Passed (InOther 0) (i + 1) j t → Passed Blank (i + 1) j t → (firstSlot freeSlot j t ≡ Nowhere) × (v + (j - (i + 1)) ≡ countSlots stateFree 0 j t)
+  spoilt-on miss j h unpacked some = (
+    blank-past t (i + 1) j h some (search-next freeSlot free-near t i so-far free here miss),
+    ap (λ (n : ℕ). n + (j - (i + 1))) count-here ∙ sym (count-each t (i + 1) j h unpacked),
+  )
+
+  -- the slots counted are few
+  pub spoilt-few : (j : ℕ) → i + 1 ≤ j → v + (j - (i + 1)) ≤ j
+  spoilt-few j h = let few = count-few stateFree t 0 (i + 1) in let is = count-here in omega arith
 
 -- at the end
 pub free-end : (t : List ℕ) (i u : ℕ) → u ≡ countSlots stateFree 0 i t → firstSlot freeSlot i t ≡ Nowhere → i ≤ slotsOf t → slotsOf t ≤ i → record { place = Nowhere; unpacked = u } ≡ freeSearch t

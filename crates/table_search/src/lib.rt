@@ -83,8 +83,8 @@ fn free_step(t: &[u8], at: usize, unpacked: usize) -> FreeStep
     }
 }
 
-// The lowest free slot, and the number of records unpacked. Slots of state 0 often stand together, so after one the next slot is tested by
-// itself, and rounds pass the others by.
+// The lowest free slot, and the number of records unpacked. Slots of state 0 often stand together, so after one of them rounds pass by those
+// that are of state 0 and not free, each of which is counted; after a slot in another state, rounds pass by those in other states.
 pub fn find_free(t: &[u8]) -> FreeSearch
     ensures { λ r. ⌜ r ≡ freeSearch (now (t .entry)) ⌝ }
 {
@@ -104,6 +104,10 @@ pub fn find_free(t: &[u8]) -> FreeSearch
         j += 1;
         if unpacked == before {
             j = table_rounds::next_in_state(t, j, FREE_STATE);
+        } else {
+            let k = table_rounds::next_not_spoilt(t, j);
+            unpacked += k - j;
+            j = k;
         }
     }
     FreeSearch {

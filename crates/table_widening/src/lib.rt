@@ -18,10 +18,20 @@ use table::SLOT_BYTES;
 use table::WidenAnswer;
 use table_fields::layout;
 
-// The most bytes of a table of document 01, and those that a record gains.
+// The most bytes of a table of document 01.
 const MOST_OLD_BYTES: usize = RECORD_BYTES * MOST_SLOTS;
 
-const MARK_BYTES: usize = SLOT_BYTES - RECORD_BYTES;
+// Where the last eight bytes of a record begin, and those of a wider one.
+const LAST_OFFSET: usize = RECORD_BYTES - layout::TAIL_OFFSET;
+
+const WIDE_LAST_OFFSET: usize = SLOT_BYTES - layout::TAIL_OFFSET;
+
+// How many values seven bytes have, and one; the byte that a record gains.
+const SEVEN_BYTES: u64 = 0x100_0000_0000_0000;
+
+const ONE_BYTE: u64 = 0x100;
+
+const UNMARKED: u64 = 0;
 
 // Refusal 2, by the old lengths.
 fn old_good(old: &[u8]) -> bool
@@ -43,15 +53,15 @@ fn put_head(v: u64, out: &mut [u8], at: usize)
     numbers::fill8(&mut out[at..e], v);
 }
 
-// Copies the record at an offset, its first eight bytes and its last six, and puts a zero byte after it.
+// Copies the record at an offset and puts a zero byte after it: its first eight bytes, and then its last seven with the zero byte, in two
+// stores that share a byte.
 fn widen_record(old: &[u8], from: usize, out: &mut [u8], at: usize)
     requires { ⌜ (from + recordBytes ≤ length (now old)) × (at + slotBytes ≤ length (now out)) ⌝ }
     ensures { λ _. ⌜ now (out .exit) ≡ pasted (now (out .entry)) at (take recordBytes (drop from (now (old .entry))) ++ 0 ∷ []) ⌝ }
 {
     put_head(numbers::be8(old, from), out, at);
-    let low = numbers::be6(old, from + layout::TAIL_OFFSET);
-    frame_copy::put_address(low, out, at + layout::TAIL_OFFSET);
-    frame_copy::put_number(0, MARK_BYTES, out, at + layout::MARK_OFFSET);
+    let last = numbers::be8(old, from + LAST_OFFSET) % SEVEN_BYTES;
+    put_head(last * ONE_BYTE + UNMARKED, out, at + WIDE_LAST_OFFSET);
 }
 
 // Every record, one after the other.

@@ -6,17 +6,27 @@ use mathlib.Core.Bool.{Bool, true, false, not, _&&_}
 use mathlib.Core.List.{List}
 use mathlib.Core.Path.{_≡_, refl, sym, ap, _∙_}
 use lib.Dec.{ltb, eqb}
-use borrow.Author.Tests.{le-ltb, lt-ltb, ltb-true, ltb-false, eq-eqb, ne-eqb}
+use lib.ListN.{length, take, drop}
+use borrow.Author.Tests.{not-true, not-false, le-ltb, lt-ltb, ltb-true, ltb-false, eq-eqb, ne-eqb}
 use Rattle.numbers.specs.Tests.{both}
 use Rattle.numbers.specs.Result.{Result, refused, got, andThen, settled}
 use Rattle.numbers.specs.After.{OnArea, onArea}
-use Rattle.numbers.proofs.Truth.{and-both}
-use Rattle.frame.specs.Settings.{compactOn}
+use Rattle.numbers.specs.Bytes.{num}
+use Rattle.numbers.proofs.Steps.{both-fails, both-goes-on}
+use Rattle.numbers.proofs.Truth.{and-both, both-right}
+use Rattle.frame.specs.Settings.{settingsGood, compactOn}
+use Rattle.frame_parse.specs.Meaning.{fieldsIn, Reads}
+use Rattle.frame_parse.specs.declared.Parts.{Parts}
+use Rattle.frame_parse.specs.declared.Parsed.{Parsed}
+use Rattle.frame_parse.specs.declared.Parsed.the-variants as parsed
 use Rattle.frame.specs.declared.Settings.{Settings}
+use Rattle.convert.specs.Compaction.{compactBytes, staysGeneral, compactRoom}
 use Rattle.convert.specs.Sending.{sending}
 use Rattle.convert.specs.declared.SendAnswer.{SendAnswer}
 use Rattle.convert.specs.declared.SendAnswer.the-variants.{Refused, Compacted, Itself}
+use Rattle.convert_compact.specs.Meaning.{fieldsAt, filled}
 use Rattle.convert_send.specs.Meaning.{sentWhere}
+use Rattle.convert_send.proofs.Laws.{send-itself, send-put}
 use Rattle.watch.specs.Time.{watchOf, ticked, stopped}
 use Rattle.watch.specs.Sending.{OnWatched, onWatched, compacts, sentWatched}
 use Rattle.watch.specs.declared.Watch.{Watch}
@@ -34,6 +44,19 @@ none-left n = go (ltb 0 n) refl
 pub compacts-is : (s : Settings) (w : Watch) → (eqb (s .compact) 1 && eqb (w .left) 0) ≡ compacts s w
 unfolding compacts stopped
 compacts-is s w = and-both (eqb (s .compact) 1) (eqb (w .left) 0) ∙ ap (both (compactOn s)) (none-left (w .left))
+
+-- ---- sending where the stop is tested first
+
+module _ (on : Bool) (s : Settings) (f work : List ℕ) (g : Bool) (eg : g ≡ settingsGood s) (ok : not g ≡ false) (room : compactRoom ≤ length work) (x : Parsed) (ef : Reads f (fieldsAt (s .port) f) x) (p : Parts) (e : x ≡ parsed.Fields p) where
+  pub stop-itself : not on ≡ true → onArea Itself work ≡ sentWhere on s f work
+  stop-itself h = send-itself on s f work g eg ok room x ef p e (num (take 6 (drop (p .«dst_offset») f))) refl false (both-fails on _ (not-true on h)) refl
+
+  module _ (going : not on ≡ false) (a : ℕ) (ea : a ≡ num (take 6 (drop (p .«dst_offset») f))) (m : Bool) (em : m ≡ staysGeneral s a) where
+    pub stays-itself : m ≡ true → onArea Itself work ≡ sentWhere on s f work
+    stays-itself h = send-itself on s f work g eg ok room x ef p e a ea false (sym (both-right on (not (staysGeneral s a)) (ap not (sym em ∙ h)))) refl
+
+    pub going-put : m ≡ false → (n : ℕ) (o : List ℕ) → onArea n o ≡ filled (compactBytes (fieldsIn f p)) work → onArea (Compacted n) o ≡ sentWhere on s f work
+    going-put h = send-put on s f work g eg ok room x ef p e a ea true (both-goes-on true on (not (staysGeneral s a)) (not-false on going) (sym (ap not (sym em ∙ h)))) refl
 
 -- the watch beside what sending gives
 module _ (before after : Watch) (work : List ℕ) (a : SendAnswer) (o : List ℕ) where

@@ -1,9 +1,6 @@
 // Sending with a watch, by value: compacting where it may and no stop is left.
-ghost use mathlib.Core.Bool.{not};
 ghost use mathlib.Core.Path.{_≡_};
-ghost use Rattle.numbers.specs.Tests.{both};
 ghost use Rattle.numbers.specs.After.{onArea};
-ghost use Rattle.convert.specs.Compaction.{staysGeneral};
 ghost use Rattle.convert_send.specs.Meaning.{sentWhere};
 ghost use Rattle.watch.specs.Time.{watchOf};
 ghost use Rattle.watch.specs.Sending.{onWatched, sentWatched};
@@ -22,15 +19,8 @@ pub struct SentBy {
     pub reading: u32,
 }
 
-// Whether a frame with this inner destination is compacted, `on` being whether it may be at all.
-fn may_compact(on: bool, s: Settings, a: u64) -> bool
-    ensures { λ r. ⌜ r ≡ both on (not (staysGeneral s a)) ⌝ }
-{
-    on & !convert_compact::stays_general(s, a)
-}
-
 // `convert_send::send_where` once more, under its contract and by its laws: a function that two calls share is not made a part of
-// either, and then both take twice their time.
+// either, and then both take twice their time. While a stop is left the inner destination is not read.
 fn send_where(on: bool, s: Settings, frame: &[u8], work: &mut [u8]) -> SendAnswer
     ensures { λ r. ⌜ onArea r (now (work .exit)) ≡ sentWhere on s (now (frame .entry)) (now (work .entry)) ⌝ }
 {
@@ -43,7 +33,10 @@ fn send_where(on: bool, s: Settings, frame: &[u8], work: &mut [u8]) -> SendAnswe
     match convert_compact::general_fields(s.port, frame) {
         Parsed::Refused(n) => SendAnswer::Refused(n),
         Parsed::Fields(p) => {
-            if !may_compact(on, s, numbers::be6(frame, p.dst_offset)) {
+            if !on {
+                return SendAnswer::Itself;
+            }
+            if convert_compact::stays_general(s, numbers::be6(frame, p.dst_offset)) {
                 return SendAnswer::Itself;
             }
             SendAnswer::Compacted(convert_compact::fill_compact(frame, p, work))

@@ -1,5 +1,5 @@
--- `table_learning::clear_slots` meets its contract. The invariant: the first `i` slots are cleared, and the others as they were; rounds
--- without the key stay as they are.
+-- `table_learning::clear_slots` meets its contract. The invariant: the first `i` slots are cleared, and the others as they were; slots below
+-- the lowest of the pair and rounds without the key stay as they are.
 -- Assumes nothing.
 use Prim.Native.Nat.{ℕ, _≤_, _-_, _+_, _/_}
 use mathlib.Core.List.{List}
@@ -10,20 +10,22 @@ use Rattle.table.specs.Slots.{slotBytes, onSlots}
 use Rattle.table.specs.Learning.{clearedPair}
 use Rattle.table.proofs.Slots.{length-onSlots, length-lent, on-step}
 use Rattle.table.proofs.Apart.{cleared-keeps}
-use Rattle.table_learning.proofs.Laws.{clear-past}
+use Rattle.table_learning.proofs.Laws.{clear-below, clear-past}
 use borrow.Author.Needs.{needs}
 use Rattle.table_learning.proofs.clear_slots.Statement.{statement}
 use Rattle.table_learning.proofs.clear_slots.Tie as tie
 
 abbrev Inv-loop : tie.InvT-loop
-Inv-loop table₀ key kind label e round-key n i₀ table i = (i ≤ n) × ((length table ≡ length table₀) × (table ≡ onSlots (clearedPair e) 0 i table₀))
+Inv-loop table₀ from key kind label e round-key n i₀ table i = (i ≤ n) × ((length table ≡ length table₀) × (table ≡ onSlots (clearedPair e) 0 i table₀))
 
 abbrev μ-loop : tie.MeasureT-loop
-μ-loop table₀ key kind label e round-key n i₀ table i = n - i
+μ-loop table₀ from key kind label e round-key n i₀ table i = n - i
 
 loop-holds : tie.Need-loop-holds Inv-loop μ-loop
-unfolding onSlots
-loop-holds c = (search needs, (refl, refl))
+loop-holds c =
+    let start = c .before .before in
+    let a = start .args in
+    (start .pre .1 .0, (refl, clear-below (a .e) (a .table .now) (a .from) (start .pre .1 .0) (start .pre .1 .1)))
 
 part-clear-slot-end : tie.Need-part-clear-slot-end Inv-loop μ-loop
 part-clear-slot-end c = let long = c .before .loop .inv .1 .0 in omega arith
@@ -32,7 +34,7 @@ clear-slot-requires : tie.Need-clear-slot-requires Inv-loop μ-loop
 clear-slot-requires c κs =
     let at = c .before .before .loop in
     let long = at .inv .1 .0 in
-    (length-lent (at .i) (at .table) (omega arith), c .before .before .before .before .before .pre)
+    (length-lent (at .i) (at .table) (omega arith), c .before .before .before .before .before .pre .0)
 
 loop-again : tie.Need-loop-again Inv-loop μ-loop
 loop-again c =
@@ -47,7 +49,7 @@ loop-again c =
     let same = ap length step ∙ length-onSlots (clearedPair (a .e)) (cleared-keeps (a .e)) t 0 (at .i + 1) (omega arith) in
     let to = c .next-keyed .ensures in
     let within = to .1 .0 in
-    (omega (arith, same, within), (same, clear-past (a .e) t _ (at .i + 1) step (a .kind) (a .label) (start .pre .pair .kind-small) (start .pre .label-is) _ (first .round-key-of .ensures) _ (to .0) (omega (arith, same, within)) (to .1 .1)))
+    (omega (arith, same, within), (same, clear-past (a .e) t _ (at .i + 1) step (a .kind) (a .label) (start .pre .0 .pair .kind-small) (start .pre .0 .label-is) _ (first .round-key-of .ensures) _ (to .0) (omega (arith, same, within)) (to .1 .1)))
 
 same-length : tie.Need-same-length Inv-loop μ-loop
 same-length c = c .before .loop .inv .1 .0

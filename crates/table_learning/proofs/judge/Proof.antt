@@ -1,7 +1,7 @@
 -- `table_learning::judge` meets its contract.
 -- Assumes nothing.
 use mathlib.Core.Path.{refl}
-use Rattle.table_learning.proofs.Laws.{judge-good, judge-kept, judge-refreshed}
+use Rattle.table_learning.proofs.Laws.{judge-kept, judge-refreshed}
 use borrow.Author.Needs.{needs}
 use Rattle.table_learning.proofs.judge.Statement.{statement}
 use Rattle.table_learning.proofs.judge.Tie as tie
@@ -11,12 +11,6 @@ returns c =
     let start = c .before .before .before .before .before in
     let a = start .args in
     judge-kept (a .e) (a .table .now) (a .k) (a .count) (start .pre .1) _ _ refl (c .before .confidence-at .ensures) (c .if1 .taken)
-
-make-room-requires : tie.Need-make-room-requires
-make-room-requires c κs =
-    let start = c .before .before .before .before .before .before in
-    let a = start .args in
-    (start .pre .0, judge-good (a .e) (a .table .now) (a .k) (a .count) (start .pre .1))
 
 returns-2 : tie.Need-returns-2
 returns-2 c =
@@ -33,7 +27,7 @@ judge-spec =
     (λ c κs. search needs)
     (λ c. search needs)
     returns
-    make-room-requires
+    (λ c κs. search needs)
     (λ c κs. search needs)
     (λ c. search needs)
     returns-2)

@@ -1,6 +1,6 @@
 -- `table_search::find_free` meets its contract. The invariant: none of the first `j` slots is free, and those of state 0 are counted.
 -- Assumes nothing.
-use Prim.Native.Nat.{_≤_, _-_, _+_}
+use Prim.Native.Nat.{_≤_, _-_}
 use mathlib.Core.Path.{_≡_, refl}
 use native.Mathlib.Omega.{arith}
 use Rattle.table.specs.Slots.{firstSlot, countSlots}
@@ -8,9 +8,7 @@ use Rattle.table.specs.FreeSlot.{stateFree}
 use Rattle.table.specs.Learning.{freeSlot}
 use Rattle.table.specs.declared.Place.the-variants.{Nowhere}
 use Rattle.table.proofs.Slots.{count-few}
-use Rattle.table_rounds.specs.Rounds.{InState}
-use Rattle.table_rounds.proofs.Laws.{passed-none}
-use Rattle.table_search.proofs.Laws.{free-hit, free-on, free-end}
+use Rattle.table_search.proofs.Laws.{free-hit, free-on, spoilt-on, spoilt-few, free-end}
 use borrow.Author.Needs.{needs}
 use Rattle.table_search.proofs.find_free.Statement.{statement}
 use Rattle.table_search.proofs.find_free.Tie as tie
@@ -44,12 +42,22 @@ loop-again c =
     let on = free-on t (at .j) (at .unpacked) (at .inv .1 .0) (at .inv .1 .1) _ (step .free-step .ensures .0) _ (step .free-step .ensures .1) (c .before .before .if1 .left) _ (c .next-in-state .ensures .0) (c .next-in-state .ensures .1 .1) in
     (search needs, (on .1, on .0))
 
-loop-again-2 : tie.Need-loop-again-2 Inv-loop μ-loop
-loop-again-2 c =
-    let step = c .before .before in
+add-unpacked : tie.Need-add-unpacked Inv-loop μ-loop
+add-unpacked c =
+    let step = c .before .before .before in
     let t = step .before .before .before .before .args .t .now in
     let at = step .before .before .loop in
-    let on = free-on t (at .j) (at .unpacked) (at .inv .1 .0) (at .inv .1 .1) _ (step .free-step .ensures .0) _ (step .free-step .ensures .1) (c .before .if1 .left) (at .j + 1) (omega arith) (passed-none (InState 0) t (at .j + 1)) in
+    let few = spoilt-few t (at .j) (at .unpacked) (at .inv .1 .0) (at .inv .1 .1) _ (step .free-step .ensures .0) _ (step .free-step .ensures .1) _ (c .next-not-spoilt .ensures .0) in
+    let within = c .next-not-spoilt .ensures .1 .0 in
+    omega (arith, few, within)
+
+loop-again-2 : tie.Need-loop-again-2 Inv-loop μ-loop
+loop-again-2 c =
+    let step = c .before .before .before in
+    let t = step .before .before .before .before .args .t .now in
+    let at = step .before .before .loop in
+    let to = c .next-not-spoilt .ensures in
+    let on = spoilt-on t (at .j) (at .unpacked) (at .inv .1 .0) (at .inv .1 .1) _ (step .free-step .ensures .0) _ (step .free-step .ensures .1) (c .before .before .if1 .left) _ (to .0) (to .1 .1 .0) (to .1 .1 .1) in
     (search needs, (on .1, on .0))
 
 returns-2 : tie.Need-returns-2 Inv-loop μ-loop
@@ -72,6 +80,9 @@ find-free-spec =
     (λ c κs. search needs)
     (λ c. search needs)
     loop-again
+    (λ c κs. search needs)
+    (λ c. search needs)
+    add-unpacked
     (λ c. search needs)
     loop-again-2
     returns-2)

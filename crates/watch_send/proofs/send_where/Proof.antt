@@ -1,7 +1,8 @@
 -- `watch_send::send_where` meets its contract: each way out is an outcome of the definition.
 -- Assumes nothing.
 use Rattle.frame_parse.proofs.Located.{parts-of, dst-room}
-use Rattle.convert_send.proofs.Laws.{parts-short, send-settings, send-short, send-refused, send-itself, send-put}
+use Rattle.convert_send.proofs.Laws.{parts-short, send-settings, send-short, send-refused}
+use Rattle.watch_send.proofs.Laws.{stop-itself, stays-itself, going-put}
 use borrow.Author.Needs.{needs}
 use Rattle.watch_send.proofs.send_where.Statement.{statement}
 use Rattle.watch_send.proofs.send_where.Tie as tie
@@ -12,20 +13,23 @@ returns c = search send-settings
 returns-2 : tie.Need-returns-2
 returns-2 c = search send-short
 
+returns-3 : tie.Need-returns-3
+returns-3 c = search stop-itself
+
 be6-requires : tie.Need-be6-requires
 be6-requires c κs = search dst-room
 
-returns-3 : tie.Need-returns-3
-returns-3 c = search send-itself
+returns-4 : tie.Need-returns-4
+returns-4 c = search stays-itself
 
 fill-compact-requires : tie.Need-fill-compact-requires
 fill-compact-requires c κs = (search parts-of, search (parts-short, parts-of), search needs)
 
-returns-4 : tie.Need-returns-4
-returns-4 c = search send-refused
-
 returns-5 : tie.Need-returns-5
-returns-5 c = search send-put
+returns-5 c = search send-refused
+
+returns-6 : tie.Need-returns-6
+returns-6 c = search going-put
 
 pub send-where-spec : {M : Type 1} → statement M
 send-where-spec =
@@ -37,10 +41,11 @@ send-where-spec =
     (λ c κs. search needs)
     (λ c. search needs)
     (λ c. search needs)
+    returns-3
     be6-requires
     (λ c κs. search needs)
-    returns-3
-    fill-compact-requires
     returns-4
+    fill-compact-requires
+    returns-5
     (λ c. search needs)
-    returns-5)
+    returns-6)
