@@ -142,12 +142,23 @@ static void make_frame(int compact)
 }
 
 /* A good map of so many pairs, the label of make_frame in the last. */
-static void make_map(unsigned pairs)
+static void make_map(unsigned pairs, unsigned (*label)(unsigned))
 {
     unsigned i;
     for (i = 1; i <= pairs; i++)
-        shinglebar_pack_pair((uint16_t)i, i == pairs ? 0x123456 : i * 2731, map + (i - 1) * SHINGLEBAR_PAIR_LENGTH);
+        shinglebar_pack_pair((uint16_t)i, i == pairs ? 0x123456 : label(i), map + (i - 1) * SHINGLEBAR_PAIR_LENGTH);
     map_length = (size_t)pairs * SHINGLEBAR_PAIR_LENGTH;
+}
+
+/* Labels far apart, and labels that have their low and their high bits in common with many others. */
+static unsigned apart(unsigned i)
+{
+    return i * 2731;
+}
+
+static unsigned alike(unsigned i)
+{
+    return (i & 63) << 17 | i >> 6;
 }
 
 /* A native frame of the most bytes that ingress allows, tagged with VLAN 1. */
@@ -366,13 +377,12 @@ static void others(void)
     within("write_flush", taken("write_flush", call_write_flush, SHINGLEBAR_WRITE_FLUSH_WRITTEN), most);
 }
 
-/* With maps of lengths on both sides of those where judging takes other areas. */
-static void maps(void)
+/* Reading without a flush and ingress, with maps of so many pairs. */
+static void mapped(const unsigned *pairs, size_t count, unsigned (*label)(unsigned), size_t most)
 {
-    static const unsigned PAIRS[] = {1, 2, 8, 16, 17, 32, 33, 50, 64, 65, 100, 128, 129, 256, 257, 1000, 2048, 4094};
     size_t receive = 0, ingress = 0, took, p;
-    for (p = 0; p < sizeof PAIRS / sizeof PAIRS[0]; p++) {
-        make_map(PAIRS[p]);
+    for (p = 0; p < count; p++) {
+        make_map(pairs[p], label);
         make_frame(0);
         took = taken("receive_port", call_receive_port, SHINGLEBAR_RECEIVE_DELIVERED);
         receive = took > receive ? took : receive;
@@ -380,8 +390,18 @@ static void maps(void)
         took = taken("ingress", call_ingress, SHINGLEBAR_INGRESS_WRITTEN);
         ingress = took > ingress ? took : ingress;
     }
-    within("receive_port without a flush", receive, SHINGLEBAR_STACK_MAX_WITHOUT_FLUSH);
-    within("ingress", ingress, SHINGLEBAR_STACK_MAX_WITHOUT_FLUSH);
+    within("receive_port without a flush", receive, most);
+    within("ingress", ingress, most);
+}
+
+/* With maps of lengths on both sides of those where judging takes other areas. */
+static void maps(void)
+{
+    static const unsigned SHORT[] = {1, 2, 8, 9, 16, 17, 32, 33, 50, 64, 65, 100, 128};
+    static const unsigned LONG[] = {129, 256, 257, 1000, 2048, 4094};
+    mapped(SHORT, sizeof SHORT / sizeof SHORT[0], apart, SHINGLEBAR_STACK_MAX_WITHOUT_FLUSH);
+    mapped(LONG, sizeof LONG / sizeof LONG[0], apart, SHINGLEBAR_STACK_MAX);
+    mapped(LONG, sizeof LONG / sizeof LONG[0], alike, SHINGLEBAR_STACK_MAX);
     make_payload(9170, 255, 0x1FE);
     make_flush_frame();
     within("receive_port with a flush", taken("receive_port", call_receive_port, SHINGLEBAR_RECEIVE_FLUSHED),

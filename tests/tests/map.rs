@@ -11,7 +11,7 @@ use shinglebar_tests::reference::{
 use shinglebar_tests::run::{self, Tally};
 
 /// The numbers of maps that are tried with every defect at every place; 4,094 is a pair for each VLAN.
-const SIZES: [usize; 7] = [1, 2, 3, 50, 51, 1000, 4094];
+const SIZES: [usize; 11] = [1, 2, 3, 8, 9, 50, 51, 128, 129, 1000, 4094];
 
 const PORT: Settings = Settings {
     port: 0x0200_0000_00A1,
@@ -191,6 +191,43 @@ fn labels_that_differ_in_one_bit_or_byte_are_told_apart() {
                 }
                 let kept = pairs[one].1;
                 pairs[one].1 = pairs[other].1;
+                assert!(!judged(random, &maps::bytes(&pairs), first.0, kept));
+                pairs[one].1 = kept;
+            }
+        }
+    }
+}
+
+/// Labels of which each has its low bits, and its high bits, in common with many others, in any order: what two sets of bits tell apart
+/// only by comparing, and so many of them that the labels are sorted instead.
+#[test]
+fn labels_that_share_low_and_high_bits_are_told_apart() {
+    let mut random = run::random("labels_that_share_low_and_high_bits_are_told_apart");
+    let random = &mut random;
+    for size in [9, 128, 129, 200, 1000, 4094] {
+        for few in [4, 64] {
+            let middle = (random.below(1 << 9) as u32) << 8;
+            let mut labels: Vec<u32> = (0..128 * few)
+                .map(|at| (at / few) << 17 | middle | at % few)
+                .collect();
+            for last in (1..labels.len()).rev() {
+                labels.swap(last, random.length(0, last));
+            }
+            let mut pairs: Vec<(u16, u32)> = (1..=size as u16).zip(labels).collect();
+            let count = pairs.len();
+            let first = pairs[0];
+            assert!(judged(random, &maps::bytes(&pairs), first.0, first.1));
+            for (one, other) in [
+                (0, 1),
+                (0, count - 1),
+                (count - 2, count - 1),
+                (count / 2, 0),
+                (count / 2, count - 1),
+            ] {
+                let kept = pairs[one].1;
+                pairs[one].1 = pairs[other].1;
+                assert!(!judged(random, &maps::bytes(&pairs), first.0, kept));
+                pairs[one].1 = 0x100_0000;
                 assert!(!judged(random, &maps::bytes(&pairs), first.0, kept));
                 pairs[one].1 = kept;
             }

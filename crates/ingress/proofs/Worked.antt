@@ -16,10 +16,11 @@ use Rattle.port_map.specs.Maps.{pairOf, pairsIn, goodOnce, pairsGood, mapGood, 
 use Rattle.ingress.specs.Ingress.{givenGood, hopsGood, nicksGood, nativeParsed, destinationAgrees, headerOf, fineLabel, fieldsFor, generalFor, judged, ingressing, ingressed}
 use Rattle.ingress.specs.Cases.{nearPort, given, mapBytes, nativeWith, untagged, general, MapCases}
 use Rattle.ingress.specs.Claims.{IngressRefusal}
+use Rattle.ingress.proofs.ReadBack.{read-back}
 
 pub map-cases : MapCases
 unfolding pick both either anyOf between num bytesOf startsWith parts partsFrom individual nicknameGood vlanGood check andThen addressesGood secondsGood numbersGood laterGood settingsGood frameLengthGood generalTail pairOf pairsIn goodOnce pairsGood mapGood labelFor givenGood hopsGood nicksGood nativeParsed destinationAgrees headerOf fineLabel fieldsFor generalFor judged ingressing
-map-cases = record { plain = refl; dei = refl; content-cut = refl; tag-cut = refl; no-tag = refl; no-map = refl }
+map-cases = record { plain = refl; dei = refl; content-cut = refl; tag-cut = refl; no-tag = refl; no-map = refl; answer = read-back .0; native = read-back .1 }
 
 pub ingress-refusal : IngressRefusal
 unfolding ingressed

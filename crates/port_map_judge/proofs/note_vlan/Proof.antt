@@ -1,6 +1,6 @@
 -- `port_map_judge::note_vlan` meets its contract: bad, noted before, or noted now.
 -- Assumes nothing.
-use Rattle.port_map_judge.proofs.Laws.{note-bad, vlan-room, vlan-small, note-again, note-new}
+use Rattle.port_map_judge.proofs.Laws.{note-bad, vlan-room, note-again, note-new}
 use borrow.Author.Needs.{needs}
 use Rattle.port_map_judge.proofs.note_vlan.Statement.{statement}
 use Rattle.port_map_judge.proofs.note_vlan.Tie as tie
@@ -14,8 +14,8 @@ has-requires c κs = search vlan-room
 returns-2 : tie.Need-returns-2
 returns-2 c = search note-again
 
-add-one-requires : tie.Need-add-one-requires
-add-one-requires c κs = (search vlan-room, search vlan-small)
+add-number-requires : tie.Need-add-number-requires
+add-number-requires c κs = search vlan-room
 
 returns-3 : tie.Need-returns-3
 returns-3 c = search note-new
@@ -31,6 +31,6 @@ note-vlan-spec =
     has-requires
     (λ c. search needs)
     returns-2
-    add-one-requires
+    add-number-requires
     (λ c. search needs)
     returns-3)

@@ -25,9 +25,9 @@ returns-3 c = let a = c .before .before .before .before .before .before .before 
     act-channel [] (a .s) p (a .table .now) (a .out .now) _ (c .before .before .before .before .before .before .decide .ensures p (c .before .before .before .before .before .before .before .before .read-values .ensures) (c .before .before .before .before .before .before .before .has-ethertype .ensures)) (c .before .before .before .before .enum-told2 .given .1) _ (c .before .before .handle .ensures (c .before .before .before .before .before .before .before .before .before .before .before .before .args .out .now))
 
 returns-4 : tie.Need-returns-4
-returns-4 c = let a = c .before .before .before .before .before .before .before .before .before .before .before .before .before .before .before .args in
+returns-4 c = let a = c .before .before .before .before .before .before .before .before .before .before .before .before .before .before .before .before .args in
     let p = fieldsIn (a .f .now) (a .p) in
-    act-native [] (a .s) p (a .table .now) (a .out .now) _ (c .before .before .before .before .before .before .before .before .before .decide .ensures p (c .before .before .before .before .before .before .before .before .before .before .before .read-values .ensures) (c .before .before .before .before .before .before .before .before .before .before .has-ethertype .ensures)) (c .before .before .before .before .before .before .before .enum-told3 .given .1) tag.Untagged (tag-empty [] refl p) _ (c .before .before .before .before .deliver .ensures)
+    act-native [] (a .s) p (a .table .now) (a .out .now) _ (c .before .before .before .before .before .before .before .before .before .before .decide .ensures p (c .before .before .before .before .before .before .before .before .before .before .before .before .read-values .ensures) (c .before .before .before .before .before .before .before .before .before .before .before .has-ethertype .ensures)) (c .before .before .before .before .before .before .before .before .enum-told3 .given .1) tag.Untagged (tag-empty [] refl p) _ (c .before .before .before .before .deliver .ensures)
 
 pub act-unmapped-spec : {M : Type 1} → statement M
 act-unmapped-spec =
@@ -41,6 +41,7 @@ act-unmapped-spec =
     (λ c. search needs)
     (λ c κs. search needs)
     (λ c. search needs)
+    (λ c κs. search needs)
     (λ c κs. search needs)
     returns
     returns-2

@@ -16,7 +16,7 @@ returns-2 c = let a = c .before .before .before .before .before .before .before 
 
 returns-3 : tie.Need-returns-3
 returns-3 c = let a = c .before .before .before .before .before .before .before .before .before .before .before .args in
-    map-out (a .s) (a .map .now) (a .f .now) (a .table .now) (a .out .now) _ (c .before .before .before .before .before .before .settings-good .ensures) (c .before .before .before .before .before .if1 .left) _ (c .before .before .before .table-good .ensures) (c .before .before .if2 .left) _ (c .before .map-good .ensures) (c .if3 .taken)
+    map-out (a .s) (a .map .now) (a .f .now) (a .table .now) (a .out .now) _ (c .before .before .before .before .before .before .settings-good .ensures) (c .before .before .before .before .before .if1 .left) _ (c .before .before .before .table-good .ensures) (c .before .before .if2 .left) _ (c .before .map-good-for-reading .ensures) (c .if3 .taken)
 
 act-requires : tie.Need-act-requires
 act-requires c κs =
@@ -25,15 +25,15 @@ act-requires c κs =
     let mapped = parse .before in
     let table = mapped .before .before in
     let settings = table .before .before .before in
-    (holds _ _ (settings .before .settings-good .ensures) (settings .if1 .left), (holds _ _ (table .before .table-good .ensures) (table .if2 .left), parts-of _ _ _ (parse .parse .ensures .parts) (fields .p .given .1)))
+    (holds _ _ (settings .before .settings-good .ensures) (settings .if1 .left), (holds _ _ (table .before .table-good .ensures) (table .if2 .left), parts-of _ _ _ (parse .parse-mapped .ensures .parts) (fields .p .given .1)))
 
 returns-4 : tie.Need-returns-4
 returns-4 c = let a = c .before .before .before .before .before .before .before .before .before .before .before .before .before .before .before .args in
-    parse-out (a .s) (a .map .now) (a .f .now) (a .table .now) (a .out .now) _ (c .before .before .before .before .before .before .before .before .before .before .settings-good .ensures) (c .before .before .before .before .before .before .before .before .before .if1 .left) _ (c .before .before .before .before .before .before .before .table-good .ensures) (c .before .before .before .before .before .before .if2 .left) _ (c .before .before .before .before .before .map-good .ensures) (c .before .before .before .before .if3 .left) _ (c .before .before .before .parse .ensures) _ (c .before .n .given .1)
+    parse-out (a .s) (a .map .now) (a .f .now) (a .table .now) (a .out .now) _ (c .before .before .before .before .before .before .before .before .before .before .settings-good .ensures) (c .before .before .before .before .before .before .before .before .before .if1 .left) _ (c .before .before .before .before .before .before .before .table-good .ensures) (c .before .before .before .before .before .before .if2 .left) _ (c .before .before .before .before .before .map-good-for-reading .ensures) (c .before .before .before .before .if3 .left) _ (c .before .before .before .parse-mapped .ensures) _ (c .before .n .given .1)
 
 returns-5 : tie.Need-returns-5
 returns-5 c = let a = c .before .before .before .before .before .before .before .before .before .before .before .before .before .before .before .before .before .before .before .before .before .before .args in
-    acted-out (a .s) (a .map .now) (a .f .now) (a .table .now) (a .out .now) _ (c .before .before .before .before .before .before .before .before .before .before .before .before .before .before .before .before .before .settings-good .ensures) (c .before .before .before .before .before .before .before .before .before .before .before .before .before .before .before .before .if1 .left) _ (c .before .before .before .before .before .before .before .before .before .before .before .before .before .before .table-good .ensures) (c .before .before .before .before .before .before .before .before .before .before .before .before .before .if2 .left) _ (c .before .before .before .before .before .before .before .before .before .before .before .before .map-good .ensures) (c .before .before .before .before .before .before .before .before .before .before .before .if3 .left) _ (c .before .before .before .before .before .before .before .before .before .before .parse .ensures) _ (c .before .before .before .before .before .before .before .before .p .given .1) _ (c .before .before .before .before .act .ensures)
+    acted-out (a .s) (a .map .now) (a .f .now) (a .table .now) (a .out .now) _ (c .before .before .before .before .before .before .before .before .before .before .before .before .before .before .before .before .before .settings-good .ensures) (c .before .before .before .before .before .before .before .before .before .before .before .before .before .before .before .before .if1 .left) _ (c .before .before .before .before .before .before .before .before .before .before .before .before .before .before .table-good .ensures) (c .before .before .before .before .before .before .before .before .before .before .before .before .before .if2 .left) _ (c .before .before .before .before .before .before .before .before .before .before .before .before .map-good-for-reading .ensures) (c .before .before .before .before .before .before .before .before .before .before .before .if3 .left) _ (c .before .before .before .before .before .before .before .before .before .before .parse-mapped .ensures) _ (c .before .before .before .before .before .before .before .before .p .given .1) _ (c .before .before .before .before .act .ensures)
 
 pub receive-port-spec : {M : Type 1} → statement M
 receive-port-spec =

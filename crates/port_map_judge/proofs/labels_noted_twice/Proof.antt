@@ -1,0 +1,60 @@
+-- `port_map_judge::labels_noted_twice` meets its contract. The invariant: in both sets the bits of the labels from `left` on are set, and these are good and stand once.
+-- Assumes nothing.
+use Prim.Native.Nat.{_≤_}
+use Rattle.port_map_judge.proofs.Laws.{MarkedTwice, twice-start, twice-room, twice-in, twice-low, twice-high, twice-bad, twice-next, twice-done}
+use borrow.Author.Needs.{needs}
+use Rattle.port_map_judge.proofs.labels_noted_twice.Statement.{statement}
+use Rattle.port_map_judge.proofs.labels_noted_twice.Tie as tie
+
+abbrev Inv-loop : tie.InvT-loop
+Inv-loop map low₀ high₀ left₀ doubts₀ low high left doubts = MarkedTwice map left low high × (doubts ≤ 65)
+
+abbrev μ-loop : tie.MeasureT-loop
+μ-loop map low₀ high₀ left₀ doubts₀ low high left doubts = left
+
+loop-holds : tie.Need-loop-holds Inv-loop μ-loop
+loop-holds c = (search twice-start, search needs)
+
+sub-left : tie.Need-sub-left Inv-loop μ-loop
+sub-left c = search twice-room
+
+label-at-requires : tie.Need-label-at-requires Inv-loop μ-loop
+label-at-requires c κs = search twice-in
+
+note-label-twice-requires : tie.Need-note-label-twice-requires Inv-loop μ-loop
+note-label-twice-requires c κs = (search twice-in, (search needs, (search twice-low, search twice-high)))
+
+returns-2 : tie.Need-returns-2 Inv-loop μ-loop
+returns-2 c = search twice-bad
+
+loop-again : tie.Need-loop-again Inv-loop μ-loop
+loop-again c = (search twice-next, search needs)
+
+returns-3 : tie.Need-returns-3 Inv-loop μ-loop
+returns-3 c = search twice-done
+
+pub labels-noted-twice-spec : {M : Type 1} → statement M
+labels-noted-twice-spec =
+    tie.close
+    (tie.spec
+    Inv-loop
+    μ-loop
+    loop-holds
+    (λ c κs. search needs)
+    (λ c. search needs)
+    (λ c. search needs)
+    (λ c. search needs)
+    sub-left
+    label-at-requires
+    (λ c κs. search needs)
+    (λ c κs. search needs)
+    (λ c. search needs)
+    note-label-twice-requires
+    (λ c. search needs)
+    (λ c. search needs)
+    returns-2
+    (λ c. search needs)
+    loop-again
+    (λ c. search needs)
+    (λ c. search needs)
+    returns-3)
