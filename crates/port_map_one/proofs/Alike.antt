@@ -1,7 +1,7 @@
 -- A slice of pairs and the map of at most one pair that stands for it do not differ for a search: an empty one is none, a bad one is bad,
 -- and in a good one what was found has good numbers and is found again.
 -- Assumes nothing.
-use Prim.Native.Nat.{ℕ, _+_, _*_}
+use Prim.Native.Nat.{ℕ, _+_, _-_, _*_}
 use native.Mathlib.Omega.{arith}
 use mathlib.Core.Bool.{Bool, true, false, not}
 use mathlib.Core.List.{List, [], _∷_, map}
@@ -197,3 +197,8 @@ vlan-alike-by (p ∷ ps) n true v r count judged searched =
 
 pub vlan-alike : (ps : List MapPair) (n : ℕ) (good : Bool) (v : PortVlan) (r : LabelFound) → VlanSearched ps n good v r → VlanAlike v (mapBytesOf ps) (oneMap n good (pairForVlan v r))
 vlan-alike ps n good v r s = vlan-alike-by ps n good v r (s .count) (s .judged) (s .searched)
+
+-- ---- the bytes lent
+
+pub lent-is : (n : ℕ) (good : Bool) (q p : MapPair) → p ≡ q → (b : List ℕ) → b ≡ pairBytesOf p → (k : ℕ) → k ≡ lentBytes n good → take (k - 0) b ≡ oneMap n good q
+lent-is n good q p ep b eb k ek = let e : k - 0 ≡ k = omega arith in rw (e, ek, eb, ep)
