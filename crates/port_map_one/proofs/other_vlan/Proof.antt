@@ -1,0 +1,18 @@
+-- `port_map_one::other_vlan` meets its contract: the test is the definition's.
+-- Assumes nothing.
+use borrow.Author.Tests.{eq-eqb, ne-eqb}
+use Rattle.numbers.specs.Tests.{pick}
+use borrow.Author.Needs.{needs}
+use Rattle.port_map_one.proofs.other_vlan.Statement.{statement}
+use Rattle.port_map_one.proofs.other_vlan.Tie as tie
+
+returns : tie.Need-returns
+unfolding pick
+returns c = rw (eq-eqb _ _ (c .if1 .taken))
+
+returns-2 : tie.Need-returns-2
+unfolding pick
+returns-2 c = rw (ne-eqb _ _ (c .if1 .left))
+
+pub other-vlan-spec : {M : Type 1} → statement M
+other-vlan-spec = tie.close (tie.spec returns returns-2)
