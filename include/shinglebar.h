@@ -68,10 +68,9 @@
 #define SHINGLEBAR_PAIR_LENGTH 6
 #define SHINGLEBAR_MAP_LENGTH_MAX 24564
 
-/* The bytes of stack that a call takes at most: any call (a long flush takes most, so a frame that
- * brings one does, and a map of more than 128 pairs takes nearly as much), and a call with no such map that
- * carries out no flush, which is every call but receive, receive_port, flush, flush_vlan_only and
- * flush_portion.
+/* The bytes of stack that a call takes at most: any call (a map of more than 128 pairs takes most, and a long
+ * flush nearly as much, so a frame that brings one does), and a call with no such map that carries out no
+ * flush, which is every call but receive, receive_port, flush, flush_vlan_only and flush_portion.
  * Measured on x86-64: tests/c/stack.c paints the stack of a thread, makes the calls that take most, and
  * fails where one takes more. What the dynamic loader takes when it binds memmove and memset, about
  * 3,000 bytes, is counted. */
