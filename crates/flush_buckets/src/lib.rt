@@ -112,7 +112,7 @@ fn add_short(s: u64, e: u64, bits: &mut [u8]) -> bool
 }
 
 // Adds every number.
-fn add_all(bits: &mut [u8])
+pub fn add_all(bits: &mut [u8])
     requires { ⌜ length (now bits) ≡ bucketBytes ⌝ }
     ensures { λ _. ⌜ Keeps (now (bits .entry)) (now (bits .exit)) × ((s e : ℕ) → Added s e (now (bits .exit))) ⌝ }
 {

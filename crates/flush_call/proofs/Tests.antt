@@ -27,7 +27,7 @@ use Rattle.flush_vlans.specs.Vlans.{VlansNoted}
 use Rattle.flush_marks.specs.Marks.{Unmarked, Filtered, Chosen}
 use Rattle.flush_marks.specs.Filters.{isType, slotNamed, slotLabelled, slotAddressed, fineSlot, Within}
 use Rattle.flush_marks.proofs.Filters.{filter-all, filter-unmarked, filtered-same, chosen-filtered, chosen-same}
-use Rattle.flush_nicknames.specs.First.{kindMeant, fineNoted, slotFirst}
+use Rattle.flush_nicknames.specs.First.{kindMeant, fineNoted, slotFirst, FirstPass}
 use Rattle.flush_call.specs.Clearing.{payloadFrom, fineLeft}
 
 -- ---- tests of some piece
@@ -216,34 +216,41 @@ module _ (n : ℕ) (r : List ℕ) (f : Kinds) (noted : Noted everyType n (pieces
 
   -- ---- the label by its kind, and what is left of it
 
-  fine-exact : (x : ℕ) (b : Bool) → fineNoted f ≡ b → both b (either (not b) (labelMeant everyType (piecesOf n r) (Fine x))) ≡ labelMeant everyType (piecesOf n r) (Fine x)
-  unfolding both either labelMeant
-  fine-exact x true e = refl
-  fine-exact x false e =
-      let a = either-neither (f .every) (either (f .lists) (f .maps)) e in
-      let b = either-neither (f .lists) (f .maps) (a .1) in
-      sym (none-fine x (piecesOf n r) (sym (noted .every) ∙ a .0) (sym (noted .lists) ∙ b .0) (sym (noted .maps) ∙ b .1))
+  -- all that are meant may be
+  covered : (a b : Bool) → (b ≡ true → a ≡ true) → both a b ≡ b
+  unfolding both
+  covered true b g = refl
+  covered false true g = false-true (g refl)
+  covered false false g = refl
 
-  label-exact : (s : List ℕ) (b : Bool) → eqb (kindOf (recordOf s)) 0 ≡ b → both (kindMeant (piecesOf n r) (fineNoted f) s) (fineLeft (fineNoted f) (piecesOf n r) s) ≡ slotLabelled (piecesOf n r) s
-  unfolding kindMeant fineLeft fineSlot slotLabelled labelFrom pick
-  label-exact s true e = rw e (both-passed (labelMeant everyType (piecesOf n r) (Vlan (labelOf (recordOf s)))) (fineNoted f) (labelMeant everyType (piecesOf n r) (Fine (labelOf (recordOf s)))))
-  label-exact s false e = rw (e, either-skip _) (fine-exact (labelOf (recordOf s)) (fineNoted f) refl)
+  module _ (ingress : ℕ) (nicks : List ℕ) (from count : ℕ) (t : List ℕ) (within : Within from count t) (a : List ℕ) (first : FirstPass (nicknameMeant ingress nicks) (piecesOf n r) (fineNoted f) from count t a) where
+    fine-exact : (x : ℕ) (b : Bool) → fineNoted f ≡ b → both (first .near x) (either (not b) (labelMeant everyType (piecesOf n r) (Fine x))) ≡ labelMeant everyType (piecesOf n r) (Fine x)
+    unfolding both either labelMeant
+    fine-exact x true e = covered (first .near x) (labelMeant everyType (piecesOf n r) (Fine x)) (first .all e x)
+    fine-exact x false e =
+        let a = either-neither (f .every) (either (f .lists) (f .maps)) e in
+        let b = either-neither (f .lists) (f .maps) (a .1) in
+        rw (first .none e x) (sym (none-fine x (piecesOf n r) (sym (noted .every) ∙ a .0) (sym (noted .lists) ∙ b .0) (sym (noted .maps) ∙ b .1)))
 
-  -- ---- a slot is meant exactly if it passes all filters
+    label-exact : (s : List ℕ) (b : Bool) → eqb (kindOf (recordOf s)) 0 ≡ b → both (kindMeant (piecesOf n r) (first .near) s) (fineLeft (fineNoted f) (piecesOf n r) s) ≡ slotLabelled (piecesOf n r) s
+    unfolding kindMeant fineLeft fineSlot slotLabelled labelFrom pick
+    label-exact s true e = rw e (both-passed (labelMeant everyType (piecesOf n r) (Vlan (labelOf (recordOf s)))) (fineNoted f) (labelMeant everyType (piecesOf n r) (Fine (labelOf (recordOf s)))))
+    label-exact s false e = rw (e, either-skip _) (fine-exact (labelOf (recordOf s)) (fineNoted f) refl)
 
-  filters-exact : (nicks : List ℕ) (ingress : ℕ) (s : List ℕ) → both (both (slotFirst (nicknameMeant ingress nicks) (piecesOf n r) (fineNoted f) s) (fineLeft (fineNoted f) (piecesOf n r) s)) (slotAddressed (piecesOf n r) s) ≡ slotMeant everyType (payloadFrom nicks n r) ingress s
-  unfolding slotFirst
-  filters-exact nicks ingress s =
-      ap (λ (b : Bool). both b (slotAddressed (piecesOf n r) s)) (both-assoc (slotNamed (nicknameMeant ingress nicks) s) _ _ ∙ ap (both (slotNamed (nicknameMeant ingress nicks) s)) (label-exact s _ refl))
-      ∙ three-tests (payloadFrom nicks n r) ingress s
+    -- ---- a slot is meant exactly if it passes all filters
 
-  module _ (ingress : ℕ) (nicks : List ℕ) (from count : ℕ) (t : List ℕ) (within : Within from count t) (a : List ℕ) (first : Chosen (slotFirst (nicknameMeant ingress nicks) (piecesOf n r) (fineNoted f)) from count t a) where
+    filters-exact : (s : List ℕ) → both (both (slotFirst (nicknameMeant ingress nicks) (piecesOf n r) (first .near) s) (fineLeft (fineNoted f) (piecesOf n r) s)) (slotAddressed (piecesOf n r) s) ≡ slotMeant everyType (payloadFrom nicks n r) ingress s
+    unfolding slotFirst
+    filters-exact s =
+        ap (λ (b : Bool). both b (slotAddressed (piecesOf n r) s)) (both-assoc (slotNamed (nicknameMeant ingress nicks) s) _ _ ∙ ap (both (slotNamed (nicknameMeant ingress nicks) s)) (label-exact s _ refl))
+        ∙ three-tests (payloadFrom nicks n r) ingress s
+
     pub filters-in-row : (b : List ℕ) → Filtered (fineLeft (fineNoted f) (piecesOf n r)) t a b → (c : List ℕ) → Filtered (slotAddressed (piecesOf n r)) t b c
         → Chosen (slotMeant everyType (payloadFrom nicks n r) ingress) from count t c
     filters-in-row b labels c macs =
-        let two = chosen-filtered _ _ from count t a b (within .room) first labels in
+        let two = chosen-filtered _ _ from count t a b (within .room) (first .chosen) labels in
         let three = chosen-filtered _ _ from count t b c (within .room) two macs in
-        chosen-same _ _ from count t c (filters-exact nicks ingress) three
+        chosen-same _ _ from count t c filters-exact three
 
     -- where the first pass leaves no mark the others have nothing to do
     pub none-left : (g : Bool) → (g ≡ false → Unmarked a 0 (slotsOf t)) → g ≡ false → Chosen (slotMeant everyType (payloadFrom nicks n r) ingress) from count t a

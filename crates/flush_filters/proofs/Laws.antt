@@ -9,12 +9,12 @@ use lib.Dec.{eqb}
 use lib.ListN.{length, take, replicate}
 use lib.Seq.{length-take-le}
 use Rattle.numbers.specs.Tests.{both, either, anyOf}
-use Rattle.numbers.specs.Numberings.{fines, macs, bitAt}
+use Rattle.numbers.specs.Numberings.{macs, bitAt}
 use Rattle.table.specs.Slots.{slotsOf, slotAt}
 use Rattle.flush.specs.Payload.{Piece}
 use Rattle.flush.proofs.Lists.{false-true}
 use Rattle.flush_sort.specs.Sorting.{SortOf}
-use Rattle.flush_parts.specs.Named.{namedOf}
+use Rattle.flush_parts.specs.Named.{fineNaming, namedOf}
 use Rattle.flush_buckets.specs.Buckets.{HasBits}
 use Rattle.flush_parts.specs.Parts.{Narrow}
 use Rattle.flush_parts.specs.declared.Naming.{Naming}
@@ -91,15 +91,12 @@ lent-few n k keys slots h same e few = let z : length (take n k) ≡ n = length-
 
 -- ---- how the numbers are named
 
-fines-narrow : Narrow fines
-fines-narrow = record { sound = record { width = record { least = omega arith; most = omega arith; six = λ a b. absurd (b refl) }; top-some = omega arith }; top-le = omega arith; low-le = omega arith; high-le = omega arith }
-
 macs-narrow : Narrow macs
 macs-narrow = record { sound = record { width = record { least = omega arith; most = omega arith; six = λ a b. refl }; top-some = omega arith }; top-le = omega arith; low-le = omega arith; high-le = omega arith }
 
-pub naming-fine : (f : Field) → f ≡ Fine → (record { blocks = 3; singles = 4; mapped = true; maps = 5; numbering = fines } ≡ namingOf f) × Narrow fines
+pub naming-fine : (f : Field) → f ≡ Fine → (d : Naming) → (d ≡ fineNaming) × Narrow (d .numbering) → (d ≡ namingOf f) × Narrow (d .numbering)
 unfolding namingOf
-naming-fine f e = rw e (refl, fines-narrow)
+naming-fine f e d told = rw e told
 
 pub naming-mac : (f : Field) → f ≡ Mac → (record { blocks = 8; singles = 7; mapped = false; maps = 8; numbering = macs } ≡ namingOf f) × Narrow macs
 unfolding namingOf

@@ -7,19 +7,19 @@ use mathlib.Core.Path.{_≡_}
 use lib.Dec.{eqb}
 use lib.ListN.{length, take}
 use Rattle.numbers.specs.Tests.{both, either, anyOf}
-use Rattle.numbers.specs.Numberings.{fines, macs, bitAt}
+use Rattle.numbers.specs.Numberings.{macs, bitAt}
 use Rattle.table.specs.Slots.{slotAt}
 use Rattle.flush.specs.Payload.{Piece}
-use Rattle.flush_parts.specs.Named.{namedOf}
+use Rattle.flush_parts.specs.Named.{fineNaming, namedOf}
 use Rattle.flush_parts.specs.declared.Naming.{Naming}
 use Rattle.flush_marks.specs.Marks.{markBytes, Filtered}
 use Rattle.flush_keys.specs.Keys.{numberIn, appliesTo, keyed}
 use Rattle.flush_keys.specs.declared.Field.{Field}
 use Rattle.flush_keys.specs.declared.Field.the-variants.{Fine, Mac}
 
--- type 3 names fine-grained labels in blocks, type 4 in a list, type 5 in a bit map; type 8 names MACs in blocks, type 7 in a list
+-- type 8 names MACs in blocks, type 7 in a list
 unfoldable pub namingOf : Field → Naming
-namingOf Fine = record { blocks = 3; singles = 4; mapped = true; maps = 5; numbering = fines }
+namingOf Fine = fineNaming
 namingOf Mac = record { blocks = 8; singles = 7; mapped = false; maps = 8; numbering = macs }
 
 unfoldable pub slotPasses : Field → List Piece → List ℕ → Bool

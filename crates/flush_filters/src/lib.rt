@@ -34,13 +34,7 @@ fn naming_of(field: Field) -> Naming
     ensures { λ r. ⌜ (r ≡ namingOf field) × Narrow (r .numbering) ⌝ }
 {
     match field {
-        Field::Fine => Naming {
-            blocks: 3,
-            singles: 4,
-            mapped: true,
-            maps: 5,
-            numbering: flush_members::FINES,
-        },
+        Field::Fine => flush_parts::fine_naming(),
         Field::Mac => Naming {
             blocks: 8,
             singles: 7,
@@ -51,14 +45,15 @@ fn naming_of(field: Field) -> Naming
     }
 }
 
-// Sets the bits of the sorted keys whose number the message names.
-fn hit_keys(rest: &[u8], field: Field, keys: &[u64], hits: &mut [u8])
+// Sets the bits of the sorted keys whose number the message names. What the area of places holds before and after is free.
+fn hit_keys(rest: &[u8], field: Field, keys: &[u64], places: &mut [u64], hits: &mut [u8])
     requires { ⌜ (Sorted (now keys) × (length (now keys) ≤ 4096)) × (length (now hits) ≡ hitBytes) ⌝ }
     ensures { λ _. ⌜ Hits (namedOf (namingOf field) (tlvs (now (rest .entry)))) (now (keys .entry)) (now (hits .entry)) (now (hits .exit)) ⌝ }
 {
     let mut near = [0u8; BUCKET_BYTES];
     flush_keys::note(keys, &mut near);
-    flush_intervals::hit_named(rest, naming_of(field), &near, keys, hits);
+    flush_intervals::note_places(keys, places);
+    flush_intervals::hit_named(rest, naming_of(field), &near, keys, places, hits);
 }
 
 // Marks the slots of keys whose number the message names.
@@ -68,8 +63,16 @@ fn mark_named(rest: &[u8], field: Field, keys: &mut [u64], work: &mut [u64], mar
 {
     flush_sort::sort(keys, work);
     let mut hits = [0u8; HIT_BYTES];
-    hit_keys(rest, field, keys, &mut hits);
+    hit_keys(rest, field, keys, work, &mut hits);
     flush_keys::collect(keys, &hits, marks);
+}
+
+// Whether it pays to make filter bits of the message for so many slots. Those of labels were tested in the first pass.
+fn bits_pay(field: Field, n: usize) -> bool {
+    match field {
+        Field::Fine => false,
+        Field::Mac => FEW < n,
+    }
 }
 
 // Makes the keys of the slots whose number may be named, and leaves those marked that have no such number.
@@ -87,7 +90,8 @@ fn key_slots(
     flush_marks::remove_all(marks);
     flush_keys::keep_others(table, field, slots, marks);
     let mut named = [0u8; BUCKET_BYTES];
-    flush_named::add_named(rest, naming_of(field), &mut named);
+    let pays = bits_pay(field, slots.len());
+    flush_named::add_where(rest, naming_of(field), pays, &mut named);
     flush_keys::keys_of(table, field, slots, &named, keys)
 }
 

@@ -96,6 +96,16 @@ module _ (l : List ℕ) (y lo : ℕ) (s : Sorted l) (h : lo ≤ length l) (d : l
   pub next-here : (lo + 1 ≡ length l → ⊥) → y ≤ getD l (lo + 1) 0 → Splits l y (lo + 1)
   next-here e le = from-here l y (lo + 1) next-front s (omega arith) e le
 
+-- the search from a place that was noted
+pub none-front : (l : List ℕ) (y : ℕ) → All (λ v. v < y) (take 0 l)
+unfolding All
+none-front l y = tt
+
+pub noted-front : (l : List ℕ) (y i : ℕ) → Sorted l → (i ≡ 0 → ⊥) → i ≤ length l → getD l (i - 1) 0 < y → All (λ v. v < y) (take i l)
+noted-front l y i s some h lt =
+    let last : suc (i - 1) ≡ i = omega arith in
+    rw last at (sorted-below l (i - 1) y s (omega arith) lt)
+
 -- ---- a range
 
 module _ (s e x : ℕ) where

@@ -1,5 +1,5 @@
 // What the TLVs of a message name, found among the numbers of records: these are sorted once, and each block, number and bit map of the
-// message finds its place in them.
+// message finds its place in them, by a place that was noted for its bucket or by a search.
 ghost use mathlib.Core.Path.{_≡_};
 ghost use mathlib.Core.Bool.{true, false};
 ghost use Prim.Native.Nat.{suc, _+_, _*_, _^_, _≤_, _<_};
@@ -19,6 +19,14 @@ use numbers::Numbering;
 
 // A bit for each of 4,096 keys, and a byte after them that is not used.
 pub const HIT_BYTES: usize = 513;
+
+// The most entries that places are noted in.
+const MOST_PLACES: usize = 4096;
+
+// The numbers of a bucket, and how many buckets there are.
+const BUCKET: u64 = 256;
+
+const BUCKETS: u64 = 0x1_0000;
 
 // The step of the search: h if v is below z times 4096, else 0; by arithmetic, since a compiler makes a branch of a choice.
 fn step(v: u64, z: u64, h: usize) -> usize
@@ -69,8 +77,64 @@ fn count_from(keys: &[u64], lo: usize, e: u64) -> usize
     count_below(keys, e)
 }
 
+// The entry of a number among the places of n: by its bucket.
+fn entry_of(x: u64, n: usize) -> usize
+    requires { ⌜ n ≤ 4096 ⌝ }
+{
+    (x / BUCKET % BUCKETS) as usize * n / BUCKETS as usize
+}
+
+// Notes the place of each key in the entry of its number; of several in one entry that of the first. Nothing is promised of it: a place that
+// is read is tested.
+pub fn note_places(keys: &[u64], places: &mut [u64]) {
+    let n = places.len();
+    if MOST_PLACES < n {
+        return;
+    }
+    let mut i = keys.len();
+    while 0 < i {
+        i -= 1;
+        let h = entry_of(keys[i] / KEY_SLOTS, n);
+        if n <= h {
+            return;
+        }
+        places[h] = i as u64;
+    }
+}
+
+// The place that was noted in the entry of a number, or any number.
+fn place_at(places: &[u64], x: u64) -> usize {
+    let n = places.len();
+    if MOST_PLACES < n {
+        return 0;
+    }
+    let h = entry_of(x, n);
+    if n <= h {
+        return 0;
+    }
+    places[h] as usize
+}
+
+// How many are below z times 4096. Mostly it is the place that was noted or the next; else they are searched.
+fn count_near(keys: &[u64], places: &[u64], z: u64) -> usize
+    requires { ⌜ Sorted (now keys) × (z < 2 ^ 52) ⌝ }
+    ensures { λ r. ⌜ Splits (now (keys .entry)) (z * 4096) r ⌝ }
+{
+    let i = place_at(places, z);
+    if i == 0 {
+        return count_from(keys, 0, z);
+    }
+    if keys.len() < i {
+        return count_below(keys, z);
+    }
+    if z * KEY_SLOTS <= keys[i - 1] {
+        return count_below(keys, z);
+    }
+    count_from(keys, i, z)
+}
+
 // Sets the bits of the keys whose number lies from s to before e.
-fn hit_range(s: u64, e: u64, near: &[u8], keys: &[u64], hits: &mut [u8])
+fn hit_range(s: u64, e: u64, near: &[u8], keys: &[u64], places: &[u64], hits: &mut [u8])
     requires { ⌜ Searched (now near) (now keys) (now hits) × ((s < 2 ^ 52) × (e < 2 ^ 52)) ⌝ }
     ensures { λ _. ⌜ Hits (λ x. both (leb s x) (leb (suc x) e)) (now (keys .entry)) (now (hits .entry)) (now (hits .exit)) ⌝ }
 {
@@ -80,23 +144,23 @@ fn hit_range(s: u64, e: u64, near: &[u8], keys: &[u64], hits: &mut [u8])
     if !flush_buckets::may_meet(near, s, e) {
         return;
     }
-    let lo = count_below(keys, s);
+    let lo = count_near(keys, places, s);
     let hi = count_from(keys, lo, e);
     flush_bits::add_range(hits, lo, hi);
 }
 
 // Sets the bits of the keys with this number.
-fn hit_single(x: u64, near: &[u8], keys: &[u64], hits: &mut [u8])
+fn hit_single(x: u64, near: &[u8], keys: &[u64], places: &[u64], hits: &mut [u8])
     requires { ⌜ Searched (now near) (now keys) (now hits) × (x < 2 ^ 48) ⌝ }
     ensures { λ _. ⌜ Hits (λ y. both (leb x y) (leb (suc y) (x + 1))) (now (keys .entry)) (now (hits .entry)) (now (hits .exit)) ⌝ }
 {
     if flush_buckets::has_alone(near, x) {
-        hit_range(x, x + 1, near, keys, hits);
+        hit_range(x, x + 1, near, keys, places, hits);
     }
 }
 
 // Sets the bits of the keys whose number lies in a block of a value.
-fn hit_blocks(v: &[u8], w: Numbering, near: &[u8], keys: &[u64], hits: &mut [u8])
+fn hit_blocks(v: &[u8], w: Numbering, near: &[u8], keys: &[u64], places: &[u64], hits: &mut [u8])
     requires { ⌜ Narrow w × Searched (now near) (now keys) (now hits) ⌝ }
     ensures { λ _. ⌜ Hits (partsHit true w (now (v .entry))) (now (keys .entry)) (now (hits .entry)) (now (hits .exit)) ⌝ }
 {
@@ -105,13 +169,13 @@ fn hit_blocks(v: &[u8], w: Numbering, near: &[u8], keys: &[u64], hits: &mut [u8]
     while k <= v.len() - at {
         let s = flush_parts::low_at(v, at, true, w);
         let e = flush_parts::past_at(v, at, true, w);
-        hit_range(s, e, near, keys, hits);
+        hit_range(s, e, near, keys, places, hits);
         at += k;
     }
 }
 
 // Sets the bits of the keys whose number is in a list.
-fn hit_singles(v: &[u8], w: Numbering, near: &[u8], keys: &[u64], hits: &mut [u8])
+fn hit_singles(v: &[u8], w: Numbering, near: &[u8], keys: &[u64], places: &[u64], hits: &mut [u8])
     requires { ⌜ Narrow w × Searched (now near) (now keys) (now hits) ⌝ }
     ensures { λ _. ⌜ Hits (partsHit false w (now (v .entry))) (now (keys .entry)) (now (hits .entry)) (now (hits .exit)) ⌝ }
 {
@@ -119,7 +183,7 @@ fn hit_singles(v: &[u8], w: Numbering, near: &[u8], keys: &[u64], hits: &mut [u8
     let mut at = 0;
     while k <= v.len() - at {
         let x = flush_parts::low_at(v, at, false, w);
-        hit_single(x, near, keys, hits);
+        hit_single(x, near, keys, places, hits);
         at += k;
     }
 }
@@ -135,7 +199,7 @@ fn hit_group(v: &[u8], w: Numbering, x: u64, i: usize, j: usize, hits: &mut [u8]
 }
 
 // Sets the bits of the keys whose number is in a bit map. Keys with one number go together.
-fn hit_map(v: &[u8], w: Numbering, near: &[u8], keys: &[u64], hits: &mut [u8])
+fn hit_map(v: &[u8], w: Numbering, near: &[u8], keys: &[u64], places: &[u64], hits: &mut [u8])
     requires { ⌜ Narrow w × Searched (now near) (now keys) (now hits) ⌝ }
     ensures { λ _. ⌜ Hits (λ x. inMap w x (now (v .entry))) (now (keys .entry)) (now (hits .entry)) (now (hits .exit)) ⌝ }
 {
@@ -147,7 +211,7 @@ fn hit_map(v: &[u8], w: Numbering, near: &[u8], keys: &[u64], hits: &mut [u8])
     if !flush_buckets::may_meet(near, s, e) {
         return;
     }
-    let mut i = count_below(keys, s);
+    let mut i = count_near(keys, places, s);
     while i < keys.len() {
         let x = keys[i] / KEY_SLOTS;
         if e <= x {
@@ -160,26 +224,41 @@ fn hit_map(v: &[u8], w: Numbering, near: &[u8], keys: &[u64], hits: &mut [u8])
 }
 
 // Sets the bits of the keys whose number a TLV names.
-fn hit_value(k: u8, v: &[u8], naming: Naming, near: &[u8], keys: &[u64], hits: &mut [u8])
+fn hit_value(
+    k: u8,
+    v: &[u8],
+    naming: Naming,
+    near: &[u8],
+    keys: &[u64],
+    places: &[u64],
+    hits: &mut [u8],
+)
     requires { ⌜ Narrow (naming .numbering) × Searched (now near) (now keys) (now hits) ⌝ }
     ensures { λ _. ⌜ Hits (namedIn naming (tlv k (now (v .entry)))) (now (keys .entry)) (now (hits .entry)) (now (hits .exit)) ⌝ }
 {
     let w = naming.numbering;
     if k == naming.blocks {
-        hit_blocks(v, w, near, keys, hits);
+        hit_blocks(v, w, near, keys, places, hits);
         return;
     }
     if k == naming.singles {
-        hit_singles(v, w, near, keys, hits);
+        hit_singles(v, w, near, keys, places, hits);
         return;
     }
     if naming.mapped & (k == naming.maps) {
-        hit_map(v, w, near, keys, hits);
+        hit_map(v, w, near, keys, places, hits);
     }
 }
 
 // Sets the bits of the keys whose number TLVs name.
-pub fn hit_named(l: &[u8], naming: Naming, near: &[u8], keys: &[u64], hits: &mut [u8])
+pub fn hit_named(
+    l: &[u8],
+    naming: Naming,
+    near: &[u8],
+    keys: &[u64],
+    places: &[u64],
+    hits: &mut [u8],
+)
     requires { ⌜ Narrow (naming .numbering) × Searched (now near) (now keys) (now hits) ⌝ }
     ensures { λ _. ⌜ Hits (namedOf naming (tlvs (now (l .entry)))) (now (keys .entry)) (now (hits .entry)) (now (hits .exit)) ⌝ }
 {
@@ -190,7 +269,7 @@ pub fn hit_named(l: &[u8], naming: Naming, near: &[u8], keys: &[u64], hits: &mut
             return;
         }
         let f = at + 2;
-        hit_value(l[at], &l[f..e], naming, near, keys, hits);
+        hit_value(l[at], &l[f..e], naming, near, keys, places, hits);
         at = e;
     }
 }

@@ -1,6 +1,6 @@
 -- Laws of clearing by marks: a walk that clears and counts, and that it is clearing by the test that chose the marks.
 -- Assumes nothing.
-use Prim.Native.Nat.{ℕ, zero, suc, _+_, _-_, _*_, _<_, _≤_}
+use Prim.Native.Nat.{ℕ, zero, suc, _+_, _-_, _*_, _/_, _%_, _<_, _≤_}
 use mathlib.Core.Bool.{Bool, true, false}
 use mathlib.Core.List.{List, _++_}
 use mathlib.Core.Path.{_≡_, refl, sym, ap, _∙_}
@@ -8,9 +8,12 @@ use native.Mathlib.Decide.{ℕ-discrete}
 use native.Mathlib.Nat.{add-zero, zero-add, add-suc}
 use native.Mathlib.Numerals.{add-one}
 use native.Mathlib.Omega.{arith}
-use lib.ListN.{length, take, drop, take-append-drop}
-use Rattle.numbers.specs.Tests.{pick}
-use Rattle.numbers.specs.Numberings.{bitAt}
+use lib.Dec.{eqb}
+use lib.ListN.{length, take, drop, getD, take-append-drop}
+use borrow.Author.Tests.{eqb-true}
+use Rattle.flush_bits.proofs.Laws.{every, every-at}
+use Rattle.numbers.specs.Tests.{pick, both}
+use Rattle.numbers.specs.Numberings.{bitOf, bitAt}
 use Rattle.numbers.specs.After.{onTable}
 use Rattle.numbers.specs.Bytes.{bytesOf}
 use Rattle.table.specs.Slots.{slotBytes, slotsOf, slotAt, putSlot, freed, onSlots, countSlots}
@@ -19,7 +22,7 @@ use Rattle.table.specs.declared.Place.the-variants.{At, Nowhere}
 use Rattle.table.proofs.Slots.{length-putSlot, put-lent, drop-onSlots}
 use Rattle.flush.specs.Flush.{clearedSlot, clearedBy}
 use Rattle.flush.proofs.Flushing.{cleared-hit, cleared-miss, cleared-keeps}
-use Rattle.flush_marks.specs.Marks.{Unmarked, NextMark, Chosen, countMarks, freedMarks, clearedMarks, ClearedTo, clearedIn}
+use Rattle.flush_marks.specs.Marks.{Unmarked, NextMark, Chosen, countMarks, freedMarks, clearedMarks, AllMarked, freedFrom, ClearedTo, clearedIn}
 
 -- ---- slots without a mark
 
@@ -72,20 +75,20 @@ module _ (m t : List ℕ) where
         cc
 
     -- a slot that is marked is cleared
-    pub cleared-next : i < slotsOf t → (b : Bool) → b ≡ bitAt i m → b ≡ true → (r : List ℕ) → r ≡ freed
-        → ClearedTo m t (i + 1) (c + 1) (take (slotBytes * i) u ++ (r ++ drop (slotBytes * i + slotBytes - slotBytes * i) (drop (slotBytes * i) u)))
+    cleared-put : i < slotsOf t → bitAt i m ≡ true → ClearedTo m t (i + 1) (c + 1) (putSlot i freed u)
     unfolding countMarks freedMarks pick
-    cleared-next inside b is e r free =
-        let marked : bitAt i m ≡ true = sym is ∙ e in
+    cleared-put inside marked =
         let few = so-far .few in
         let long = so-far .long in
-        rw (put-lent i r u)
-        (record {
+        record {
           count = rw (add-one i, marked, ← so-far .count);
           few = omega arith;
-          long = rw free (length-putSlot i freed u (omega arith) freed-long) ∙ long;
-          left = rw (add-one i, marked, ← so-far .left, free);
-        })
+          long = length-putSlot i freed u (omega arith) freed-long ∙ long;
+          left = rw (add-one i, marked, ← so-far .left);
+        }
+
+    pub cleared-next : i < slotsOf t → (b : Bool) → b ≡ bitAt i m → b ≡ true → (v : List ℕ) → v ≡ putSlot i freed u → ClearedTo m t (i + 1) (c + 1) v
+    cleared-next inside b is e v put = rw put (cleared-put inside (sym is ∙ e))
 
     -- from one that is not, to the next that is
     module _ (b : Bool) (is : b ≡ bitAt i m) (clear : b ≡ false) (p : Place) (next : NextMark m (i + 1) (slotsOf t) p) where
@@ -110,6 +113,53 @@ module _ (m t : List ℕ) where
           let far = f .behind in
           let inside = f .within in
           (omega arith, cleared-skip k (omega arith) (passed k (f .passed)))
+
+-- ---- slots that are all marked
+
+-- the slot that is lent is put back
+pub slot-freed : (k : ℕ) (u r : List ℕ) → r ≡ freed → take (slotBytes * k) u ++ (r ++ drop (slotBytes * k + slotBytes - slotBytes * k) (drop (slotBytes * k) u)) ≡ putSlot k freed u
+slot-freed k u r e = put-lent k r u ∙ ap (λ (s : List ℕ). putSlot k s u) e
+
+module _ (k : ℕ) (t : List ℕ) where
+  pub run-none : t ≡ freedFrom k 0 t
+  unfolding freedFrom
+  run-none = refl
+
+  pub run-next : (i : ℕ) (u : List ℕ) → u ≡ freedFrom k i t → (v : List ℕ) → v ≡ putSlot (k + i) freed u → v ≡ freedFrom k (i + 1) t
+  unfolding freedFrom
+  run-next i u so-far v put = put ∙ rw (so-far, add-one i)
+
+  pub run-ends : (i n : ℕ) (u : List ℕ) → u ≡ freedFrom k i t → i ≤ n → n ≤ i → u ≡ freedFrom k n t
+  run-ends i n u so-far low high = so-far ∙ ap (λ (d : ℕ). freedFrom k d t) (omega arith)
+
+module _ (m t : List ℕ) where
+  cleared-run : (d i c : ℕ) (u : List ℕ) → ClearedTo m t i c u → AllMarked m i d (slotsOf t) → ClearedTo m t (i + d) (c + d) (freedFrom i d u)
+  unfolding freedFrom
+  cleared-run zero i c u so-far all = rw (add-zero i, add-zero c) so-far
+  cleared-run (suc d) i c u so-far all =
+      let room = all .room in
+      let slot : i + suc d ≡ i + d + 1 = omega arith in
+      let count : c + suc d ≡ c + d + 1 = omega arith in
+      let before : AllMarked m i d (slotsOf t) = record { room = omega arith; each = λ j a b. all .each j a (omega arith) } in
+      rw (slot, count) (cleared-put m t (i + d) (c + d) (freedFrom i d u) (cleared-run d i c u so-far before) (omega arith) (all .each (i + d) (omega arith) (omega arith)))
+
+  pub cleared-eight : (i c : ℕ) (u : List ℕ) → ClearedTo m t i c u → (b : Bool) → (b ≡ true → AllMarked m i 8 (slotsOf t)) → b ≡ true → (v : List ℕ) → v ≡ freedFrom i 8 u → ClearedTo m t (i + 8) (c + 8) v
+  cleared-eight i c u so-far b told e v run = rw run (cleared-run 8 i c u so-far (told e))
+
+-- a full byte
+full : every 8 (bitOf 255) ≡ true
+unfolding both bitOf
+full = refl
+
+pub byte-full : (m : List ℕ) (k n : ℕ) → (b : Bool) → b ≡ eqb (getD m (k / 8) 0) 255 → k % 8 ≡ 0 → k + 8 ≤ n → b ≡ true → AllMarked m k 8 n
+unfolding bitAt
+byte-full m k n b told start room e = record {
+  room = room;
+  each = λ j low high.
+      let byte : j / 8 ≡ k / 8 = omega arith in
+      let value : getD m (k / 8) 0 ≡ 255 = eqb-true _ _ (sym told ∙ e) in
+      rw (byte, value) (every-at 8 (bitOf 255) full (j % 8) (omega arith));
+}
 
 -- ---- clearing by marks is clearing by the test that chose them
 

@@ -1,13 +1,13 @@
 // Marks: one bit for each slot of a table. They are looked through and listed, added, and the marked slots are cleared and counted.
-ghost use Prim.Native.Nat.{_/_, _^_, _<_, _≤_};
-ghost use mathlib.Core.Bool.{false};
+ghost use Prim.Native.Nat.{_+_, _/_, _^_, _<_, _≤_};
+ghost use mathlib.Core.Bool.{true, false};
 ghost use mathlib.Core.Path.{_≡_};
 ghost use lib.Count.{leadingZeros};
 ghost use lib.ListN.{length};
 ghost use Rattle.numbers.specs.Tests.{pick};
 ghost use Rattle.numbers.specs.After.{onTable};
-ghost use Rattle.table.specs.Slots.{mostSlots, slotsOf};
-ghost use Rattle.flush_marks.specs.Marks.{markBytes, RestOf, Unmarked, NextMark, Widened, NoMarks, Listing, clearedMarks};
+ghost use Rattle.table.specs.Slots.{mostSlots, slotsOf, putSlot, freed};
+ghost use Rattle.flush_marks.specs.Marks.{markBytes, RestOf, Unmarked, NextMark, Widened, NoMarks, Listing, AllMarked, freedFrom, clearedMarks};
 use table::Place;
 use table::SLOT_BYTES;
 
@@ -89,7 +89,44 @@ pub fn weight(marks: &[u8]) -> usize
     sum
 }
 
-// Clears the marked slots, and counts them. Where marks stand close the next slot is mostly marked, and is not searched for.
+// Whether eight slots from slot k on, which share a byte, are all marked and before slot n.
+fn eight_marked(marks: &[u8], k: usize, n: usize) -> bool
+    requires { ⌜ (length (now marks) ≡ markBytes) × ((k < n) × (n ≤ mostSlots)) ⌝ }
+    ensures { λ r. ⌜ (r ≡ true → AllMarked (now (marks .entry)) k 8 n) ⌝ }
+{
+    if k % 8 != 0 {
+        return false;
+    }
+    if n < k + 8 {
+        return false;
+    }
+    marks[k / 8] == 0xff
+}
+
+// Frees a slot of the table.
+fn clear_slot(table: &mut [u8], k: usize)
+    requires { ⌜ k < slotsOf (now table) ⌝ }
+    ensures { λ _. ⌜ now (table .exit) ≡ putSlot k freed (now (table .entry)) ⌝ }
+{
+    let a = SLOT_BYTES * k;
+    let e = a + SLOT_BYTES;
+    table_records::clear(&mut table[a..e]);
+}
+
+// Frees n slots from slot k on. The compiler clears them together.
+fn clear_run(table: &mut [u8], k: usize, n: usize)
+    requires { ⌜ k + n ≤ slotsOf (now table) ⌝ }
+    ensures { λ _. ⌜ now (table .exit) ≡ freedFrom k n (now (table .entry)) ⌝ }
+{
+    let mut i = 0;
+    while i < n {
+        clear_slot(table, k + i);
+        i += 1;
+    }
+}
+
+// Clears the marked slots, and counts them: eight at once where they are all marked. Where marks stand close the next slot is mostly marked,
+// and is not searched for.
 pub fn clear_marked(table: &mut [u8], marks: &[u8]) -> usize
     requires { ⌜ (length (now marks) ≡ markBytes) × (slotsOf (now table) ≤ mostSlots) ⌝ }
     ensures { λ r. ⌜ onTable r (now (table .exit)) ≡ clearedMarks (now (marks .entry)) (now (table .entry)) ⌝ }
@@ -98,10 +135,12 @@ pub fn clear_marked(table: &mut [u8], marks: &[u8]) -> usize
     let mut count = 0;
     let mut k = 0;
     while k < n {
-        if flush_bits::has(marks, k as u64) {
-            let a = SLOT_BYTES * k;
-            let e = a + SLOT_BYTES;
-            table_records::clear(&mut table[a..e]);
+        if eight_marked(marks, k, n) {
+            clear_run(table, k, 8);
+            count += 8;
+            k += 8;
+        } else if flush_bits::has(marks, k as u64) {
+            clear_slot(table, k);
             count += 1;
             k += 1;
         } else {

@@ -21,7 +21,7 @@ use Rattle.flush_parts.specs.Parts.{spanFor, lowFor, pastFor, hitFor, partsHit}
 use Rattle.flush_parts.specs.Named.{namedIn, namedOf}
 use Rattle.flush_parts.specs.declared.Naming.{Naming}
 use Rattle.flush_parts.proofs.Parts.{hit-is, hit-near}
-use Rattle.flush_buckets.specs.Buckets.{bucketBytes, bucketOf, Keeps, HasBits, Names}
+use Rattle.flush_buckets.specs.Buckets.{bucketBytes, bucketOf, Keeps, Added, HasBits, Names}
 use Rattle.flush_buckets.proofs.Laws.{keeps-none, keeps-twice}
 
 -- ---- names
@@ -35,6 +35,10 @@ names-less p q s t full h n = record { keeps = n .keeps; each = λ x e. n .each 
 
 pub names-same : (p q : ℕ → Bool) (s t : List ℕ) (full : Bool) → ((x : ℕ) → q x ≡ p x) → Names p s t full → Names q s t full
 names-same p q s t full h = names-less p q s t full (λ x e. sym (h x) ∙ e)
+
+-- every number was added
+pub all-added : (q : ℕ → Bool) (s t : List ℕ) → length s ≡ bucketBytes → Keeps s t × ((a b : ℕ) → Added a b t) → HasBits q t
+all-added q s t long e = record { long = e .0 .long ∙ long; each = λ x h. e .1 x (x + 1) x (omega arith) (omega arith) }
 
 -- ---- a loop: a number of the whole has its bit, or is of what is left
 

@@ -75,7 +75,7 @@ fn add_value(k: u8, v: &[u8], naming: Naming, bits: &mut [u8]) -> bool
 }
 
 // Adds what TLVs name.
-pub fn add_named(l: &[u8], naming: Naming, bits: &mut [u8])
+fn add_named(l: &[u8], naming: Naming, bits: &mut [u8])
     requires { ⌜ Narrow (naming .numbering) × (length (now bits) ≡ bucketBytes) ⌝ }
     ensures { λ _. ⌜ HasBits (namedOf naming (tlvs (now (l .entry)))) (now (bits .exit)) ⌝ }
 {
@@ -91,4 +91,16 @@ pub fn add_named(l: &[u8], naming: Naming, bits: &mut [u8])
         }
         at = e;
     }
+}
+
+// The same where it pays to walk over them; else every number is added, and the bits decide nothing.
+pub fn add_where(l: &[u8], naming: Naming, pays: bool, bits: &mut [u8])
+    requires { ⌜ Narrow (naming .numbering) × (length (now bits) ≡ bucketBytes) ⌝ }
+    ensures { λ _. ⌜ HasBits (namedOf naming (tlvs (now (l .entry)))) (now (bits .exit)) ⌝ }
+{
+    if pays {
+        add_named(l, naming, bits);
+        return;
+    }
+    flush_buckets::add_all(bits);
 }

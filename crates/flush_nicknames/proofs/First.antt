@@ -3,16 +3,16 @@
 -- Assumes nothing.
 use Prim.Native.Nat.{ℕ, _+_, _-_, _*_, _/_, _%_, _^_, _<_, _≤_}
 use mathlib.Core.Bool.{Bool, true, false, not, _&&_, _||_}
-use mathlib.Core.List.{List}
+use mathlib.Core.List.{List, [], _∷_}
 use mathlib.Core.Path.{_≡_, refl, sym, ap, _∙_}
 use native.Mathlib.Decide.{decLt, ℕ-discrete}
 use native.Mathlib.Nat.{mod-eq-of-lt}
 use native.Mathlib.Omega.{arith}
 use lib.Bits.{bitOr}
 use lib.Dec.{leb, eqb}
-use lib.ListN.{length, take, drop, getD, set}
+use lib.ListN.{length, take, drop, getD, set, replicate, length-replicate}
 use borrow.Author.Tests.{eq-eqb, ne-eqb, eqb-true, leb-true}
-use Rattle.numbers.specs.Tests.{pick, both, either, between}
+use Rattle.numbers.specs.Tests.{pick, both, either, between, anyOf}
 use Rattle.numbers.specs.Bytes.{num}
 use Rattle.numbers.specs.Numberings.{bitAt}
 use Rattle.numbers.specs.Ranges.{vlanGood}
@@ -22,11 +22,18 @@ use Rattle.table.specs.Slots.{slotBytes, mostSlots, slotAt}
 use Rattle.table.specs.declared.Label.the-variants.{Vlan, Fine}
 use Rattle.table.proofs.Slots.{Local}
 use Rattle.table.proofs.Contents.{record-near, unpacked-near, learned-is, learned-parts}
-use Rattle.flush.specs.Payload.{everyType, Piece}
-use Rattle.flush.specs.Meaning.{nicknameMeant, labelMeant}
+use Rattle.flush.specs.Payload.{everyType, Piece, tlv, block, stump, tlvs, piecesOf}
+use Rattle.flush.proofs.Lists.{false-true}
+use Rattle.flush.specs.Meaning.{fineIn, bringsLabel, nicknameMeant, labelMeant}
 use Rattle.flush_sets.specs.Gains.{Gains, None, inNicknames}
 use Rattle.flush_sets.proofs.Adding.{single-listed}
+use Rattle.flush_payload.specs.Judging.{everyKind, ofKind}
 use Rattle.flush_payload.specs.declared.Kinds.{Kinds}
+use Rattle.flush_payload.proofs.Laws.{none-brought}
+use Rattle.flush_parts.specs.Named.{fineNaming, namedIn, namedOf}
+use Rattle.flush_parts.specs.Parts.{Narrow}
+use Rattle.flush_parts.specs.declared.Naming.{Naming}
+use Rattle.flush_buckets.specs.Buckets.{bucketBytes, bucketOf, HasBits}
 use Rattle.flush_vlans.specs.Vlans.{VlansNoted, VlansMeant}
 use Rattle.flush_vlans.proofs.Laws.{every-meant}
 use Rattle.flush_bits.specs.Ranged.{maskOf, Ranged}
@@ -35,7 +42,7 @@ use Rattle.flush_marks.specs.Marks.{markBytes, NoMarks, Chosen}
 use Rattle.flush_marks.specs.Filters.{slotNamed}
 use Rattle.flush_marks.proofs.Bits.{both-all}
 use Rattle.flush_marks.proofs.Filters.{chosen-same}
-use Rattle.flush_nicknames.specs.First.{NicknamesAre, EveryMeant, kindMeant, slotFirst, labelPart, slotMarked, slotNames, fineNoted, FirstNamed}
+use Rattle.flush_nicknames.specs.First.{NicknamesAre, EveryMeant, kindMeant, slotFirst, nearBit, mayPass, labelPart, slotMarked, slotNames, fineNoted, FirstNamed, FirstPass}
 use Rattle.flush_nicknames.specs.declared.Nicknames.{Nicknames}
 use Rattle.flush_nicknames.specs.declared.Nicknames.the-variants.{One, Several}
 
@@ -45,68 +52,94 @@ pub names-near : (p : ℕ → Bool) → Local (slotNames p)
 unfolding slotNames
 names-near p x = rw (record-near x)
 
-pub marked-near : (p : ℕ → Bool) (vlans : List ℕ) (fine : Bool) → Local (slotMarked p vlans fine)
+pub marked-near : (p : ℕ → Bool) (vlans : List ℕ) (near : ℕ → Bool) → Local (slotMarked p vlans near)
 unfolding slotMarked slotNamed labelPart
-marked-near p vlans fine x = rw (unpacked-near x, record-near x)
+marked-near p vlans near x = rw (unpacked-near x, record-near x)
 
 -- ---- the ways through the test of a slot
 
-module _ (vlans : List ℕ) (fine : Bool) (r : List ℕ) where
-  part-case : (v : Bool) → v ≡ eqb (kindOf (recordOf r)) 0 → (h : Bool) → h ≡ bitAt (labelOf (recordOf r) % 4096) vlans → (v && h) || (not v && fine) ≡ labelPart vlans fine r
-  unfolding labelPart pick
-  part-case true e true q = rw (← e, ← q)
-  part-case true e false q = rw (← e, ← q)
-  part-case false e h q = rw (← e)
+-- where there are no filter bits, and where there are
+pub no-bits : (bits : List ℕ) (x : ℕ) → (length bits ≡ bucketBytes → ⊥) → false ≡ nearBit bits x
+unfolding nearBit
+no-bits bits x h = sym (both-left _ _ (ne-eqb (length bits) bucketBytes h))
 
-  pub part-told : (k : ℕ) → k ≡ kindOf (recordOf r) → (x : ℕ) → x ≡ labelOf (recordOf r) → (h : Bool) → h ≡ bitAt (x % 4096) vlans → (eqb k 0 && h) || (not (eqb k 0) && fine) ≡ labelPart vlans fine r
-  part-told k e x f h g = part-case (eqb k 0) (rw e) h (g ∙ rw f)
+pub by-bit : (bits : List ℕ) (x : ℕ) → length bits ≡ bucketBytes → (b : Bool) → b ≡ bitAt (bucketOf x) bits → b ≡ nearBit bits x
+unfolding nearBit both
+by-bit bits x h b e = rw (eq-eqb (length bits) bucketBytes h) e
 
-  pub part-every : (every : Bool) → EveryMeant every vlans fine → every ≡ true → true ≡ labelPart vlans fine r
+-- the test of a fine-grained label where not every one is meant
+by-near : (every : Bool) → every ≡ false → (bits : List ℕ) (x : ℕ) → mayPass every bits x ≡ nearBit bits x
+unfolding mayPass either
+by-near every e bits x = rw e
+
+by-every : (every : Bool) → every ≡ true → (bits : List ℕ) (x : ℕ) → mayPass every bits x ≡ true
+unfolding mayPass either
+by-every every e bits x = rw e
+
+module _ (vlans : List ℕ) (near : ℕ → Bool) (r : List ℕ) where
+  part-case : (v : Bool) → v ≡ eqb (kindOf (recordOf r)) 0 → (h : Bool) → h ≡ bitAt (labelOf (recordOf r) % 4096) vlans → (g : Bool) → g ≡ near (labelOf (recordOf r)) → (v && h) || (not v && g) ≡ labelPart vlans near r
   unfolding labelPart pick
-  part-every every told e = go (eqb (kindOf (recordOf r)) 0)
+  part-case true e true q g i = rw (← e, ← q)
+  part-case true e false q g i = rw (← e, ← q)
+  part-case false e h q g i = rw (← e) i
+
+  pub part-told : (k : ℕ) → k ≡ kindOf (recordOf r) → (x : ℕ) → x ≡ labelOf (recordOf r) → (h : Bool) → h ≡ bitAt (x % 4096) vlans → (g : Bool) → g ≡ near x → (eqb k 0 && h) || (not (eqb k 0) && g) ≡ labelPart vlans near r
+  part-told k e x f h i g j = part-case (eqb k 0) (rw e) h (i ∙ rw f) g (j ∙ ap near f)
+
+  part-all : ((x : ℕ) → x < 2 ^ 12 → bitAt x vlans ≡ true) → ((x : ℕ) → near x ≡ true) → true ≡ labelPart vlans near r
+  unfolding labelPart pick
+  part-all all each = go (eqb (kindOf (recordOf r)) 0)
     where
-      go : (b : Bool) → true ≡ pick b (bitAt (labelOf (recordOf r) % 2 ^ 12) vlans) fine
-      go true = sym (told .all e (labelOf (recordOf r) % 2 ^ 12) (omega arith))
-      go false = sym (told .flag e)
+      go : (b : Bool) → true ≡ pick b (bitAt (labelOf (recordOf r) % 2 ^ 12) vlans) (near (labelOf (recordOf r)))
+      go true = sym (all (labelOf (recordOf r) % 2 ^ 12) (omega arith))
+      go false = sym (each (labelOf (recordOf r)))
 
   module _ (p : ℕ → Bool) where
-    pub other-nickname : p (nicknameOf (recordOf r)) ≡ false → false ≡ slotMarked p vlans fine r
+    pub other-nickname : p (nicknameOf (recordOf r)) ≡ false → false ≡ slotMarked p vlans near r
     unfolding slotMarked slotNamed
     other-nickname h = sym (both-left _ _ (both-right (isLearned (unpacked r)) _ h))
 
-    pub other-label : (a : Bool) → a ≡ labelPart vlans fine r → a ≡ false → false ≡ slotMarked p vlans fine r
+    pub other-label : (a : Bool) → a ≡ labelPart vlans near r → a ≡ false → false ≡ slotMarked p vlans near r
     unfolding slotMarked
     other-label a e h = sym (both-right (slotNamed p r) _ (sym e ∙ h))
 
-    that-nickname : p (nicknameOf (recordOf r)) ≡ true → (a : Bool) → a ≡ labelPart vlans fine r → a ≡ true → (b : Bool) → b ≡ isLearned (unpacked r) → b ≡ slotMarked p vlans fine r
+    that-nickname : p (nicknameOf (recordOf r)) ≡ true → (a : Bool) → a ≡ labelPart vlans near r → a ≡ true → (b : Bool) → b ≡ isLearned (unpacked r) → b ≡ slotMarked p vlans near r
     unfolding slotMarked slotNamed
     that-nickname h a e t b f = f ∙ rw (h, ← e, t) (sym (both-all (both (isLearned (unpacked r)) true) ∙ both-all (isLearned (unpacked r))))
 
   -- one nickname: another byte, another nickname, or this one
   module _ (one : ℕ) where
-    pub not-middle : (m : ℕ) → m ≡ nicknameOf (recordOf r) / 2 ^ 3 % 2 ^ 8 → (m ≡ one / 8 % 256 → ⊥) → false ≡ slotMarked (λ x. eqb x one) vlans fine r
+    pub not-middle : (m : ℕ) → m ≡ nicknameOf (recordOf r) / 2 ^ 3 % 2 ^ 8 → (m ≡ one / 8 % 256 → ⊥) → false ≡ slotMarked (λ x. eqb x one) vlans near r
     not-middle m field h = other-nickname (λ x. eqb x one) (ne-eqb (nicknameOf (recordOf r)) one (λ e. h (field ∙ ap (λ (x : ℕ). x / 8 % 256) e)))
 
-    pub not-single : (x : ℕ) → x ≡ nicknameOf (recordOf r) → (x ≡ one → ⊥) → false ≡ slotMarked (λ x. eqb x one) vlans fine r
+    pub not-single : (x : ℕ) → x ≡ nicknameOf (recordOf r) → (x ≡ one → ⊥) → false ≡ slotMarked (λ x. eqb x one) vlans near r
     not-single x field h = other-nickname (λ x. eqb x one) (ne-eqb (nicknameOf (recordOf r)) one (λ e. h (field ∙ e)))
 
-    pub by-single : (x : ℕ) → x ≡ nicknameOf (recordOf r) → x ≡ one → (a : Bool) → a ≡ labelPart vlans fine r → a ≡ true → (b : Bool) → b ≡ isLearned (unpacked r) → b ≡ slotMarked (λ x. eqb x one) vlans fine r
+    pub by-single : (x : ℕ) → x ≡ nicknameOf (recordOf r) → x ≡ one → (a : Bool) → a ≡ labelPart vlans near r → a ≡ true → (b : Bool) → b ≡ isLearned (unpacked r) → b ≡ slotMarked (λ x. eqb x one) vlans near r
     by-single x field same a e t b f = that-nickname (λ x. eqb x one) (eq-eqb (nicknameOf (recordOf r)) one (sym field ∙ same)) a e t b f
 
   -- a set of them: no nickname of the byte, another nickname, or one of the set
   module _ (names : List ℕ) where
-    pub not-byte : (h : ℕ) → h ≡ nicknameOf (recordOf r) / 2 ^ 3 → (b : Bool) → (b ≡ true → (x : ℕ) → h ≡ x / 8 → bitAt x names ≡ false) → b ≡ true → false ≡ slotMarked (λ x. bitAt x names) vlans fine r
+    pub not-byte : (h : ℕ) → h ≡ nicknameOf (recordOf r) / 2 ^ 3 → (b : Bool) → (b ≡ true → (x : ℕ) → h ≡ x / 8 → bitAt x names ≡ false) → b ≡ true → false ≡ slotMarked (λ x. bitAt x names) vlans near r
     not-byte h field b none e = other-nickname (λ x. bitAt x names) (none e (nicknameOf (recordOf r)) field)
 
     module _ (x : ℕ) (field : x ≡ nicknameOf (recordOf r)) (c : Bool) (told : c ≡ bitAt x names) where
       here : bitAt (nicknameOf (recordOf r)) names ≡ c
       here = sym (told ∙ ap (λ (n : ℕ). bitAt n names) field)
 
-      pub not-listed : c ≡ false → false ≡ slotMarked (λ x. bitAt x names) vlans fine r
+      pub not-listed : c ≡ false → false ≡ slotMarked (λ x. bitAt x names) vlans near r
       not-listed h = other-nickname (λ x. bitAt x names) (here ∙ h)
 
-      pub by-list : c ≡ true → (a : Bool) → a ≡ labelPart vlans fine r → a ≡ true → (b : Bool) → b ≡ isLearned (unpacked r) → b ≡ slotMarked (λ x. bitAt x names) vlans fine r
+      pub by-list : c ≡ true → (a : Bool) → a ≡ labelPart vlans near r → a ≡ true → (b : Bool) → b ≡ isLearned (unpacked r) → b ≡ slotMarked (λ x. bitAt x names) vlans near r
       by-list h a e t b f = that-nickname (λ x. bitAt x names) (here ∙ h) a e t b f
+
+-- the label by the tests of the code
+module _ (every : Bool) (vlans : List ℕ) (told : EveryMeant every vlans) (bits r : List ℕ) where
+  pub part-every : every ≡ true → true ≡ labelPart vlans (mayPass every bits) r
+  part-every e = part-all vlans (mayPass every bits) r (told .all e) (by-every every e bits)
+
+  pub part-bits : every ≡ false → (k : ℕ) → k ≡ kindOf (recordOf r) → (x : ℕ) → x ≡ labelOf (recordOf r) → (h : Bool) → h ≡ bitAt (x % 4096) vlans → (g : Bool) → g ≡ nearBit bits x → (eqb k 0 && h) || (not (eqb k 0) && g) ≡ labelPart vlans (mayPass every bits) r
+  part-bits e k a x b h c g d = part-told vlans (mayPass every bits) r k a x b h c g (d ∙ sym (by-near every e bits x))
 
 -- ---- the search for the first nickname
 
@@ -166,39 +199,37 @@ learned-vlan n e h =
     let b = between-is _ _ (labelOf n) vlan in
     omega arith
 
-module _ (ps : List Piece) (vlans : List ℕ) (told : VlansMeant ps vlans) (fine : Bool) (r : List ℕ) where
-  same-label : isLearned (unpacked r) ≡ true → (b : Bool) → eqb (kindOf (recordOf r)) 0 ≡ b → labelPart vlans fine r ≡ kindMeant ps fine r
+module _ (ps : List Piece) (vlans : List ℕ) (told : VlansMeant ps vlans) (near : ℕ → Bool) (r : List ℕ) where
+  same-label : isLearned (unpacked r) ≡ true → (b : Bool) → eqb (kindOf (recordOf r)) 0 ≡ b → labelPart vlans near r ≡ kindMeant ps near r
   unfolding labelPart kindMeant pick
   same-label l true e =
       let few = learned-vlan (recordOf r) (sym (learned-is (recordOf r)) ∙ learned-parts r l .0) (eqb-true (kindOf (recordOf r)) 0 e) in
       rw (e, mod-eq-of-lt few) (told .each (labelOf (recordOf r)) few)
   same-label l false e = rw e
 
-  first-case : (p q : ℕ → Bool) → p (nicknameOf (recordOf r)) ≡ q (nicknameOf (recordOf r)) → (b : Bool) → isLearned (unpacked r) ≡ b → slotMarked p vlans fine r ≡ slotFirst q ps fine r
+  first-case : (p q : ℕ → Bool) → p (nicknameOf (recordOf r)) ≡ q (nicknameOf (recordOf r)) → (b : Bool) → isLearned (unpacked r) ≡ b → slotMarked p vlans near r ≡ slotFirst q ps near r
   unfolding slotMarked slotFirst slotNamed both
   first-case p q e true h = rw (h, e, same-label h _ refl)
   first-case p q e false h = rw h
 
-module _ (p q : ℕ → Bool) (same : (x : ℕ) → x < 2 ^ 16 → p x ≡ q x) (ps : List Piece) (f : Kinds) (t : List ℕ) (from count k : ℕ) (first : FirstNamed p t from (from + count) k) where
-  not-named : (r : List ℕ) → slotNames p r ≡ false → slotFirst q ps (fineNoted f) r ≡ false
+module _ (p q : ℕ → Bool) (same : (x : ℕ) → x < 2 ^ 16 → p x ≡ q x) (ps : List Piece) (near : ℕ → Bool) (t : List ℕ) (from count k : ℕ) (first : FirstNamed p t from (from + count) k) where
+  not-named : (r : List ℕ) → slotNames p r ≡ false → slotFirst q ps near r ≡ false
   unfolding slotNames slotFirst slotNamed
   not-named r e = both-left _ _ (both-right (isLearned (unpacked r)) _ (sym (same (nicknameOf (recordOf r)) (omega arith)) ∙ e))
 
-  passed-over : (j : ℕ) → from ≤ j → j < k → slotFirst q ps (fineNoted f) (slotAt j t) ≡ false
+  passed-over : (j : ℕ) → from ≤ j → j < k → slotFirst q ps near (slotAt j t) ≡ false
   passed-over j a b = not-named (slotAt j t) (first .none j a b)
 
-  -- where no slot has such a nickname nothing is marked
-  pub none-first : from + count ≤ k → (m : List ℕ) → NoMarks m → Chosen (slotFirst q ps (fineNoted f)) from count t m
-  none-first h m e = record {
+  none-chosen : from + count ≤ k → (m : List ℕ) → NoMarks m → Chosen (slotFirst q ps near) from count t m
+  none-chosen h m e = record {
     long = e .long;
     inside = λ j a b. e .none j ∙ sym (passed-over j a (omega arith));
     below = λ j a. e .none j;
     above = λ j a b. e .none j;
   }
 
-  -- else those from the first on are marked
-  pub marked-first : (vlans : List ℕ) → VlansMeant ps vlans → (m : List ℕ) → Chosen (slotMarked p vlans (f .every || (f .lists || f .maps))) k (from + count - k) t m → Chosen (slotFirst q ps (fineNoted f)) from count t m
-  marked-first vlans told m c =
+  first-chosen : (vlans : List ℕ) → VlansMeant ps vlans → (m : List ℕ) → Chosen (slotMarked p vlans near) k (from + count - k) t m → Chosen (slotFirst q ps near) from count t m
+  first-chosen vlans told m c =
       let a = first .behind in
       let b = first .within in
       record {
@@ -208,19 +239,114 @@ module _ (p q : ℕ → Bool) (same : (x : ℕ) → x < 2 ^ 16 → p x ≡ q x) 
         above = λ j l h. c .above j (omega arith) h;
       }
     where
-      flag : f .every || (f .lists || f .maps) ≡ fineNoted f
-      flag = or-either (f .every) (f .lists || f .maps) ∙ ap (either (f .every)) (or-either (f .lists) (f .maps))
-
-      go : (j : ℕ) → from ≤ j → j < from + count → Dec (j < k) → bitAt j m ≡ slotFirst q ps (fineNoted f) (slotAt j t)
+      go : (j : ℕ) → from ≤ j → j < from + count → Dec (j < k) → bitAt j m ≡ slotFirst q ps near (slotAt j t)
       go j l h (yes s) = c .below j s ∙ sym (passed-over j l s)
       go j l h (no s) =
           let a = first .within in
           c .inside j (omega arith) (omega arith)
-          ∙ rw flag (first-case ps vlans told (fineNoted f) (slotAt j t) p q (same (nicknameOf (recordOf (slotAt j t))) (omega arith)) _ refl)
+          ∙ first-case ps vlans told near (slotAt j t) p q (same (nicknameOf (recordOf (slotAt j t))) (omega arith)) _ refl
+
+-- ---- which fine-grained labels may be meant
+
+pub by-naming : (d : Naming) → (d ≡ fineNaming) × Narrow (d .numbering) → (ps : List Piece) (bits : List ℕ) → HasBits (namedOf d ps) bits → HasBits (namedOf fineNaming ps) bits
+by-naming d e ps bits has = rw (← e .0) has
+
+-- a piece that brings a label and does not mean every one names it
+piece-named : (x : ℕ) (p : Piece) → ofKind everyType everyKind p ≡ false → bringsLabel everyType (Fine x) p ≡ true → namedIn fineNaming p x ≡ true
+unfolding ofKind bringsLabel fineIn namedIn both pick
+piece-named x (tlv k v) e h = rw e at h
+piece-named x (block b) e h = h
+piece-named x stump e h = h
+
+either-cases : (a b c d : Bool) → (a ≡ true → c ≡ true) → (b ≡ true → d ≡ true) → either a b ≡ true → either c d ≡ true
+unfolding either
+either-cases true b true d f g e = refl
+either-cases true b false d f g e = false-true (f refl)
+either-cases false b true d f g e = refl
+either-cases false b false d f g e = g e
+
+neither : (a b : Bool) → either a b ≡ false → (a ≡ false) × (b ≡ false)
+unfolding either
+neither true b e = (cc, cc)
+neither false b e = (refl, e)
+
+some-named : (x : ℕ) (ps : List Piece) → anyOf (ofKind everyType everyKind) ps ≡ false → anyOf (bringsLabel everyType (Fine x)) ps ≡ true → namedOf fineNaming ps x ≡ true
+unfolding anyOf namedOf
+some-named x [] e h = h
+some-named x (p ∷ ps) e h =
+    let n = neither (ofKind everyType everyKind p) (anyOf (ofKind everyType everyKind) ps) e in
+    either-cases (bringsLabel everyType (Fine x) p) (anyOf (bringsLabel everyType (Fine x)) ps) (namedIn fineNaming p x) (anyOf (λ p. namedIn fineNaming p x) ps) (piece-named x p (n .0)) (some-named x ps (n .1)) h
+
+block-fine : (x : ℕ) (b : List ℕ) → bringsLabel everyType (Fine x) (block b) ≡ false
+unfolding bringsLabel
+block-fine x b = refl
+
+module _ (n : ℕ) (l : List ℕ) (f : Kinds) (noted : VlansNoted (piecesOf n l) f) where
+  pieces-tlvs : n ≡ 0 → piecesOf n l ≡ tlvs l
+  unfolding piecesOf pick
+  pieces-tlvs z = rw (eq-eqb n 0 z)
+
+  -- each label that is meant has its bit; VLAN blocks mean none
+  meant-bit : f .every ≡ false → (bits : List ℕ) → HasBits (namedOf fineNaming (tlvs l)) bits → (x : ℕ) → labelMeant everyType (piecesOf n l) (Fine x) ≡ true → mayPass false bits x ≡ true
+  unfolding mayPass nearBit either both labelMeant
+  meant-bit e bits has x h = go (ℕ-discrete n 0)
+    where
+      go : Dec (n ≡ 0) → mayPass false bits x ≡ true
+      go (yes z) = rw (eq-eqb (length bits) bucketBytes (has .long)) (has .each x (rw (pieces-tlvs z) at (some-named x (piecesOf n l) (sym (noted .every) ∙ e) h)))
+      go (no d) = false-true (none-brought (bringsLabel everyType (Fine x)) n l d (block-fine x) ∙ h)
+
+  module _ (p q : ℕ → Bool) (same : (x : ℕ) → x < 2 ^ 16 → p x ≡ q x) (t : List ℕ) (from count k : ℕ) (first : FirstNamed p t from (from + count) k) where
+    -- where no slot has such a nickname nothing is marked
+    pub none-first : from + count ≤ k → (m : List ℕ) → NoMarks m → FirstPass q (piecesOf n l) (fineNoted f) from count t m
+    none-first h m e = record {
+      near = λ x. fineNoted f;
+      chosen = none-chosen p q same (piecesOf n l) (λ x. fineNoted f) t from count k first h m e;
+      all = λ a x b. a;
+      none = λ a x. a;
+    }
+
+    module _ (vlans : List ℕ) (told : VlansMeant (piecesOf n l) vlans) (m : List ℕ) where
+      -- else those from the first on are marked: by filter bits
+      pub near-first : not (f .every) && (f .lists || f .maps) ≡ true → (bits : List ℕ) → HasBits (namedOf fineNaming (tlvs l)) bits → Chosen (slotMarked p vlans (mayPass false bits)) k (from + count - k) t m → FirstPass q (piecesOf n l) (fineNoted f) from count t m
+      unfolding either
+      near-first e bits has c = go (f .every) refl
+        where
+          go : (b : Bool) → f .every ≡ b → FirstPass q (piecesOf n l) (fineNoted f) from count t m
+          go true g = false-true (rw g at e)
+          go false g =
+              let some : f .lists || f .maps ≡ true = rw g at e in
+              record {
+                near = mayPass false bits;
+                chosen = first-chosen p q same (piecesOf n l) (mayPass false bits) t from count k first vlans told m c;
+                all = λ a x b. meant-bit g bits has x b;
+                none = λ a x. false-true (sym (rw (g, ← or-either (f .lists) (f .maps)) at a) ∙ some);
+              }
+
+      -- or every label is meant, or none is noted
+      pub flag-first : not (f .every) && (f .lists || f .maps) ≡ false → (bits : List ℕ) → (length bits ≡ bucketBytes → ⊥) → Chosen (slotMarked p vlans (mayPass (f .every) bits)) k (from + count - k) t m → FirstPass q (piecesOf n l) (fineNoted f) from count t m
+      unfolding either
+      flag-first e bits gone c = record {
+        near = mayPass (f .every) bits;
+        chosen = first-chosen p q same (piecesOf n l) (mayPass (f .every) bits) t from count k first vlans told m c;
+        all = λ a x b. by-every (f .every) (flagged (f .every) refl a) bits x;
+        none = λ a x. by-near (f .every) (neither (f .every) (either (f .lists) (f .maps)) a .0) bits x ∙ sym (no-bits bits x gone);
+      }
+        where
+          flagged : (b : Bool) → f .every ≡ b → fineNoted f ≡ true → f .every ≡ true
+          flagged true g a = g
+          flagged false g a = false-true (sym (rw g at e) ∙ or-either (f .lists) (f .maps) ∙ rw g at a)
 
 -- the set of VLANs of a message that means every label
-pub every-passes : (ps : List Piece) (f : Kinds) → VlansNoted ps f → (vlans : List ℕ) → VlansMeant ps vlans → EveryMeant (f .every) vlans (f .every || (f .lists || f .maps))
-every-passes ps f noted vlans told = record { long = told .long; all = λ e x few. told .each x few ∙ every-meant ps f noted e x; flag = λ e. rw e }
+pub every-passes : (ps : List Piece) (f : Kinds) → VlansNoted ps f → (vlans : List ℕ) → VlansMeant ps vlans → EveryMeant (f .every) vlans
+every-passes ps f noted vlans told = record { long = told .long; all = λ e x few. told .each x few ∙ every-meant ps f noted e x }
+
+-- a byte alone is no filter bits
+pub one-byte : length (replicate {A = ℕ} 1 0) ≡ bucketBytes → ⊥
+one-byte e = let z : length (replicate {A = ℕ} 1 0) ≡ 1 = length-replicate {A = ℕ} 1 0 in omega arith
+
+-- or of another
+pub bits-pass : (ps : List Piece) (vlans : List ℕ) → VlansMeant ps vlans → EveryMeant false vlans
+bits-pass ps vlans told = record { long = told .long; all = λ e. false-true e }
 
 -- the nicknames of a list as a set
 pub listed-same : (nicks s t : List ℕ) → None s → Gains s t (inNicknames nicks) → (x : ℕ) → bitAt x t ≡ inNicknames nicks x
@@ -228,9 +354,9 @@ unfolding either
 listed-same nicks s t none g x = g .each x ∙ rw (none x)
 
 -- another test of nicknames that says the same
-pub chosen-named : (p q : ℕ → Bool) (ps : List Piece) (fine : Bool) (from count : ℕ) (t m : List ℕ) → ((x : ℕ) → p x ≡ q x) → Chosen (slotFirst p ps fine) from count t m → Chosen (slotFirst q ps fine) from count t m
+pub first-named : (p q : ℕ → Bool) (ps : List Piece) (fine : Bool) (from count : ℕ) (t m : List ℕ) → ((x : ℕ) → p x ≡ q x) → FirstPass p ps fine from count t m → FirstPass q ps fine from count t m
 unfolding slotFirst slotNamed
-chosen-named p q ps fine from count t m e c = chosen-same _ _ from count t m (λ r. rw (e (nicknameOf (recordOf r)))) c
+first-named p q ps fine from count t m e c = record { near = c .near; chosen = chosen-same _ _ from count t m (λ r. rw (e (nicknameOf (recordOf r)))) (c .chosen); all = c .all; none = c .none }
 
 -- ---- one mark
 

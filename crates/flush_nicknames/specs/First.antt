@@ -1,4 +1,4 @@
--- The test of the first pass of a flush: learned, a nickname that is meant, and a label whose kind allows it to be meant.
+-- The test of the first pass of a flush: learned, a nickname that is meant, and a label that may be meant.
 -- Assumes nothing.
 use Prim.Native.Nat.{ℕ, _%_, _^_, _<_, _≤_}
 use mathlib.Core.Bool.{Bool, true, false}
@@ -10,12 +10,14 @@ use Rattle.numbers.specs.Tests.{pick, both, either}
 use Rattle.numbers.specs.Numberings.{bitAt}
 use Rattle.table.specs.Record.{recordOf, kindOf, labelOf, nicknameOf}
 use Rattle.table.specs.Slots.{slotsOf, slotAt}
-use Rattle.table.specs.declared.Label.the-variants.{Vlan}
+use Rattle.table.specs.declared.Label.the-variants.{Vlan, Fine}
 use Rattle.flush.specs.Payload.{everyType, Piece}
 use Rattle.flush.specs.Meaning.{nicknameMeant, labelMeant}
 use Rattle.flush_sets.specs.Gains.{inNicknames}
 use Rattle.flush_payload.specs.declared.Kinds.{Kinds}
 use Rattle.flush_vlans.specs.Vlans.{vlanBytes}
+use Rattle.flush_buckets.specs.Buckets.{bucketBytes, bucketOf}
+use Rattle.flush_marks.specs.Marks.{Chosen}
 use Rattle.flush_marks.specs.Filters.{slotNamed}
 use Rattle.flush_nicknames.specs.declared.Nicknames.{Nicknames}
 use Rattle.flush_nicknames.specs.declared.Nicknames.the-variants.{One, Several}
@@ -31,32 +33,46 @@ pub record NicknamesAre (ingress : ℕ) (nicks : List ℕ) (n : Nicknames) : Typ
 
 -- ---- the test of a slot
 
--- the slot has a VLAN that is meant, or a fine-grained label where these may be meant
-unfoldable pub kindMeant : List Piece → Bool → List ℕ → Bool
-kindMeant ps fine r = pick (eqb (kindOf (recordOf r)) 0) (labelMeant everyType ps (Vlan (labelOf (recordOf r)))) fine
+-- the slot has a VLAN that is meant, or a fine-grained label that may be meant
+unfoldable pub kindMeant : List Piece → (ℕ → Bool) → List ℕ → Bool
+kindMeant ps near r = pick (eqb (kindOf (recordOf r)) 0) (labelMeant everyType ps (Vlan (labelOf (recordOf r)))) (near (labelOf (recordOf r)))
 
 -- fine-grained labels may be meant: all labels, or TLVs that name some
 abbrev pub fineNoted : Kinds → Bool
 fineNoted f = either (f .every) (either (f .lists) (f .maps))
 
--- learned, with a nickname that passes the test, and by the kind of its label
-unfoldable pub slotFirst : (ℕ → Bool) → List Piece → Bool → List ℕ → Bool
-slotFirst p ps fine r = both (slotNamed p r) (kindMeant ps fine r)
+-- learned, with a nickname that passes the test, and by its label
+unfoldable pub slotFirst : (ℕ → Bool) → List Piece → (ℕ → Bool) → List ℕ → Bool
+slotFirst p ps near r = both (slotNamed p r) (kindMeant ps near r)
+
+-- the first pass: which fine-grained labels may be meant is free, but each that is meant is one of them, and where none is noted none is
+pub record FirstPass (p : ℕ → Bool) (ps : List Piece) (fine : Bool) (from count : ℕ) (t m : List ℕ) : Type 0 where
+  pub near : ℕ → Bool
+  pub chosen : Chosen (slotFirst p ps near) from count t m
+  pub all : fine ≡ true → (x : ℕ) → labelMeant everyType ps (Fine x) ≡ true → near x ≡ true
+  pub none : fine ≡ false → (x : ℕ) → near x ≡ false
 
 -- ---- the same as the code tests it
 
--- a VLAN's lower twelve bits are in the set; a fine-grained label by the flag
-unfoldable pub labelPart : List ℕ → Bool → List ℕ → Bool
-labelPart vlans fine r = pick (eqb (kindOf (recordOf r)) 0) (bitAt (labelOf (recordOf r) % 2 ^ 12) vlans) fine
+-- a fine-grained label has a bit, where there are filter bits
+unfoldable pub nearBit : List ℕ → ℕ → Bool
+nearBit bits x = both (eqb (length bits) bucketBytes) (bitAt (bucketOf x) bits)
 
--- where every label is meant each VLAN is in the set, and fine-grained labels may be meant
-pub record EveryMeant (every : Bool) (vlans : List ℕ) (fine : Bool) : Type 0 where
+-- it passes where every label is meant, or by its bit
+unfoldable pub mayPass : Bool → List ℕ → ℕ → Bool
+mayPass every bits x = either every (nearBit bits x)
+
+-- a VLAN's lower twelve bits are in the set; a fine-grained label by a test
+unfoldable pub labelPart : List ℕ → (ℕ → Bool) → List ℕ → Bool
+labelPart vlans near r = pick (eqb (kindOf (recordOf r)) 0) (bitAt (labelOf (recordOf r) % 2 ^ 12) vlans) (near (labelOf (recordOf r)))
+
+-- where every label is meant each VLAN is in the set
+pub record EveryMeant (every : Bool) (vlans : List ℕ) : Type 0 where
   pub long : length vlans ≡ vlanBytes
   pub all : every ≡ true → (x : ℕ) → x < 2 ^ 12 → bitAt x vlans ≡ true
-  pub flag : every ≡ true → fine ≡ true
 
-unfoldable pub slotMarked : (ℕ → Bool) → List ℕ → Bool → List ℕ → Bool
-slotMarked p vlans fine r = both (slotNamed p r) (labelPart vlans fine r)
+unfoldable pub slotMarked : (ℕ → Bool) → List ℕ → (ℕ → Bool) → List ℕ → Bool
+slotMarked p vlans near r = both (slotNamed p r) (labelPart vlans near r)
 
 -- ---- the first slot with a nickname
 

@@ -1,5 +1,5 @@
 // The first pass of a flush over the slots of a range: those are marked that are learned, whose nickname is meant, and whose label is a
-// VLAN that is meant, or a fine-grained label where the message has some.
+// VLAN that is meant, or a fine-grained label that may be: it has a bit in the filter bits of the message.
 ghost use Prim.Native.Nat.{ℕ, _+_, _-_, _*_, _/_, _^_, _<_, _≤_};
 ghost use mathlib.Core.Path.{_≡_};
 ghost use lib.Dec.{eqb};
@@ -7,20 +7,26 @@ ghost use lib.ListN.{length, drop};
 ghost use Rattle.numbers.specs.Numberings.{bitAt};
 ghost use Rattle.table.specs.Record.{recordBytes, recordOf, nicknameOf};
 ghost use Rattle.table.specs.Slots.{slotBytes, mostSlots};
-ghost use Rattle.flush.specs.Payload.{blockBytes, piecesOf};
+ghost use Rattle.flush.specs.Payload.{blockBytes, piecesOf, tlvs};
 ghost use Rattle.flush.specs.Meaning.{nicknameMeant};
 ghost use Rattle.flush_sets.specs.Gains.{Gains, inNicknames};
 ghost use Rattle.flush_vlans.specs.Vlans.{VlansNoted};
 ghost use Rattle.flush_bits.specs.Ranged.{Ranged};
+ghost use Rattle.flush_buckets.specs.Buckets.{bucketBytes, HasBits};
+ghost use Rattle.flush_parts.specs.Named.{fineNaming, namedOf};
 ghost use Rattle.flush_marks.specs.Marks.{markBytes, Chosen};
 ghost use Rattle.flush_marks.specs.Filters.{Marking};
-ghost use Rattle.flush_nicknames.specs.First.{nameBytes, NicknamesAre, EveryMeant, labelPart, fineNoted, slotFirst, slotMarked, slotNames, Scanning, FirstNamed};
+ghost use Rattle.flush_nicknames.specs.First.{nameBytes, NicknamesAre, EveryMeant, nearBit, mayPass, labelPart, fineNoted, slotMarked, slotNames, Scanning, FirstNamed, FirstPass};
+use flush_buckets::BUCKET_BYTES;
 use flush_payload::Kinds;
 use flush_vlans::VLAN_BYTES;
 use table::SLOT_BYTES;
 
 // A bit for each nickname.
 const NAME_BYTES: usize = 8192;
+
+// For so many slots filter bits of the message are not made: they would take longer than to look up its parts.
+const FEW_SLOTS: usize = 64;
 
 // The nicknames that a flush means: one alone, or those of a list.
 pub enum Nicknames {
@@ -106,30 +112,42 @@ fn first_listed(t: &[u8], from: usize, e: usize, names: &[u8]) -> usize
     e
 }
 
-// Whether the label of the slot at an offset passes: a VLAN by a set, a fine-grained label by a flag. Twelve bits of a VLAN are enough:
+// Whether a fine-grained label may be meant: where there are filter bits its bit is set.
+fn may_be_meant(near: &[u8], x: u64) -> bool
+    ensures { λ b. ⌜ b ≡ nearBit (now (near .entry)) x ⌝ }
+{
+    if near.len() != BUCKET_BYTES {
+        return false;
+    }
+    flush_buckets::has_bit(near, x)
+}
+
+// Whether the label of the slot at an offset passes: a VLAN by a set, a fine-grained label by filter bits. Twelve bits of a VLAN are enough:
 // a record with a higher one is spoilt. Both kinds take the same way, since which kind comes next cannot be foreseen. Where every label is
 // meant none is read.
-fn label_passes(t: &[u8], at: usize, vlans: &[u8], fine: bool, every: bool) -> bool
-    requires { ⌜ (at + recordBytes ≤ length (now t)) × EveryMeant every (now vlans) fine ⌝ }
-    ensures { λ b. ⌜ b ≡ labelPart (now (vlans .entry)) fine (drop at (now (t .entry))) ⌝ }
+fn label_passes(t: &[u8], at: usize, vlans: &[u8], near: &[u8], every: bool) -> bool
+    requires { ⌜ (at + recordBytes ≤ length (now t)) × EveryMeant every (now vlans) ⌝ }
+    ensures { λ b. ⌜ b ≡ labelPart (now (vlans .entry)) (mayPass every (now (near .entry))) (drop at (now (t .entry))) ⌝ }
 {
     if every {
         return true;
     }
     let vlan = table_fields::kind_at(t, at) == 0;
-    let meant = flush_bits::has(vlans, table_fields::label_at(t, at) % 0x1000);
-    (vlan & meant) | (!vlan & fine)
+    let x = table_fields::label_at(t, at);
+    let meant = flush_bits::has(vlans, x % 0x1000);
+    let maybe = may_be_meant(near, x);
+    (vlan & meant) | (!vlan & maybe)
 }
 
 // Whether the slot at an offset is to be marked, by one nickname. One byte of it decides most slots, and then the label.
-fn single_at(t: &[u8], at: usize, one: u64, vlans: &[u8], fine: bool, every: bool) -> bool
-    requires { ⌜ (at + slotBytes ≤ length (now t)) × EveryMeant every (now vlans) fine ⌝ }
-    ensures { λ b. ⌜ b ≡ slotMarked (λ x. eqb x one) (now (vlans .entry)) fine (drop at (now (t .entry))) ⌝ }
+fn single_at(t: &[u8], at: usize, one: u64, vlans: &[u8], near: &[u8], every: bool) -> bool
+    requires { ⌜ (at + slotBytes ≤ length (now t)) × EveryMeant every (now vlans) ⌝ }
+    ensures { λ b. ⌜ b ≡ slotMarked (λ x. eqb x one) (now (vlans .entry)) (mayPass every (now (near .entry))) (drop at (now (t .entry))) ⌝ }
 {
     if table_fields::nickname_middle_at(t, at) != one / 8 % 0x100 {
         return false;
     }
-    if !label_passes(t, at, vlans, fine, every) {
+    if !label_passes(t, at, vlans, near, every) {
         return false;
     }
     if table_fields::nickname_at(t, at) != one {
@@ -139,14 +157,14 @@ fn single_at(t: &[u8], at: usize, one: u64, vlans: &[u8], fine: bool, every: boo
 }
 
 // The same, by a set of nicknames. One byte of the set decides most slots.
-fn listed_at(t: &[u8], at: usize, names: &[u8], vlans: &[u8], fine: bool, every: bool) -> bool
-    requires { ⌜ (at + slotBytes ≤ length (now t)) × ((length (now names) ≡ nameBytes) × EveryMeant every (now vlans) fine) ⌝ }
-    ensures { λ b. ⌜ b ≡ slotMarked (λ x. bitAt x (now (names .entry))) (now (vlans .entry)) fine (drop at (now (t .entry))) ⌝ }
+fn listed_at(t: &[u8], at: usize, names: &[u8], vlans: &[u8], near: &[u8], every: bool) -> bool
+    requires { ⌜ (at + slotBytes ≤ length (now t)) × ((length (now names) ≡ nameBytes) × EveryMeant every (now vlans)) ⌝ }
+    ensures { λ b. ⌜ b ≡ slotMarked (λ x. bitAt x (now (names .entry))) (now (vlans .entry)) (mayPass every (now (near .entry))) (drop at (now (t .entry))) ⌝ }
 {
     if flush_bits::none_at(names, table_fields::nickname_high_at(t, at)) {
         return false;
     }
-    if !label_passes(t, at, vlans, fine, every) {
+    if !label_passes(t, at, vlans, near, every) {
         return false;
     }
     if !flush_bits::has(names, table_fields::nickname_at(t, at)) {
@@ -178,16 +196,16 @@ fn mark_single(
     e: usize,
     one: u64,
     vlans: &[u8],
-    fine: bool,
+    near: &[u8],
     every: bool,
     marks: &mut [u8],
 )
-    requires { ⌜ ((from ≤ e) × Marking from (e - from) (now table) (now marks)) × EveryMeant every (now vlans) fine ⌝ }
-    ensures { λ _. ⌜ Chosen (slotMarked (λ x. eqb x one) (now (vlans .entry)) fine) from (e - from) (now (table .entry)) (now (marks .exit)) ⌝ }
+    requires { ⌜ ((from ≤ e) × Marking from (e - from) (now table) (now marks)) × EveryMeant every (now vlans) ⌝ }
+    ensures { λ _. ⌜ Chosen (slotMarked (λ x. eqb x one) (now (vlans .entry)) (mayPass every (now (near .entry)))) from (e - from) (now (table .entry)) (now (marks .exit)) ⌝ }
 {
     let mut k = from;
     while k < e {
-        if single_at(table, SLOT_BYTES * k, one, vlans, fine, every) {
+        if single_at(table, SLOT_BYTES * k, one, vlans, near, every) {
             add_mark(marks, k);
             k += 1;
         } else {
@@ -203,22 +221,30 @@ fn mark_listed(
     e: usize,
     names: &[u8],
     vlans: &[u8],
-    fine: bool,
+    near: &[u8],
     every: bool,
     marks: &mut [u8],
 )
-    requires { ⌜ ((from ≤ e) × Marking from (e - from) (now table) (now marks)) × ((length (now names) ≡ nameBytes) × EveryMeant every (now vlans) fine) ⌝ }
-    ensures { λ _. ⌜ Chosen (slotMarked (λ x. bitAt x (now (names .entry))) (now (vlans .entry)) fine) from (e - from) (now (table .entry)) (now (marks .exit)) ⌝ }
+    requires { ⌜ ((from ≤ e) × Marking from (e - from) (now table) (now marks)) × ((length (now names) ≡ nameBytes) × EveryMeant every (now vlans)) ⌝ }
+    ensures { λ _. ⌜ Chosen (slotMarked (λ x. bitAt x (now (names .entry))) (now (vlans .entry)) (mayPass every (now (near .entry)))) from (e - from) (now (table .entry)) (now (marks .exit)) ⌝ }
 {
     let mut k = from;
     while k < e {
-        if listed_at(table, SLOT_BYTES * k, names, vlans, fine, every) {
+        if listed_at(table, SLOT_BYTES * k, names, vlans, near, every) {
             add_mark(marks, k);
             k += 1;
         } else {
             k += 1;
         }
     }
+}
+
+// Filter bits of the fine-grained labels that the message names.
+fn add_fine(rest: &[u8], count: usize, near: &mut [u8])
+    requires { ⌜ length (now near) ≡ bucketBytes ⌝ }
+    ensures { λ _. ⌜ HasBits (namedOf fineNaming (tlvs (now (rest .entry)))) (now (near .exit)) ⌝ }
+{
+    flush_named::add_where(rest, flush_parts::fine_naming(), FEW_SLOTS < count, near);
 }
 
 // Marks the slots of a range, by one nickname. Where no slot has it nothing is prepared.
@@ -232,7 +258,7 @@ fn mark_one(
     marks: &mut [u8],
 )
     requires { ⌜ Marking from count (now table) (now marks) × ((blockBytes * f .blocks ≤ length (now rest)) × VlansNoted (piecesOf (f .blocks) (now rest)) f) ⌝ }
-    ensures { λ _. ⌜ Chosen (slotFirst (λ x. eqb x one) (piecesOf (f .blocks) (now (rest .entry))) (fineNoted f)) from count (now (table .entry)) (now (marks .exit)) ⌝ }
+    ensures { λ _. ⌜ FirstPass (λ x. eqb x one) (piecesOf (f .blocks) (now (rest .entry))) (fineNoted f) from count (now (table .entry)) (now (marks .exit)) ⌝ }
 {
     let e = from + count;
     let k = first_single(table, from, e, one);
@@ -241,8 +267,14 @@ fn mark_one(
     }
     let mut vlans = [0u8; VLAN_BYTES];
     flush_vlans::vlan_set(rest, f, &mut vlans);
-    let fine = f.every | (f.lists | f.maps);
-    mark_single(table, k, e, one, &vlans, fine, f.every, marks);
+    if !f.every & (f.lists | f.maps) {
+        let mut near = [0u8; BUCKET_BYTES];
+        add_fine(rest, count, &mut near);
+        mark_single(table, k, e, one, &vlans, &near, false, marks);
+        return;
+    }
+    let none = [0u8; 1];
+    mark_single(table, k, e, one, &vlans, &none, f.every, marks);
 }
 
 // The same, by a list of nicknames.
@@ -256,7 +288,7 @@ fn mark_several(
     marks: &mut [u8],
 )
     requires { ⌜ Marking from count (now table) (now marks) × ((blockBytes * f .blocks ≤ length (now rest)) × VlansNoted (piecesOf (f .blocks) (now rest)) f) ⌝ }
-    ensures { λ _. ⌜ Chosen (slotFirst (inNicknames (now (nicks .entry))) (piecesOf (f .blocks) (now (rest .entry))) (fineNoted f)) from count (now (table .entry)) (now (marks .exit)) ⌝ }
+    ensures { λ _. ⌜ FirstPass (inNicknames (now (nicks .entry))) (piecesOf (f .blocks) (now (rest .entry))) (fineNoted f) from count (now (table .entry)) (now (marks .exit)) ⌝ }
 {
     let mut names = [0u8; NAME_BYTES];
     add_nicknames(nicks, &mut names);
@@ -267,8 +299,14 @@ fn mark_several(
     }
     let mut vlans = [0u8; VLAN_BYTES];
     flush_vlans::vlan_set(rest, f, &mut vlans);
-    let fine = f.every | (f.lists | f.maps);
-    mark_listed(table, k, e, &names, &vlans, fine, f.every, marks);
+    if !f.every & (f.lists | f.maps) {
+        let mut near = [0u8; BUCKET_BYTES];
+        add_fine(rest, count, &mut near);
+        mark_listed(table, k, e, &names, &vlans, &near, false, marks);
+        return;
+    }
+    let none = [0u8; 1];
+    mark_listed(table, k, e, &names, &vlans, &none, f.every, marks);
 }
 
 // Marks the slots of a range by nickname, state and kind of label. A set of nicknames is made only where there is not one alone.
@@ -283,7 +321,7 @@ pub fn mark(
     marks: &mut [u8],
 )
     requires { ⌜ Marking from count (now table) (now marks) × ((blockBytes * f .blocks ≤ length (now rest)) × VlansNoted (piecesOf (f .blocks) (now rest)) f) ⌝ }
-    ensures { λ _. ⌜ Chosen (slotFirst (nicknameMeant ingress (now (nicks .entry))) (piecesOf (f .blocks) (now (rest .entry))) (fineNoted f)) from count (now (table .entry)) (now (marks .exit)) ⌝ }
+    ensures { λ _. ⌜ FirstPass (nicknameMeant ingress (now (nicks .entry))) (piecesOf (f .blocks) (now (rest .entry))) (fineNoted f) from count (now (table .entry)) (now (marks .exit)) ⌝ }
 {
     match nicknames_of(nicks, ingress) {
         Nicknames::One(one) => {

@@ -4,6 +4,7 @@ ghost use mathlib.Core.Path.{_≡_};
 ghost use Prim.Native.Nat.{ℕ, _+_, _^_, _≤_, _<_};
 ghost use lib.ListN.{length, drop};
 ghost use Rattle.numbers.specs.Numberings.{inMap};
+ghost use Rattle.flush_parts.specs.Named.{fineNaming};
 ghost use Rattle.flush_parts.specs.Parts.{Narrow, spanFor, lowFor, pastFor};
 use numbers::Numbering;
 
@@ -14,6 +15,19 @@ pub struct Naming {
     pub mapped: bool,
     pub maps: u8,
     pub numbering: Numbering,
+}
+
+// How a message names fine-grained labels.
+pub fn fine_naming() -> Naming
+    ensures { λ r. ⌜ (r ≡ fineNaming) × Narrow (r .numbering) ⌝ }
+{
+    Naming {
+        blocks: 3,
+        singles: 4,
+        mapped: true,
+        maps: 5,
+        numbering: flush_members::FINES,
+    }
 }
 
 // The most bytes that the value of a TLV has.

@@ -23,9 +23,9 @@ use Rattle.flush_payload.specs.Judging.{Noted, JudgedPayload}
 use Rattle.flush_payload.specs.declared.Kinds.{Kinds}
 use Rattle.flush_payload.specs.declared.Judged.{Judged}
 use Rattle.flush_payload.specs.declared.Judged.the-variants.{Corrupt, Good}
-use Rattle.flush_nicknames.specs.First.{fineNoted, slotFirst}
+use Rattle.flush_nicknames.specs.First.{fineNoted, FirstPass}
 use Rattle.flush.specs.Meaning.{nicknameMeant}
-use Rattle.flush_marks.specs.Marks.{Chosen, clearedMarks}
+use Rattle.flush_marks.specs.Marks.{clearedMarks}
 use Rattle.flush_marks.proofs.Clearing.{cleared-whole}
 use Rattle.flush_marks.proofs.Filters.{chosen-same}
 use Rattle.flush_call.specs.Clearing.{payloadFrom}
@@ -38,10 +38,10 @@ use Rattle.models_call.proofs.Marks.{first-exact, slot-none, none-clear
 -- ---- the marked slots cleared
 
 module _ (n : ℕ) (r : List ℕ) (f : Kinds) (noted : Noted vlanTypes n (piecesOf n r) f) (nicks : List ℕ) (ingress : ℕ) (t m : List ℕ) where
-  pub vlans-cleared : slotsOf t ≤ mostSlots → Chosen (slotFirst (nicknameMeant ingress nicks) (piecesOf n r) (fineNoted f)) 0 (slotsOf t) t m → (c : ℕ) (u : List ℕ) → onTable c u ≡ clearedMarks m t
+  pub vlans-cleared : slotsOf t ≤ mostSlots → FirstPass (nicknameMeant ingress nicks) (piecesOf n r) (fineNoted f) 0 (slotsOf t) t m → (c : ℕ) (u : List ℕ) → onTable c u ≡ clearedMarks m t
       → onTable c u ≡ clearedBy (slotMeant vlanTypes (payloadFrom nicks n r) ingress) t
-  vlans-cleared few chosen c u e =
-      range-cleared _ 0 (slotsOf t) t m (whole-within t few) (chosen-same _ _ 0 (slotsOf t) t m (first-exact n r f noted nicks ingress) chosen) c u e
+  vlans-cleared few first c u e =
+      range-cleared _ 0 (slotsOf t) t m (whole-within t few) (chosen-same _ _ 0 (slotsOf t) t m (first-exact n r f noted nicks ingress 0 (slotsOf t) t m first) (first .chosen)) c u e
       ∙ cleared-whole (slotMeant vlanTypes (payloadFrom nicks n r) ingress) t
 
 -- no label is named

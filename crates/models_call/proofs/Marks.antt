@@ -28,9 +28,9 @@ use Rattle.flush_payload.specs.Judging as judging
 use Rattle.flush_payload.specs.declared.Kinds.{Kinds}
 use Rattle.flush_vlans.specs.Vlans.{VlansNoted}
 use Rattle.flush_marks.specs.Filters.{slotNamed}
-use Rattle.flush_nicknames.specs.First.{kindMeant, fineNoted, slotFirst}
+use Rattle.flush_nicknames.specs.First.{kindMeant, fineNoted, slotFirst, FirstPass}
 use Rattle.flush_call.specs.Clearing.{payloadFrom}
-use Rattle.flush_call.proofs.Tests.{either-neither}
+use Rattle.flush_call.proofs.Tests.{either-neither, any-passes, every-fine}
 use Rattle.models.proofs.Meaning.{any-same, label-same, every-mac, small-types}
 
 -- ---- the types that both models implement
@@ -100,6 +100,11 @@ fine-same n (tlv k v) = by-type k (everyKind k) (fineIn n k v) (λ e. rw e) (λ 
 fine-same n (block b) = refl
 fine-same n stump = refl
 
+-- a piece of all labels brings every one
+every-means : (x : ℕ) (ps : List Piece) → anyOf (ofKind everyType everyKind) ps ≡ true → labelMeant everyType ps (Fine x) ≡ true
+unfolding labelMeant
+every-means x ps e = any-passes _ _ (every-fine x) ps e
+
 -- ---- what was noted
 
 module _ (n : ℕ) (r : List ℕ) (f : Kinds) (noted : Noted vlanTypes n (piecesOf n r) f) where
@@ -109,21 +114,31 @@ module _ (n : ℕ) (r : List ℕ) (f : Kinds) (noted : Noted vlanTypes n (pieces
   pub vlans-noted : VlansNoted ps f
   vlans-noted = record { every = noted .every ∙ any-same _ _ every-same ps; vlans = noted .vlans ∙ any-same _ _ vlans-same ps }
 
-  fine-exact : (x : ℕ) → fineNoted f ≡ labelMeant vlanTypes ps (Fine x)
-  unfolding labelMeant either
-  fine-exact x =
+  every-noted : fineNoted f ≡ f .every
+  unfolding either
+  every-noted =
       let lists : f .lists ≡ false = noted .lists ∙ none-of _ lists-none ps in
       let maps : f .maps ≡ false = noted .maps ∙ none-of _ maps-none ps in
-      rw (lists, maps) (either-none (f .every)) ∙ noted .every ∙ any-same _ _ (fine-same x) ps
+      rw (lists, maps) (either-none (f .every))
     where
       either-none : (a : Bool) → either a false ≡ a
       either-none true = refl
       either-none false = refl
 
-  label-exact : (s : List ℕ) (b : Bool) → eqb (kindOf (recordOf s)) vlanKind ≡ b → kindMeant ps (fineNoted f) s ≡ labelMeant vlanTypes ps (labelFrom (kindOf (recordOf s)) (labelOf (recordOf s)))
+  fine-exact : (x : ℕ) → fineNoted f ≡ labelMeant vlanTypes ps (Fine x)
+  unfolding labelMeant
+  fine-exact x = every-noted ∙ noted .every ∙ any-same _ _ (fine-same x) ps
+
+  -- all labels may be meant, or no fine-grained one
+  near-exact : (nicks : ℕ → Bool) (from count : ℕ) (t m : List ℕ) (first : FirstPass nicks ps (fineNoted f) from count t m) → (x : ℕ) (b : Bool) → fineNoted f ≡ b → first .near x ≡ labelMeant vlanTypes ps (Fine x)
+  near-exact nicks from count t m first x true e =
+      first .all e x (every-means x ps (sym (vlans-noted .every) ∙ sym every-noted ∙ e)) ∙ sym e ∙ fine-exact x
+  near-exact nicks from count t m first x false e = first .none e x ∙ sym e ∙ fine-exact x
+
+  label-exact : (near : ℕ → Bool) → ((x : ℕ) → near x ≡ labelMeant vlanTypes ps (Fine x)) → (s : List ℕ) (b : Bool) → eqb (kindOf (recordOf s)) vlanKind ≡ b → kindMeant ps near s ≡ labelMeant vlanTypes ps (labelFrom (kindOf (recordOf s)) (labelOf (recordOf s)))
   unfolding kindMeant labelFrom pick
-  label-exact s true e = rw e (sym (label-same (labelOf (recordOf s)) ps))
-  label-exact s false e = rw e (fine-exact (labelOf (recordOf s)))
+  label-exact near same s true e = rw e (sym (label-same (labelOf (recordOf s)) ps))
+  label-exact near same s false e = rw e (same (labelOf (recordOf s)))
 
   -- ---- a slot is meant exactly if it passes the first pass
 
@@ -149,13 +164,13 @@ module _ (n : ℕ) (r : List ℕ) (f : Kinds) (noted : Noted vlanTypes n (pieces
     three true false c = refl
     three false b c = refl
 
-    pub first-exact : (s : List ℕ) → slotFirst (nicknameMeant ingress nicks) ps (fineNoted f) s ≡ slotMeant vlanTypes p ingress s
+    pub first-exact : (from count : ℕ) (t m : List ℕ) (first : FirstPass (nicknameMeant ingress nicks) ps (fineNoted f) from count t m) (s : List ℕ) → slotFirst (nicknameMeant ingress nicks) ps (first .near) s ≡ slotMeant vlanTypes p ingress s
     unfolding slotFirst slotNamed entryMeant entryOf
-    first-exact s =
+    first-exact from count t m first s =
         let learned : Bool = isLearned (unpacked s) in
         let named : Bool = nicknameMeant ingress nicks (nicknameOf (recordOf s)) in
-        three learned named (kindMeant ps (fineNoted f) s)
-        ∙ ap (λ (c : Bool). both learned (both named (both c true))) (label-exact s _ refl)
+        three learned named (kindMeant ps (first .near) s)
+        ∙ ap (λ (c : Bool). both learned (both named (both c true))) (label-exact (first .near) (λ x. near-exact _ from count t m first x _ refl) s _ refl)
         ∙ ap (λ (c : Bool). both learned (both named (both (labelMeant vlanTypes ps (labelFrom (kindOf (recordOf s)) (labelOf (recordOf s)))) c))) (sym (every-mac ps (macOf (recordOf s))))
         ∙ sym (by-learned s (isLearned (unpacked s)) refl)
 

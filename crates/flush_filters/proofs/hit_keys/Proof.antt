@@ -6,7 +6,7 @@ use Rattle.flush_filters.proofs.hit_keys.Statement.{statement}
 use Rattle.flush_filters.proofs.hit_keys.Tie as tie
 
 returns : tie.Need-returns
-returns c = named-hits _ _ (c .before .before .before .before .before .naming-of .ensures .0) _ _ _ _ (c .before .before .hit-named .ensures)
+returns c = named-hits _ _ (c .before .before .before .before .before .before .naming-of .ensures .0) _ _ _ _ (c .before .before .hit-named .ensures)
 
 pub hit-keys-spec : {M : Type 1} → statement M
 hit-keys-spec =
@@ -15,7 +15,9 @@ hit-keys-spec =
     (λ c. search needs)
     (λ c κs. search needs)
     (λ c κs. search needs)
+    (λ c κs. search needs)
     (λ c. search needs)
     (λ c κs. search needs)
+    (λ c. search needs)
     (λ c. search needs)
     returns)

@@ -6,7 +6,7 @@ use Rattle.flush_filters.proofs.mark_named.Statement.{statement}
 use Rattle.flush_filters.proofs.mark_named.Tie as tie
 
 returns : tie.Need-returns
-returns c = marks-named _ _ _ (c .before .before .before .before .before .before .before .before .before .before .before .before .before .before .sort .ensures) _ (c .before .before .before .before .before .before .before .hit-keys .ensures) _ _ (c .before .before .collect .ensures)
+returns c = marks-named _ _ _ (c .before .before .before .before .before .before .before .before .before .before .before .before .before .before .before .before .before .sort .ensures) _ (c .before .before .before .before .before .before .before .before .before .hit-keys .ensures) _ _ (c .before .before .collect .ensures)
 
 pub mark-named-spec : {M : Type 1} → statement M
 mark-named-spec =

@@ -6,7 +6,7 @@ use Rattle.flush_filters.proofs.naming_of.Statement.{statement}
 use Rattle.flush_filters.proofs.naming_of.Tie as tie
 
 returns : tie.Need-returns
-returns c = search naming-fine
+returns c = naming-fine _ (c .before .enum-told .given .1) _ (c .fine-naming .ensures)
 
 returns-2 : tie.Need-returns-2
 returns-2 c = search naming-mac
@@ -16,6 +16,7 @@ naming-of-spec =
     tie.close
     (tie.spec
     (λ c. search needs)
+    (λ c κs. search needs)
     (λ c. search needs)
     returns
     returns-2)

@@ -13,10 +13,10 @@ use Rattle.flush_intervals.proofs.hit_map.Statement.{statement}
 use Rattle.flush_intervals.proofs.hit_map.Tie as tie
 
 abbrev Inv-loop : tie.InvT-loop
-Inv-loop v w near keys hits₀ s e i₀ hits i = Mapping (λ x. inMap w x v) keys hits₀ i hits
+Inv-loop v w near keys places hits₀ s e i₀ hits i = Mapping (λ x. inMap w x v) keys hits₀ i hits
 
 abbrev μ-loop : tie.MeasureT-loop
-μ-loop v w near keys hits₀ s e i₀ hits i = length keys - i
+μ-loop v w near keys places hits₀ s e i₀ hits i = length keys - i
 
 returns : tie.Need-returns Inv-loop μ-loop
 returns c = map-short _ _ _ _ (c .if1 .taken)
@@ -25,7 +25,7 @@ returns-2 : tie.Need-returns-2 Inv-loop μ-loop
 returns-2 c = far-hits _ _ _ (c .before .before .before .map-low .ensures .1) (c .before .before .map-past .ensures .1) _ _ _ (search needs) _ (c .before .may-meet .ensures) (not-true _ (c .if2 .taken))
 
 loop-holds : tie.Need-loop-holds Inv-loop μ-loop
-loop-holds c = map-start _ _ _ _ _ (c .before .before .before .before .map-low .ensures .1) (c .before .before .before .map-past .ensures .1) _ (c .count-below .ensures)
+loop-holds c = map-start _ _ _ _ _ (c .before .before .before .before .map-low .ensures .1) (c .before .before .before .map-past .ensures .1) _ (c .count-near .ensures)
 
 returns-3 : tie.Need-returns-3 Inv-loop μ-loop
 returns-3 c = map-past _ _ _ _ _ (c .before .before .before .before .before .before .before .before .map-low .ensures .1) (c .before .before .before .before .before .before .before .map-past .ensures .1) (search needs) _ _ (c .before .before .before .loop .inv) (search needs) (c .if3 .taken)

@@ -10,10 +10,10 @@ use Rattle.flush_intervals.proofs.hit_named.Statement.{statement}
 use Rattle.flush_intervals.proofs.hit_named.Tie as tie
 
 abbrev Inv-loop : tie.InvT-loop
-Inv-loop l naming near keys hits₀ at₀ hits at = Walking naming l keys hits₀ hits at
+Inv-loop l naming near keys places hits₀ at₀ hits at = Walking naming l keys hits₀ hits at
 
 abbrev μ-loop : tie.MeasureT-loop
-μ-loop l naming near keys hits₀ at₀ hits at = length l - at
+μ-loop l naming near keys places hits₀ at₀ hits at = length l - at
 
 loop-holds : tie.Need-loop-holds Inv-loop μ-loop
 loop-holds c = search walk-start

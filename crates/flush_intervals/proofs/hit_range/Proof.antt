@@ -14,15 +14,15 @@ returns-2 : tie.Need-returns-2
 returns-2 c = range-far _ _ _ _ _ (search needs) _ (c .before .may-meet .ensures) (not-true _ (c .if2 .taken))
 
 count-from-requires : tie.Need-count-from-requires
-count-from-requires c κs = (search needs, (search needs, (search needs, front-below _ _ _ _ (c .count-below .ensures) (omega arith))))
+count-from-requires c κs = (search needs, (search needs, (search needs, front-below _ _ _ _ (c .count-near .ensures) (omega arith))))
 
 add-range-requires : tie.Need-add-range-requires
 add-range-requires c κs =
     let within = c .before .count-from .ensures .within in
-    (range-order _ _ _ _ (c .before .before .count-below .ensures) _ (c .before .count-from .ensures) (omega arith), search needs)
+    (range-order _ _ _ _ (c .before .before .count-near .ensures) _ (c .before .count-from .ensures) (omega arith), search needs)
 
 returns-3 : tie.Need-returns-3
-returns-3 c = range-hits _ _ _ _ (c .before .before .before .before .before .count-below .ensures) _ (c .before .before .before .before .count-from .ensures) _ _ (c .before .before .add-range .ensures)
+returns-3 c = range-hits _ _ _ _ (c .before .before .before .before .before .count-near .ensures) _ (c .before .before .before .before .count-from .ensures) _ _ (c .before .before .add-range .ensures)
 
 pub hit-range-spec : {M : Type 1} → statement M
 hit-range-spec =

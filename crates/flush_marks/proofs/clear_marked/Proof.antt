@@ -2,9 +2,8 @@
 -- Assumes nothing.
 use Prim.Native.Nat.{_-_, _≤_}
 use native.Mathlib.Omega.{arith}
-use Rattle.table.proofs.Slots.{length-lent}
 use Rattle.flush_marks.specs.Marks.{ClearedTo}
-use Rattle.flush_marks.proofs.Clearing.{cleared-none, cleared-next, cleared-far, cleared-rest, cleared-ends}
+use Rattle.flush_marks.proofs.Clearing.{cleared-none, cleared-next, cleared-eight, cleared-far, cleared-rest, cleared-ends}
 use borrow.Author.Needs.{needs}
 use Rattle.flush_marks.proofs.clear_marked.Statement.{statement}
 use Rattle.flush_marks.proofs.clear_marked.Tie as tie
@@ -18,24 +17,36 @@ abbrev μ-loop : tie.MeasureT-loop
 loop-holds : tie.Need-loop-holds Inv-loop μ-loop
 loop-holds c = (search needs, search cleared-none)
 
-clear-requires : tie.Need-clear-requires Inv-loop μ-loop
-clear-requires c κs =
-    let at = c .before .before .before .before .loop in
-    let long = at .inv .1 .long in
-    length-lent (at .k) (at .table) (omega arith)
+clear-run-requires : tie.Need-clear-run-requires Inv-loop μ-loop
+clear-run-requires c κs =
+    let room = c .before .before .eight-marked .ensures (c .before .if1 .taken) .room in
+    let long = c .before .before .before .before .loop .inv .1 .long in
+    omega arith
 
 loop-again : tie.Need-loop-again Inv-loop μ-loop
-loop-again c = (search needs, search cleared-next)
+loop-again c =
+    let eight = c .before .before .before .before .before .eight-marked .ensures in
+    let full = c .before .before .before .before .if1 .taken in
+    let room = eight full .room in
+    (omega arith, cleared-eight _ _ _ _ _ (c .before .before .before .before .before .before .before .loop .inv .1) _ eight full _ (c .before .before .clear-run .ensures))
 
-loop-less-2 : tie.Need-loop-less-2 Inv-loop μ-loop
-loop-less-2 c =
+clear-slot-requires : tie.Need-clear-slot-requires Inv-loop μ-loop
+clear-slot-requires c κs =
+    let long = c .before .before .before .before .before .before .loop .inv .1 .long in
+    omega arith
+
+loop-again-2 : tie.Need-loop-again-2 Inv-loop μ-loop
+loop-again-2 c = (search needs, cleared-next _ _ _ _ _ (c .before .before .before .before .before .before .before .before .before .loop .inv .1) (omega arith) _ (c .before .before .before .before .before .has .ensures) (c .before .before .before .before .if2 .taken) _ (c .before .before .clear-slot .ensures))
+
+loop-less-3 : tie.Need-loop-less-3 Inv-loop μ-loop
+loop-less-3 c =
     let f = c .before .before .before .next-marked .ensures .hit _ (c .before .j .given .1) in
     let far = f .behind in
     let inside = f .within in
     omega arith
 
-loop-again-2 : tie.Need-loop-again-2 Inv-loop μ-loop
-loop-again-2 c = cleared-far _ _ _ _ _ (c .before .before .before .before .before .before .before .loop .inv .1) _ (c .before .before .before .before .before .has .ensures) (c .before .before .before .before .if1 .left) _ (c .before .before .before .next-marked .ensures) _ (c .before .j .given .1)
+loop-again-3 : tie.Need-loop-again-3 Inv-loop μ-loop
+loop-again-3 c = cleared-far _ _ _ _ _ (c .before .before .before .before .before .before .before .before .before .loop .inv .1) _ (c .before .before .before .before .before .has .ensures) (c .before .before .before .before .if2 .left) _ (c .before .before .before .next-marked .ensures) _ (c .before .j .given .1)
 
 same-length : tie.Need-same-length Inv-loop μ-loop
 same-length c = search needs
@@ -54,21 +65,22 @@ clear-marked-spec =
     μ-loop
     loop-holds
     (λ c κs. search needs)
-    (λ c. search needs)
-    (λ c. search needs)
-    (λ c. search needs)
-    (λ c. search needs)
-    (λ c. search needs)
-    clear-requires
+    clear-run-requires
     (λ c. search needs)
     (λ c. search needs)
     (λ c. search needs)
     loop-again
+    (λ c κs. search needs)
+    clear-slot-requires
+    (λ c. search needs)
+    (λ c. search needs)
+    (λ c. search needs)
+    loop-again-2
     (λ c. search needs)
     (λ c κs. search needs)
     (λ c. search needs)
-    loop-less-2
-    loop-again-2
+    loop-less-3
+    loop-again-3
     (λ c. search needs)
     same-length
     returns

@@ -1,15 +1,15 @@
 -- `flush_nicknames::mark` meets its contract: by one nickname alone, or by a set.
 -- Assumes nothing.
-use Rattle.flush_nicknames.proofs.First.{chosen-named}
+use Rattle.flush_nicknames.proofs.First.{first-named}
 use borrow.Author.Needs.{needs}
 use Rattle.flush_nicknames.proofs.mark.Statement.{statement}
 use Rattle.flush_nicknames.proofs.mark.Tie as tie
 
 returns : tie.Need-returns
-returns c = chosen-named _ _ _ _ _ _ _ _ (c .before .before .before .before .before .before .before .nicknames-of .ensures .one _ (c .before .before .before .before .before .one .given .1)) (c .before .before .mark-one .ensures)
+returns c = first-named _ _ _ _ _ _ _ _ (c .before .before .before .before .before .before .before .nicknames-of .ensures .one _ (c .before .before .before .before .before .one .given .1)) (c .before .before .mark-one .ensures)
 
 returns-2 : tie.Need-returns-2
-returns-2 c = chosen-named _ _ _ _ _ _ _ _ (c .before .before .before .before .before .before .nicknames-of .ensures .several (c .before .before .before .before .enum-told .given .1)) (c .before .before .mark-several .ensures)
+returns-2 c = first-named _ _ _ _ _ _ _ _ (c .before .before .before .before .before .before .nicknames-of .ensures .several (c .before .before .before .before .enum-told .given .1)) (c .before .before .mark-several .ensures)
 
 pub mark-spec : {M : Type 1} → statement M
 mark-spec =

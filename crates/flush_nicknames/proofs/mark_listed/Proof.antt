@@ -5,17 +5,17 @@ use native.Mathlib.Omega.{arith}
 use Rattle.numbers.specs.Numberings.{bitAt}
 use Rattle.flush_marks.specs.Marks.{MarkedTo}
 use Rattle.flush_marks.proofs.Filters.{mark-none, mark-hit, mark-miss, mark-ends}
-use Rattle.flush_nicknames.specs.First.{slotMarked}
+use Rattle.flush_nicknames.specs.First.{mayPass, slotMarked}
 use Rattle.flush_nicknames.proofs.First.{marked-near}
 use borrow.Author.Needs.{needs}
 use Rattle.flush_nicknames.proofs.mark_listed.Statement.{statement}
 use Rattle.flush_nicknames.proofs.mark_listed.Tie as tie
 
 abbrev Inv-loop : tie.InvT-loop
-Inv-loop table from e names vlans fine every marks₀ k₀ marks k = ((from ≤ k) × (k ≤ e)) × MarkedTo (slotMarked (λ x. bitAt x names) vlans fine) from table k marks
+Inv-loop table from e names vlans near every marks₀ k₀ marks k = ((from ≤ k) × (k ≤ e)) × MarkedTo (slotMarked (λ x. bitAt x names) vlans (mayPass every near)) from table k marks
 
 abbrev μ-loop : tie.MeasureT-loop
-μ-loop table from e names vlans fine every marks₀ k₀ marks k = e - k
+μ-loop table from e names vlans near every marks₀ k₀ marks k = e - k
 
 loop-holds : tie.Need-loop-holds Inv-loop μ-loop
 loop-holds c = (search needs, search (mark-none, marked-near))
