@@ -13,6 +13,8 @@ ghost use Rattle.flush_write.specs.Cases.{WriterCases};
 ghost use Rattle.flush_write.specs.Claims.{WriterExact, WriterClears, WriterLength, WriterCalls};
 ghost use Rattle.models.specs.Claims.{FullModel, VlanOnly};
 ghost use Rattle.models.specs.Example.{NotPromised};
+ghost use Rattle.why.specs.Cases.{WhyCases};
+ghost use Rattle.why.specs.Claims.{WhyExact, WhyFirst, WhyPlaces, WhyRefusals};
 ghost use Rattle.frame.specs.Claims.{HeaderLocal, LabelLocal, LabelsGood};
 ghost use Rattle.convert.specs.Claims.{ReadsSame, ExpandCompacted, CompactExpanded, ConvertRefusals, SendsExactly, RoomForCompaction, SendRoom, ControlNeverCompact};
 ghost use Rattle.convert.specs.Chosen.{ChosenSent};
@@ -34,6 +36,7 @@ pub fn claims()
     ensures calls { λ _. ⌜ ReadRefusal × FlushRefusal × AgeingRefusal × WideningRefusal × ConvertRefusals × IngressRefusal × ReadingKeepsApart × FlushingKeepsApart × AgeingKeepsApart × LearningKeepsApart × ReadingLeavesAlone × FlushingLeavesAlone × AgeingLeavesAlone × LearningLeavesAlone ⌝ }
     ensures portions { λ _. ⌜ PortionExact × PortionsWhole × PortionsReach × PortionsEnd × Later × Passed × PortionRefusal × PortionKeepsApart × PortionLeavesAlone ⌝ }
     ensures models { λ _. ⌜ FullModel × VlanOnly × NotPromised ⌝ }
+    ensures reasons { λ _. ⌜ WhyExact × WhyFirst × WhyPlaces × WhyRefusals × WhyCases ⌝ }
     ensures laws { λ _. ⌜ Blocks × Maps × UnpackPacked × PackUnpacked × KeptWritesNothing × HeaderLocal × LabelLocal × LabelsGood × ReadsSame × ReadsParsed ⌝ }
     ensures writing { λ _. ⌜ WriterExact × WriterClears × WriterLength × WriterCalls × WriterCases ⌝ }
     ensures watching { λ _. ⌜ StopNeverShortened × StopRunsOut × SendingWhileStopped × RefusedWatchStays × WatchCases ⌝ }

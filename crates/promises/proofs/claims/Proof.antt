@@ -25,6 +25,8 @@ use Rattle.flush_write.proofs.Calls.{writer-calls}
 use Rattle.flush_write.proofs.Worked.{writer-cases}
 use Rattle.models.proofs.Models.{full-model, vlan-only}
 use Rattle.models.proofs.Example.{not-promised}
+use Rattle.why.proofs.Calls.{why-exact, why-first, why-places, why-refusals}
+use Rattle.why.proofs.Cases.{why-cases}
 use Rattle.frame.proofs.Local.{header-local, label-local, labels-good}
 use Rattle.convert.proofs.Areas.{convert-refusals}
 use Rattle.convert.proofs.Compacting.{reads-same}
@@ -83,10 +85,13 @@ returns c = (
       (
         (full-model, vlan-only, not-promised),
         (
-          (blocks-hold, maps-hold, unpack-packed, pack-unpacked, kept-writes-nothing, header-local, label-local, labels-good, reads-same, reads-parsed),
+          (why-exact, why-first, why-places, why-refusals, why-cases),
           (
-            (writer-exact, writer-clears, writer-length, writer-calls, writer-cases),
-            (stop-never-shortened, stop-runs-out, sending-while-stopped, refused-watch-stays, watch-cases),
+            (blocks-hold, maps-hold, unpack-packed, pack-unpacked, kept-writes-nothing, header-local, label-local, labels-good, reads-same, reads-parsed),
+            (
+              (writer-exact, writer-clears, writer-length, writer-calls, writer-cases),
+              (stop-never-shortened, stop-runs-out, sending-while-stopped, refused-watch-stays, watch-cases),
+            ),
           ),
         ),
       ),

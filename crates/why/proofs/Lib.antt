@@ -1,0 +1,4 @@
+pub mod FirstPlace
+pub mod Reasons
+pub mod Calls
+pub mod Cases

@@ -1,0 +1,28 @@
+-- `why_call::payload_reason` meets its contract: the parts of the payload are what it is made of.
+-- Assumes nothing.
+use Rattle.why_call.proofs.Laws.{cut-made, cut-room, cut-few}
+use borrow.Author.Needs.{needs}
+use Rattle.why_call.proofs.payload_reason.Statement.{statement}
+use Rattle.why_call.proofs.payload_reason.Tie as tie
+
+learned-reason-requires : tie.Need-learned-reason-requires
+learned-reason-requires c κs = (search cut-few, search cut-room)
+
+returns : tie.Need-returns
+returns c = search cut-made
+
+pub payload-reason-spec : {M : Type 1} → statement M
+payload-reason-spec =
+    tie.close
+    (tie.spec
+    (λ c κs. search needs)
+    (λ c. search needs)
+    (λ c. search needs)
+    (λ c. search needs)
+    (λ c. search needs)
+    (λ c. search needs)
+    (λ c. search needs)
+    (λ c. search needs)
+    (λ c. search needs)
+    learned-reason-requires
+    returns)

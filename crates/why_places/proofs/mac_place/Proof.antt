@@ -1,0 +1,56 @@
+-- `why_places::mac_place` meets its contract. The invariant: the first TLV that brings the MAC is the first from `at` on, which are counted on
+-- from `i`; a TLV has two bytes or more, so that `i` is not past `at`.
+-- Assumes nothing.
+use Prim.Native.Nat.{_-_, _≤_}
+use mathlib.Core.Path.{_≡_, refl}
+use lib.ListN.{length, drop}
+use Rattle.flush.specs.Payload.{everyType, tlvs}
+use Rattle.flush.specs.Meaning.{bringsMac}
+use Rattle.why_places.specs.Found.{firstFrom}
+use Rattle.why_places.proofs.Laws.{walk-done, walk-cut, walk-hit, walk-next}
+use borrow.Author.Needs.{needs}
+use Rattle.why_places.proofs.mac_place.Statement.{statement}
+use Rattle.why_places.proofs.mac_place.Tie as tie
+
+abbrev Inv-loop : tie.InvT-loop
+Inv-loop l m at₀ i₀ at i = (at ≤ length l) × ((i ≤ at) × (firstFrom (bringsMac everyType m) 0 (tlvs l) ≡ firstFrom (bringsMac everyType m) i (tlvs (drop at l))))
+
+abbrev μ-loop : tie.MeasureT-loop
+μ-loop l m at₀ i₀ at i = length l - at
+
+loop-holds : tie.Need-loop-holds Inv-loop μ-loop
+loop-holds c = (search needs, (search needs, refl))
+
+returns : tie.Need-returns Inv-loop μ-loop
+unfolding bringsMac
+returns c = search walk-cut
+
+returns-2 : tie.Need-returns-2 Inv-loop μ-loop
+returns-2 c = search walk-hit
+
+loop-again : tie.Need-loop-again Inv-loop μ-loop
+loop-again c = (search needs, (search needs, search walk-next))
+
+returns-3 : tie.Need-returns-3 Inv-loop μ-loop
+returns-3 c = search walk-done
+
+pub mac-place-spec : {M : Type 1} → statement M
+mac-place-spec =
+    tie.close
+    (tie.spec
+    Inv-loop
+    μ-loop
+    loop-holds
+    (λ c κs. search needs)
+    returns
+    (λ c. search needs)
+    (λ c. search needs)
+    (λ c. search needs)
+    (λ c. search needs)
+    (λ c. search needs)
+    (λ c κs. search needs)
+    returns-2
+    (λ c. search needs)
+    (λ c. search needs)
+    loop-again
+    returns-3)

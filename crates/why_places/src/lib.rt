@@ -1,0 +1,166 @@
+// What brought a nickname, a label and a MAC into the three sets of a flush: walks that answer the place of the first that brings it, and
+// that it is meant is that there is such a place.
+ghost use Prim.Native.Nat.{_*_, _<_, _≤_};
+ghost use mathlib.Core.Path.{_≡_};
+ghost use lib.ListN.{length};
+ghost use Rattle.numbers.specs.Bytes.{parts};
+ghost use Rattle.numbers.specs.Numberings.{vlans, inBlock};
+ghost use Rattle.table.specs.Record.{labelFrom};
+ghost use Rattle.flush.specs.Payload.{everyType, tlvs, blockBytes, piecesOf};
+ghost use Rattle.flush.specs.Meaning.{bringsLabel, bringsMac};
+ghost use Rattle.why.specs.Why.{nicknameIs, listed};
+ghost use Rattle.why_places.specs.Found.{firstFrom, nicknameFound, labelFound, macFound};
+use table::Place;
+use table::VLAN_KIND;
+use why::LabelMatch;
+use why::MacMatch;
+use why::NicknameMatch;
+
+// The bytes of a listed nickname, and of a VLAN block.
+const NICKNAME_BYTES: usize = 2;
+
+const BLOCK_BYTES: usize = 4;
+
+// Whether a nickname is meant, and what brought it; the same of a label and of a MAC.
+pub enum NicknameFound {
+    By(NicknameMatch),
+    NotMeant,
+}
+
+pub enum LabelFound {
+    By(LabelMatch),
+    NotMeant,
+}
+
+pub enum MacFound {
+    By(MacMatch),
+    NotMeant,
+}
+
+// The first listed nickname that is x.
+fn listed_place(nicks: &[u8], x: u64) -> Place
+    ensures { λ r. ⌜ r ≡ firstFrom (nicknameIs x) 0 (listed (now (nicks .entry))) ⌝ }
+{
+    let mut at = 0;
+    let mut nickname = 0;
+    while NICKNAME_BYTES <= nicks.len() - at {
+        let e = at + NICKNAME_BYTES;
+        if flush_members::in_nicknames(&nicks[at..e], x) {
+            return Place::At(nickname);
+        }
+        at = e;
+        nickname += 1;
+    }
+    Place::Nowhere
+}
+
+// The first VLAN block that has VLAN x in it.
+fn block_place(v: &[u8], x: u64) -> Place
+    ensures { λ r. ⌜ r ≡ firstFrom (inBlock vlans x) 0 (parts blockBytes (now (v .entry))) ⌝ }
+{
+    let mut at = 0;
+    let mut block = 0;
+    while BLOCK_BYTES <= v.len() - at {
+        let e = at + BLOCK_BYTES;
+        if flush_members::in_vlan_blocks(&v[at..e], x) {
+            return Place::At(block);
+        }
+        at = e;
+        block += 1;
+    }
+    Place::Nowhere
+}
+
+// The first TLV that brings a label, which is given by its kind and its number.
+fn label_place(l: &[u8], kind: u64, x: u64) -> Place
+    ensures { λ r. ⌜ r ≡ firstFrom (bringsLabel everyType (labelFrom kind x)) 0 (tlvs (now (l .entry))) ⌝ }
+{
+    let mut at = 0;
+    let mut tlv = 0;
+    while at < l.len() {
+        let e = flush_tlvs::end_of(l, at);
+        if l.len() < e {
+            return Place::Nowhere;
+        }
+        let s = at + 2;
+        if flush_tlvs::brings_label(kind, x, l[at], &l[s..e]) {
+            return Place::At(tlv);
+        }
+        at = e;
+        tlv += 1;
+    }
+    Place::Nowhere
+}
+
+// The first TLV that brings a MAC.
+fn mac_place(l: &[u8], m: u64) -> Place
+    ensures { λ r. ⌜ r ≡ firstFrom (bringsMac everyType m) 0 (tlvs (now (l .entry))) ⌝ }
+{
+    let mut at = 0;
+    let mut k = 0;
+    while at < l.len() {
+        let e = flush_tlvs::end_of(l, at);
+        if l.len() < e {
+            return Place::Nowhere;
+        }
+        let s = at + 2;
+        if flush_tlvs::brings_mac(m, l[at], &l[s..e]) {
+            return Place::At(k);
+        }
+        at = e;
+        k += 1;
+    }
+    Place::Nowhere
+}
+
+// The nickname: without a list only the sender is meant, otherwise the listed ones. A payload lists at most 255.
+pub fn nickname_found(nicks: &[u8], ingress: u32, x: u64) -> NicknameFound
+    requires { ⌜ length (now nicks) < 512 ⌝ }
+    ensures { λ r. ⌜ r ≡ nicknameFound ingress (now (nicks .entry)) x ⌝ }
+{
+    if nicks.len() == 0 {
+        if x == ingress as u64 {
+            return NicknameFound::By(NicknameMatch::Sender);
+        }
+        return NicknameFound::NotMeant;
+    }
+    let Place::At(i) = listed_place(nicks, x) else {
+        return NicknameFound::NotMeant;
+    };
+    let k = i as u8;
+    NicknameFound::By(NicknameMatch::Listed(k))
+}
+
+// The label: some VLAN block brings it, which names VLANs only, or some TLV.
+pub fn label_found(rest: &[u8], blocks: usize, kind: u64, x: u64) -> LabelFound
+    requires { ⌜ blockBytes * blocks ≤ length (now rest) ⌝ }
+    ensures { λ r. ⌜ r ≡ labelFound blocks (piecesOf blocks (now (rest .entry))) (labelFrom kind x) ⌝ }
+{
+    if blocks == 0 {
+        let Place::At(i) = label_place(rest, kind, x) else {
+            return LabelFound::NotMeant;
+        };
+        return LabelFound::By(LabelMatch::Tlv(i));
+    }
+    if kind != VLAN_KIND {
+        return LabelFound::NotMeant;
+    }
+    let e = BLOCK_BYTES * blocks;
+    let Place::At(i) = block_place(&rest[..e], x) else {
+        return LabelFound::NotMeant;
+    };
+    LabelFound::By(LabelMatch::Block(i))
+}
+
+// The MAC: every MAC is meant where none was gathered, otherwise those that some TLV brings.
+pub fn mac_found(rest: &[u8], blocks: usize, m: u64) -> MacFound
+    ensures { λ r. ⌜ r ≡ macFound (piecesOf blocks (now (rest .entry))) m ⌝ }
+{
+    if !flush_payload::some_mac(rest, blocks) {
+        return MacFound::By(MacMatch::Every);
+    }
+    let Place::At(i) = mac_place(rest, m) else {
+        return MacFound::NotMeant;
+    };
+    MacFound::By(MacMatch::Tlv(i))
+}
