@@ -1,0 +1,86 @@
+-- Laws of the text: digits in parts, one byte of an area.
+-- Assumes nothing.
+use Prim.Native.Nat.{ℕ, zero, suc, _+_, _-_, _*_, _/_, _%_, _^_, _<_, _≤_}
+use mathlib.Core.Bool.{Bool, true, false}
+use mathlib.Core.List.{List, [], _∷_, _++_, append-nil, append-assoc}
+use mathlib.Core.Path.{_≡_, refl, sym, ap, _∙_}
+use native.Mathlib.Nat.{zero-add, suc-add, mul-comm, div-div-eq-div-mul}
+use native.Mathlib.Numerals.{add-one}
+use native.Mathlib.Omega.{arith}
+use lib.Dec.{leb}
+use lib.Pow.{pow-add}
+use lib.ListN.{length, take, drop, getD, set, length-append}
+use lib.Seq.{set-split}
+use borrow.Author.Tests.{le-leb, lt-leb}
+use Rattle.numbers.specs.Tests.{pick}
+use Rattle.frame_copy.specs.Areas.{pasted}
+use Rattle.frame_copy.proofs.Copying.{paste-next}
+use Rattle.report.specs.Text.{sign, digitsOf, hexadecimal, widthOf, decimal}
+use Rattle.report.proofs.Digits.{length-digits, length-decimal}
+
+pub put-one : (o : List ℕ) (at v : ℕ) → at < length o → set o at v ≡ pasted o at (v ∷ [])
+unfolding pasted
+put-one o at v h = rw (add-one at) (set-split o at v h ∙ sym (append-assoc (take at o) (v ∷ []) (drop (suc at) o)))
+
+-- a copy right after another
+pub then-pasted : (o o₁ o₂ x y z : List ℕ) (at k : ℕ) → o₁ ≡ pasted o at x → o₂ ≡ pasted o₁ k y → at ≤ length o → at + length x ≡ k → x ++ y ≡ z → o₂ ≡ pasted o at z
+then-pasted o o₁ o₂ x y z at k first second h e whole = second ∙ rw first (paste-next o x y at k h e ∙ ap (pasted o at) whole)
+
+-- digits in two parts
+pub digits-parts : (b j k n : ℕ) → digitsOf b j (n / b ^ k) ++ digitsOf b k n ≡ digitsOf b (j + k) n
+unfolding digitsOf
+digits-parts b zero k n = rw (zero-add k)
+digits-parts b (suc j) k n =
+    let power : n / b ^ k / b ^ j ≡ n / b ^ (j + k) = div-div-eq-div-mul n (b ^ k) (b ^ j) ∙ ap (λ (m : ℕ). n / m) (mul-comm (b ^ k) (b ^ j) ∙ sym (pow-add b j k)) in
+    rw (suc-add j k, ← digits-parts b j k n, power)
+
+-- the ways of a count
+module _ (n : ℕ) where
+  pub width-1 : n ≤ 9 → widthOf n ≡ 1
+  unfolding widthOf pick
+  width-1 h = rw (le-leb n 9 h)
+
+  pub width-2 : 9 < n → n ≤ 99 → widthOf n ≡ 2
+  unfolding widthOf pick
+  width-2 g h = rw (lt-leb n 9 g, le-leb n 99 h)
+
+  pub width-3 : 9 < n → 99 < n → n ≤ 999 → widthOf n ≡ 3
+  unfolding widthOf pick
+  width-3 f g h = rw (lt-leb n 9 f, lt-leb n 99 g, le-leb n 999 h)
+
+  pub width-4 : 9 < n → 99 < n → 999 < n → widthOf n ≡ 4
+  unfolding widthOf pick
+  width-4 f g h = rw (lt-leb n 9 f, lt-leb n 99 g, lt-leb n 999 h)
+
+  pub decimal-is : (k : ℕ) (o : List ℕ) (at : ℕ) → widthOf n ≡ k → (u : List ℕ) → u ≡ pasted o at (digitsOf 10 k n) → (u ≡ pasted o at (decimal n)) × (at + k ≡ at + widthOf n)
+  unfolding decimal
+  decimal-is k o at e u is = rw e (is, refl)
+
+pub digit-10 : (n v : ℕ) → v ≡ sign (n % 10) → v ∷ [] ≡ digitsOf 10 1 n
+unfolding digitsOf
+digit-10 n v e =
+    let same : n / 10 ^ 0 % 10 ≡ n % 10 = omega arith in
+    rw (e, same)
+
+pub digit-16 : (n v : ℕ) → v ≡ sign (n % 16) → v ∷ [] ≡ digitsOf 16 1 n
+unfolding digitsOf
+digit-16 n v e =
+    let same : n / 16 ^ 0 % 16 ≡ n % 16 = omega arith in
+    rw (e, same)
+
+pub sign-digit : (d : ℕ) → d ≤ 9 → 0x30 + d ≡ sign d
+unfolding sign pick
+sign-digit d h = rw (le-leb d 9 h)
+
+pub sign-letter : (d : ℕ) → 9 < d → 0x37 + d ≡ sign d
+unfolding sign pick
+sign-letter d h = rw (lt-leb d 9 h)
+
+-- two parts of a number's digits, one after the other
+pub digits-pasted : (b j k n : ℕ) (o o₁ o₂ : List ℕ) (at : ℕ) → at ≤ length o → o₁ ≡ pasted o at (digitsOf b j (n / b ^ k)) → o₂ ≡ pasted o₁ (at + j) (digitsOf b k n) → o₂ ≡ pasted o at (digitsOf b (j + k) n)
+digits-pasted b j k n o o₁ o₂ at h first second =
+    then-pasted o o₁ o₂ (digitsOf b j (n / b ^ k)) (digitsOf b k n) (digitsOf b (j + k) n) at (at + j) first second h (rw (length-digits b j (n / b ^ k))) (digits-parts b j k n)
+
+pub four-digits : (n : ℕ) → digitsOf 16 4 n ≡ hexadecimal n
+unfolding hexadecimal
+four-digits n = refl

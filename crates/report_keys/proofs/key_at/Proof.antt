@@ -1,0 +1,11 @@
+-- `report_keys::key_at` meets its contract: it is the key of what the record holds.
+-- Assumes nothing.
+use borrow.Author.Needs.{needs}
+use Rattle.report_keys.proofs.key_at.Statement.{statement}
+use Rattle.report_keys.proofs.key_at.Tie as tie
+
+returns : tie.Need-returns
+returns c = cc
+
+pub key-at-spec : {M : Type 1} → statement M
+key-at-spec = tie.close (tie.spec (λ c κs. search needs) (λ c κs. search needs) returns)
