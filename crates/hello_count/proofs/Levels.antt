@@ -159,7 +159,7 @@ module _ (k j : ℕ) (v : List ℕ) (same : j ≡ k) (n : ℕ) (en : n ≡ lengt
 
 -- ---- gathering through the levels
 
-flat-flat : {A B C : Type 0} (f : B → List C) (g : A → List B) (xs : List A) → flatMap f (flatMap g xs) ≡ flatMap (λ x. flatMap f (g x)) xs
+pub flat-flat : {A B C : Type 0} (f : B → List C) (g : A → List B) (xs : List A) → flatMap f (flatMap g xs) ≡ flatMap (λ x. flatMap f (g x)) xs
 unfolding flatMap
 flat-flat f g [] = refl
 flat-flat f g (x ∷ xs) = flatMap-append f (g x) (flatMap g xs) ∙ rw (flat-flat f g xs)
@@ -300,7 +300,7 @@ module _ (k h : ℕ) (v : List ℕ) (r : ℕ) (er : r ≡ holderFor k) (same : h
   unfolding subBrought
   body = rw held (body-of k v _)
 
-  body-numbers : tlvNumbers k (tlv h v) ≡ flatMap (subNumbers k) (tlvs (drop (bodyAt h v) v))
+  pub body-numbers : tlvNumbers k (tlv h v) ≡ flatMap (subNumbers k) (tlvs (drop (bodyAt h v) v))
   unfolding tlvNumbers subNumbers joined
   body-numbers = ap joined body ∙ flat-flat (λ (x : List ℕ). x) (subBrought k) (tlvs (drop (bodyAt h v) v))
 
