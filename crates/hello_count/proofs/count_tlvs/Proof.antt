@@ -1,3 +1,5 @@
+-- `hello_count::count_tlvs` meets its contract. The invariant: what was counted and what is left make the whole, of sub-TLVs and of numbers.
+-- Assumes nothing.
 use Rattle.hello_count.specs.Sections.{tlvBrought, tlvNumbers}
 use Rattle.hello_count.proofs.Levels.{tlv-stump-none, tlv-stump-numbers}
 use Rattle.hello_count.proofs.Walks.{count-cut, count-next, count-done}
@@ -19,38 +21,8 @@ abbrev μ-loop : tie.MeasureT-loop
 loop-holds : tie.Need-loop-holds Inv-loop μ-loop
 loop-holds c = (search needs, (search needs, (search needs, (search needs, search needs))))
 
-end-of-requires : tie.Need-end-of-requires Inv-loop μ-loop
-end-of-requires c κs = search needs
-
 returns : tie.Need-returns Inv-loop μ-loop
 returns c = (search (count-cut, tlv-stump-none), (search (count-cut, tlv-stump-numbers), (search needs, search needs)))
-
-add-s : tie.Need-add-s Inv-loop μ-loop
-add-s c = search needs
-
-shared-slice-read-count-tlv : tie.Need-shared-slice-read-count-tlv Inv-loop μ-loop
-shared-slice-read-count-tlv c = search needs
-
-sub-count-tlv : tie.Need-sub-count-tlv Inv-loop μ-loop
-sub-count-tlv c = search needs
-
-part-count-tlv-start : tie.Need-part-count-tlv-start Inv-loop μ-loop
-part-count-tlv-start c = search needs
-
-part-count-tlv-end : tie.Need-part-count-tlv-end Inv-loop μ-loop
-part-count-tlv-end c = search needs
-
-count-tlv-requires : tie.Need-count-tlv-requires Inv-loop μ-loop
-count-tlv-requires c κs = search needs
-
-add-n : tie.Need-add-n Inv-loop μ-loop
-add-n c = search needs
-
-add-m : tie.Need-add-m Inv-loop μ-loop
-add-m c = search needs
-
-loop-less : tie.Need-loop-less Inv-loop μ-loop
-loop-less c = search needs
 
 loop-again : tie.Need-loop-again Inv-loop μ-loop
 loop-again c = (search needs, (search count-next, (search count-next, (search needs, search needs))))
@@ -65,16 +37,16 @@ count-tlvs-spec =
     Inv-loop
     μ-loop
     loop-holds
-    end-of-requires
+    (λ c κs. search needs)
     returns
-    add-s
-    shared-slice-read-count-tlv
-    sub-count-tlv
-    part-count-tlv-start
-    part-count-tlv-end
-    count-tlv-requires
-    add-n
-    add-m
-    loop-less
+    (λ c. search needs)
+    (λ c. search needs)
+    (λ c. search needs)
+    (λ c. search needs)
+    (λ c. search needs)
+    (λ c κs. search needs)
+    (λ c. search needs)
+    (λ c. search needs)
+    (λ c. search needs)
     loop-again
     returns-2)

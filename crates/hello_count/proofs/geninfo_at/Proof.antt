@@ -1,3 +1,5 @@
+-- `hello_count::geninfo_at` meets its contract: return by return.
+-- Assumes nothing.
 use Rattle.hello_count.proofs.Levels.{at-short, at-other, at-cut, at-body}
 use borrow.Author.Needs.{needs}
 use Rattle.hello_count.proofs.geninfo_at.Statement.{statement}
@@ -6,17 +8,8 @@ use Rattle.hello_count.proofs.geninfo_at.Tie as tie
 returns : tie.Need-returns
 returns c = (search at-short, search needs)
 
-be2-requires : tie.Need-be2-requires
-be2-requires c κs = search needs
-
 returns-2 : tie.Need-returns-2
 returns-2 c = (search at-other, search needs)
-
-shared-slice-read-geninfo-head : tie.Need-shared-slice-read-geninfo-head
-shared-slice-read-geninfo-head c = search needs
-
-geninfo-head-requires : tie.Need-geninfo-head-requires
-geninfo-head-requires c κs = search needs
 
 returns-3 : tie.Need-returns-3
 returns-3 c = (search at-cut, search needs)
@@ -29,9 +22,9 @@ geninfo-at-spec =
     tie.close
     (tie.spec
     returns
-    be2-requires
+    (λ c κs. search needs)
     returns-2
-    shared-slice-read-geninfo-head
-    geninfo-head-requires
+    (λ c. search needs)
+    (λ c κs. search needs)
     returns-3
     returns-4)

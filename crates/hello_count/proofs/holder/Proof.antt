@@ -1,3 +1,5 @@
+-- `hello_count::holder` meets its contract: return by return.
+-- Assumes nothing.
 use Rattle.hello_count.proofs.Levels.{by-22, by-23, by-others}
 use borrow.Author.Needs.{needs}
 use Rattle.hello_count.proofs.holder.Statement.{statement}

@@ -1,3 +1,5 @@
+-- `hello_count::parameters_numbers` meets its contract: return by return.
+-- Assumes nothing.
 use Rattle.hello_count.proofs.Subs.{numbers-22, zero-22}
 use borrow.Author.Needs.{needs}
 use Rattle.hello_count.proofs.parameters_numbers.Statement.{statement}

@@ -1,3 +1,5 @@
+-- `hello_fill::fill_sub` meets its contract: return by return.
+-- Assumes nothing.
 use Rattle.hello_fill.proofs.Subs.{other-put, other-end, bad-put, bad-end, put-some, put-room, words-sum, put-all, put-end}
 use native.Mathlib.Omega.{arith}
 use borrow.Author.Needs.{needs}
@@ -6,9 +8,6 @@ use Rattle.hello_fill.proofs.fill_sub.Tie as tie
 
 returns : tie.Need-returns
 returns c = (search other-put, search other-end)
-
-sub-numbers-requires : tie.Need-sub-numbers-requires
-sub-numbers-requires c κs = search needs
 
 returns-2 : tie.Need-returns-2
 returns-2 c = (search bad-put, search bad-end)
@@ -28,9 +27,6 @@ add-result c =
     let w = words-sum (a .kind) (a .j) (a .v .now) (a .out .now) (a .at) (c .before .before .before .before .before .before .if1 .left) _ (c .before .before .before .before .before .sub-numbers .ensures .0) in
     omega arith
 
-same-length : tie.Need-same-length
-same-length c = search needs
-
 returns-3 : tie.Need-returns-3
 returns-3 c = (search put-all, search put-end)
 
@@ -39,10 +35,10 @@ fill-sub-spec =
     tie.close
     (tie.spec
     returns
-    sub-numbers-requires
+    (λ c κs. search needs)
     returns-2
     put-sub-requires
     mul-result
     add-result
-    same-length
+    (λ c. search needs)
     returns-3)

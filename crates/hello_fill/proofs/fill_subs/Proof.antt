@@ -1,3 +1,5 @@
+-- `hello_fill::fill_subs` meets its contract. The invariant: the rest written behind what is there makes the whole.
+-- Assumes nothing.
 use Rattle.hello_fill.proofs.Subs.{stump-words}
 use Rattle.hello_fill.proofs.Walks.{rest, start-sum, start-whole, walk-cut, walk-cut-end, walk-room, walk-sum, walk-next, walk-done, walk-end}
 use Rattle.hello_fill.specs.Filling.{subWords}
@@ -20,41 +22,14 @@ abbrev μ-loop : tie.MeasureT-loop
 loop-holds : tie.Need-loop-holds Inv-loop μ-loop
 loop-holds c = (search needs, (refl, (search start-sum, search start-whole)))
 
-end-of-requires : tie.Need-end-of-requires Inv-loop μ-loop
-end-of-requires c κs = search needs
-
-same-length : tie.Need-same-length Inv-loop μ-loop
-same-length c = search needs
-
 returns : tie.Need-returns Inv-loop μ-loop
 returns c = (search (walk-cut, stump-words), search (walk-cut-end, stump-words))
-
-add-s : tie.Need-add-s Inv-loop μ-loop
-add-s c = search needs
-
-shared-slice-read-fill-sub : tie.Need-shared-slice-read-fill-sub Inv-loop μ-loop
-shared-slice-read-fill-sub c = search needs
-
-sub-fill-sub : tie.Need-sub-fill-sub Inv-loop μ-loop
-sub-fill-sub c = search needs
-
-part-fill-sub-start : tie.Need-part-fill-sub-start Inv-loop μ-loop
-part-fill-sub-start c = search needs
-
-part-fill-sub-end : tie.Need-part-fill-sub-end Inv-loop μ-loop
-part-fill-sub-end c = search needs
 
 fill-sub-requires : tie.Need-fill-sub-requires Inv-loop μ-loop
 fill-sub-requires c κs = search (walk-room (subWords (c .before .before .before .before .before .before .before .before .before .args .kind)))
 
-loop-less : tie.Need-loop-less Inv-loop μ-loop
-loop-less c = search needs
-
 loop-again : tie.Need-loop-again Inv-loop μ-loop
 loop-again c = (search needs, (search needs, (search walk-sum, search walk-next)))
-
-same-length-2 : tie.Need-same-length-2 Inv-loop μ-loop
-same-length-2 c = search needs
 
 returns-2 : tie.Need-returns-2 Inv-loop μ-loop
 returns-2 c = (search walk-done, search walk-end)
@@ -66,16 +41,16 @@ fill-subs-spec =
     Inv-loop
     μ-loop
     loop-holds
-    end-of-requires
-    same-length
+    (λ c κs. search needs)
+    (λ c. search needs)
     returns
-    add-s
-    shared-slice-read-fill-sub
-    sub-fill-sub
-    part-fill-sub-start
-    part-fill-sub-end
+    (λ c. search needs)
+    (λ c. search needs)
+    (λ c. search needs)
+    (λ c. search needs)
+    (λ c. search needs)
     fill-sub-requires
-    loop-less
+    (λ c. search needs)
     loop-again
-    same-length-2
+    (λ c. search needs)
     returns-2)

@@ -1,3 +1,5 @@
+-- `hello_fill::fill_tlvs` meets its contract. The invariant: the rest written behind what is there makes the whole.
+-- Assumes nothing.
 use Rattle.hello_fill.proofs.Subs.{tlv-stump-words}
 use Rattle.hello_fill.proofs.Walks.{rest, start-sum, start-whole, walk-cut, walk-cut-end, walk-room, walk-sum, walk-next, walk-done, walk-end}
 use Rattle.hello_fill.specs.Filling.{tlvWords}
@@ -20,41 +22,14 @@ abbrev μ-loop : tie.MeasureT-loop
 loop-holds : tie.Need-loop-holds Inv-loop μ-loop
 loop-holds c = (search needs, (refl, (search start-sum, search start-whole)))
 
-end-of-requires : tie.Need-end-of-requires Inv-loop μ-loop
-end-of-requires c κs = search needs
-
-same-length : tie.Need-same-length Inv-loop μ-loop
-same-length c = search needs
-
 returns : tie.Need-returns Inv-loop μ-loop
 returns c = (search (walk-cut, tlv-stump-words), search (walk-cut-end, tlv-stump-words))
-
-add-s : tie.Need-add-s Inv-loop μ-loop
-add-s c = search needs
-
-shared-slice-read-fill-tlv : tie.Need-shared-slice-read-fill-tlv Inv-loop μ-loop
-shared-slice-read-fill-tlv c = search needs
-
-sub-fill-tlv : tie.Need-sub-fill-tlv Inv-loop μ-loop
-sub-fill-tlv c = search needs
-
-part-fill-tlv-start : tie.Need-part-fill-tlv-start Inv-loop μ-loop
-part-fill-tlv-start c = search needs
-
-part-fill-tlv-end : tie.Need-part-fill-tlv-end Inv-loop μ-loop
-part-fill-tlv-end c = search needs
 
 fill-tlv-requires : tie.Need-fill-tlv-requires Inv-loop μ-loop
 fill-tlv-requires c κs = search (walk-room (tlvWords (c .before .before .before .before .before .before .before .before .before .args .kind)))
 
-loop-less : tie.Need-loop-less Inv-loop μ-loop
-loop-less c = search needs
-
 loop-again : tie.Need-loop-again Inv-loop μ-loop
 loop-again c = (search needs, (search needs, (search walk-sum, search walk-next)))
-
-same-length-2 : tie.Need-same-length-2 Inv-loop μ-loop
-same-length-2 c = search needs
 
 returns-2 : tie.Need-returns-2 Inv-loop μ-loop
 returns-2 c = (search walk-done, search walk-end)
@@ -66,16 +41,16 @@ fill-tlvs-spec =
     Inv-loop
     μ-loop
     loop-holds
-    end-of-requires
-    same-length
+    (λ c κs. search needs)
+    (λ c. search needs)
     returns
-    add-s
-    shared-slice-read-fill-tlv
-    sub-fill-tlv
-    part-fill-tlv-start
-    part-fill-tlv-end
+    (λ c. search needs)
+    (λ c. search needs)
+    (λ c. search needs)
+    (λ c. search needs)
+    (λ c. search needs)
     fill-tlv-requires
-    loop-less
+    (λ c. search needs)
     loop-again
-    same-length-2
+    (λ c. search needs)
     returns-2)

@@ -1,3 +1,5 @@
+-- `hello_fill::put_section` meets its contract: the count, and the numbers behind it.
+-- Assumes nothing.
 use Rattle.hello_fill.proofs.Subs.{count-room, rest-room, section-put, section-end}
 use borrow.Author.Needs.{needs}
 use Rattle.hello_fill.proofs.put_section.Statement.{statement}
@@ -6,18 +8,12 @@ use Rattle.hello_fill.proofs.put_section.Tie as tie
 put-word-requires : tie.Need-put-word-requires
 put-word-requires c κs = search count-room
 
-add-fill-tlvs : tie.Need-add-fill-tlvs
-add-fill-tlvs c = search needs
-
 fill-tlvs-requires : tie.Need-fill-tlvs-requires
 fill-tlvs-requires c κs = search rest-room
-
-same-length : tie.Need-same-length
-same-length c = search needs
 
 returns : tie.Need-returns
 returns c = (search section-put, search section-end)
 
 pub put-section-spec : {M : Type 1} → statement M
 put-section-spec =
-    tie.close (tie.spec put-word-requires add-fill-tlvs fill-tlvs-requires same-length returns)
+    tie.close (tie.spec put-word-requires (λ c. search needs) fill-tlvs-requires (λ c. search needs) returns)

@@ -1,3 +1,5 @@
+-- `hello_read::put_sections` meets its contract: each section starts where the one before it ends.
+-- Assumes nothing.
 use Rattle.hello_read.proofs.Laws.{all-length, room-22, room-6, sections-put, sections-end}
 use Rattle.hello.specs.Reading.{items}
 use native.Mathlib.Omega.{arith}
@@ -17,9 +19,6 @@ put-section-requires-3 c κs = (search needs, (let n = all-length (items (c .bef
 put-section-requires-4 : tie.Need-put-section-requires-4
 put-section-requires-4 c κs = (search needs, (let n = all-length (items (c .before .before .before .before .before .before .before .before .before .before .before .before .before .before .before .args .l .now)) in omega arith))
 
-same-length : tie.Need-same-length
-same-length c = search needs
-
 returns : tie.Need-returns
 returns c = (search sections-put, search sections-end)
 
@@ -31,5 +30,5 @@ put-sections-spec =
     put-section-requires-2
     put-section-requires-3
     put-section-requires-4
-    same-length
+    (λ c. search needs)
     returns)

@@ -1,3 +1,5 @@
+-- `hello_words::put_records` meets its contract. The invariant: the rest written behind what is there makes the whole.
+-- Assumes nothing.
 use Rattle.hello_words.proofs.Parts.{Left, records-none, records-next, records-done}
 use Rattle.hello_words.specs.Words.{recordWords}
 use Rattle.frame_copy.specs.Areas.{pasted}
@@ -19,29 +21,8 @@ abbrev μ-loop : tie.MeasureT-loop
 loop-holds : tie.Need-loop-holds Inv-loop μ-loop
 loop-holds c = (search needs, (refl, search records-none))
 
-mul-put-record : tie.Need-mul-put-record Inv-loop μ-loop
-mul-put-record c = search needs
-
-mul-put-record-2 : tie.Need-mul-put-record-2 Inv-loop μ-loop
-mul-put-record-2 c = search needs
-
-add-put-record : tie.Need-add-put-record Inv-loop μ-loop
-add-put-record c = search needs
-
-put-record-requires : tie.Need-put-record-requires Inv-loop μ-loop
-put-record-requires c κs = search needs
-
-add-i : tie.Need-add-i Inv-loop μ-loop
-add-i c = search needs
-
-loop-less : tie.Need-loop-less Inv-loop μ-loop
-loop-less c = search needs
-
 loop-again : tie.Need-loop-again Inv-loop μ-loop
 loop-again c = (search needs, (search needs, search records-next))
-
-same-length : tie.Need-same-length Inv-loop μ-loop
-same-length c = search needs
 
 returns : tie.Need-returns Inv-loop μ-loop
 returns c = search records-done
@@ -53,12 +34,12 @@ put-records-spec =
     Inv-loop
     μ-loop
     loop-holds
-    mul-put-record
-    mul-put-record-2
-    add-put-record
-    put-record-requires
-    add-i
-    loop-less
+    (λ c. search needs)
+    (λ c. search needs)
+    (λ c. search needs)
+    (λ c κs. search needs)
+    (λ c. search needs)
+    (λ c. search needs)
     loop-again
-    same-length
+    (λ c. search needs)
     returns)

@@ -1,3 +1,5 @@
+-- `hello_words::put_word` meets its contract: the part is filled, and the rest stays.
+-- Assumes nothing.
 use Rattle.frame_copy.proofs.Copying.{part-pasted}
 use Rattle.frame_copy.specs.Areas.{pasted}
 use Rattle.numbers.proofs.Bytes.{length-bytesOf}
@@ -10,24 +12,6 @@ use borrow.Author.Needs.{needs}
 use Rattle.hello_words.proofs.put_word.Statement.{statement}
 use Rattle.hello_words.proofs.put_word.Tie as tie
 
-add-e : tie.Need-add-e
-add-e c = search needs
-
-sub-fill8 : tie.Need-sub-fill8
-sub-fill8 c = search needs
-
-part-fill8-start : tie.Need-part-fill8-start
-part-fill8-start c = search needs
-
-part-fill8-end : tie.Need-part-fill8-end
-part-fill8-end c = search needs
-
-fill8-requires : tie.Need-fill8-requires
-fill8-requires c κs = search needs
-
-same-length : tie.Need-same-length
-same-length c = search needs
-
 returns : tie.Need-returns
 returns c =
     let a = c .before .before .before .before .before .args in
@@ -38,4 +22,4 @@ returns c =
 pub put-word-spec : {M : Type 1} → statement M
 put-word-spec =
     tie.close
-    (tie.spec add-e sub-fill8 part-fill8-start part-fill8-end fill8-requires same-length returns)
+    (tie.spec (λ c. search needs) (λ c. search needs) (λ c. search needs) (λ c. search needs) (λ c κs. search needs) (λ c. search needs) returns)
