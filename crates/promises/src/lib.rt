@@ -24,6 +24,9 @@ ghost use Rattle.receive.specs.Order.{ReadsExactly};
 ghost use Rattle.ingress.specs.Cases.{MapCases};
 ghost use Rattle.ingress.specs.Claims.{IngressRefusal, MapRoundTrip};
 ghost use Rattle.watch.specs.Claims.{StopNeverShortened, StopRunsOut, SendingWhileStopped, RefusedWatchStays, WatchCases};
+ghost use Rattle.hello.specs.Cases.{CasesHold};
+ghost use Rattle.hello.specs.Claims.{WrittenHelloReads, ReadIsWritable, ReadHelloWrites, WrittenAreBytes, WrittenIsPlain, AreaIs};
+ghost use Rattle.hello.specs.Calls.{CallsUndo, HelloRefusal};
 ghost use Rattle.promises.specs.Cases.{Cases, ControlCases};
 ghost use Rattle.promises.specs.Claims.{RefusalChangesNothing, HomesStayApart, SpoiltStays, ConfiguredStays};
 ghost use Rattle.promises.specs.Example.{InterchangeExample};
@@ -40,4 +43,5 @@ pub fn claims()
     ensures laws { λ _. ⌜ Blocks × Maps × UnpackPacked × PackUnpacked × KeptWritesNothing × HeaderLocal × LabelLocal × LabelsGood × ReadsSame × ReadsParsed ⌝ }
     ensures writing { λ _. ⌜ WriterExact × WriterClears × WriterLength × WriterCalls × WriterCases ⌝ }
     ensures watching { λ _. ⌜ StopNeverShortened × StopRunsOut × SendingWhileStopped × RefusedWatchStays × WatchCases ⌝ }
+    ensures hellos { λ _. ⌜ WrittenHelloReads × ReadHelloWrites × ReadIsWritable × WrittenAreBytes × WrittenIsPlain × AreaIs × CallsUndo × HelloRefusal × CasesHold ⌝ }
 {}

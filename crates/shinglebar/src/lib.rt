@@ -15,6 +15,8 @@ ghost use Rattle.portions.specs.Portion.{portioned};
 ghost use Rattle.portions.specs.Words.{portionWord};
 ghost use Rattle.flush_write.specs.Areas.{flushWritten};
 ghost use Rattle.flush_write.specs.Words.{writeWord};
+ghost use Rattle.hello.specs.Calls.{readCall};
+ghost use Rattle.hello.specs.Words.{helloWord};
 ghost use Rattle.receive.specs.Receive.{portReceived, received};
 ghost use Rattle.receive.specs.Words.{readWord, LabelFits};
 ghost use Rattle.receive.specs.declared.ReadAnswer.the-variants.{Delivered};
@@ -30,6 +32,7 @@ use convert_expand::Outer;
 use flush::FlushAnswer;
 use flush_write::WriteAnswer;
 use frame::Settings;
+use hello::HelloAnswer;
 use ingress::Given;
 use portions::PortionAnswer;
 use receive::ReadAnswer;
@@ -448,4 +451,21 @@ pub extern "C" fn shinglebar_write_flush(
     ensures { λ r. ⌜ onArea r (now (out .exit)) ≡ areaAs writeWord (flushWritten (now (nicknames .entry)) (now (vlans .entry)) (now (fine .entry)) (now (macs .entry)) (now (out .entry))) ⌝ }
 {
     write_word(flush_write_call::write_flush(nicknames, vlans, fine, macs, out))
+}
+
+// The length of a Smart-Hello's contents has 56 bits in the word.
+fn hello_word(a: HelloAnswer) -> u64
+    ensures { λ r. ⌜ r ≡ helloWord a ⌝ }
+{
+    match a {
+        HelloAnswer::Refused(n) => n as u64,
+        HelloAnswer::Written(k) => 64 + k as u64 % 0x100_0000_0000_0000 * 0x100,
+    }
+}
+
+#[no_mangle]
+pub extern "C" fn shinglebar_hello_read(payload: &[u8], contents: &mut [u8]) -> u64
+    ensures { λ r. ⌜ onArea r (now (contents .exit)) ≡ areaAs helloWord (readCall (now (payload .entry)) (now (contents .entry))) ⌝ }
+{
+    hello_word(hello_read::hello_read(payload, contents))
 }

@@ -45,6 +45,14 @@ use Rattle.watch.proofs.Sends.{sending-while-stopped, refused-watch-stays}
 use Rattle.ingress.proofs.Worked.{map-cases, ingress-refusal}
 use Rattle.ingress.proofs.Trip.{map-round-trip}
 use Rattle.promises.specs.Claims.{RefusalChangesNothing, HomesStayApart, SpoiltStays, ConfiguredStays}
+use Rattle.hello.proofs.Worked as worked
+use Rattle.hello.proofs.RoundTrip.{written-hello-reads}
+use Rattle.hello.proofs.Bounds.{read-is-writable}
+use Rattle.hello.proofs.Saying.{read-hello-writes}
+use Rattle.hello.proofs.Written.{written-are-bytes}
+use Rattle.hello.proofs.Exact.{written-is-plain}
+use Rattle.hello.proofs.Areas.{area-is}
+use Rattle.hello.proofs.Calls.{calls-undo, hello-refusal}
 use Rattle.promises.proofs.Cases.{cases-hold, control-cases}
 use Rattle.promises.proofs.Example.{example-holds}
 use Rattle.promises.proofs.Homes.{none-as-before, marked-read}
@@ -90,7 +98,10 @@ returns c = (
             (blocks-hold, maps-hold, unpack-packed, pack-unpacked, kept-writes-nothing, header-local, label-local, labels-good, reads-same, reads-parsed),
             (
               (writer-exact, writer-clears, writer-length, writer-calls, writer-cases),
-              (stop-never-shortened, stop-runs-out, sending-while-stopped, refused-watch-stays, watch-cases),
+              (
+                (stop-never-shortened, stop-runs-out, sending-while-stopped, refused-watch-stays, watch-cases),
+                (written-hello-reads, read-hello-writes, read-is-writable, written-are-bytes, written-is-plain, area-is, calls-undo, hello-refusal, worked.cases-hold),
+              ),
             ),
           ),
         ),

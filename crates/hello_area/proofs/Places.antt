@@ -1,0 +1,99 @@
+-- Where a taker ends, by the place where it starts: takers one behind the other, and many of one.
+-- Assumes nothing.
+use Prim.Native.Nat.{ℕ, zero, suc, _+_, _-_, _*_, _/_, _%_, _<_, _≤_}
+use mathlib.Core.Bool.{Bool, true, false}
+use mathlib.Core.List.{List, [], _∷_, _++_, map, flatMap}
+use mathlib.Core.Path.{_≡_, refl, sym, ap, _∙_}
+use native.Mathlib.Omega.{arith}
+use native.Mathlib.Numerals.{add-one}
+use lib.Dec.{leb, ltb, eqb}
+use lib.ListN.{length, take, drop, getD, length-drop}
+use lib.Seq.{drop-drop, drop-cons}
+use borrow.Author.Tests.{le-leb, lt-leb}
+use Rattle.numbers.specs.Tests.{pick, both}
+use Rattle.numbers.specs.Result.{Result, refused, got, check, andThen}
+use Rattle.numbers.proofs.Answers.{refused-got, got-got, then-got, check-got}
+use Rattle.hello.specs.Pieces.{Sub}
+use Rattle.hello.specs.Area.{Taken, Taker, taken, takeOne, then, takeMany, takeCounted, takeParameters, takeNickname}
+use Rattle.hello_area.specs.Entries.{via, Label, takeLabel, takeHead, takeItem, takeList, takeSub, takeBoth, takeSubs, endIn, endFrom}
+
+-- ---- what is left is the end of what there was
+
+pub record Ends (l r : List ℕ) : Type 0 where
+  pub short : length r ≤ length l
+  pub is : r ≡ drop (length l - length r) l
+
+abbrev pub Suffix : {A : Type 0} → Taker A → Type 0
+Suffix {A} p = (l : List ℕ) (t : Taken A) → p l ≡ got t → Ends l (t .rest)
+
+drop-zero : (l : List ℕ) (n : ℕ) → n ≡ 0 → l ≡ drop n l
+drop-zero l n e = rw e
+
+ends-same : (l : List ℕ) → Ends l l
+ends-same l = record { short = omega arith; is = drop-zero l (length l - length l) (omega arith) }
+
+ends-on : (l m r : List ℕ) → Ends l m → Ends m r → Ends l r
+ends-on l m r a b =
+    let x = a .short in
+    let y = b .short in
+    let n : length l - length m + (length m - length r) ≡ length l - length r = omega arith in
+    record { short = omega arith; is = b .is ∙ ap (drop (length m - length r)) (a .is) ∙ drop-drop (length m - length r) (length l - length m) l ∙ ap (λ (k : ℕ). drop k l) n }
+
+pub suffix-taken : {A : Type 0} (x : A) → Suffix (taken x)
+suffix-taken x l t e = rw (ap (λ (s : Taken _). s .rest) (sym (got-got (record { value = x; rest = l }) t e))) (ends-same l)
+
+pub suffix-one : Suffix takeOne
+unfolding takeOne
+suffix-one [] t e = refused-got 25 t e
+suffix-one (n ∷ r) t e =
+    let d : n ∷ r ≡ n ∷ r = refl in
+    rw (ap (λ (s : Taken ℕ). s .rest) (sym (got-got (record { value = n; rest = r }) t e))) (record { short = omega arith; is = one-off n r (length (n ∷ r) - length r) (omega arith) })
+  where
+    one-off : (n : ℕ) (r : List ℕ) (k : ℕ) → k ≡ 1 → r ≡ drop k (n ∷ r)
+    one-off n r k e = rw e
+
+pub suffix-then : {A B : Type 0} (p : Taker A) (k : A → Taker B) → Suffix p → ((x : A) → Suffix (k x)) → Suffix (then p k)
+unfolding then
+suffix-then p k a b l t e =
+    let s = then-got (p l) _ t e in
+    ends-on l (s .0 .rest) (t .rest) (a l (s .0) (s .1)) (b (s .0 .value) (s .0 .rest) t (s .2))
+
+pub suffix-many : {A : Type 0} (p : Taker A) → Suffix p → (n : ℕ) → Suffix (takeMany p n)
+unfolding takeMany
+suffix-many p s zero = suffix-taken []
+suffix-many p s (suc n) = suffix-then p _ s (λ x. suffix-then (takeMany p n) _ (suffix-many p s n) (λ xs. suffix-taken (x ∷ xs)))
+
+pub suffix-counted : {A : Type 0} (p : Taker A) → Suffix p → Suffix (takeCounted p)
+unfolding takeCounted
+suffix-counted p s = suffix-then takeOne (takeMany p) suffix-one (λ n. suffix-many p s n)
+
+pub suffix-via : {A B : Type 0} (p : Taker A) (g : A → Bool) (f : A → B) → Suffix p → Suffix (via p g f)
+unfolding via
+suffix-via p g f s l t e =
+    let a = then-got (p l) _ t e in
+    let b = check-got (g (a .0 .value)) 25 _ t (a .2) in
+    rw (ap (λ (x : Taken _). x .rest) (sym (got-got (record { value = f (a .0 .value); rest = a .0 .rest }) t (b .1)))) (s l (a .0) (a .1))
+
+-- ---- one behind the other
+
+-- where the second ends, if the first does not refuse
+module _ {A B C : Type 0} (ns : List ℕ) (i : ℕ) (inside : i ≤ length ns) (p : Taker A) (s : Suffix p) (q : Taker B) (h : A → B → C) where
+  rest-at : (t : Taken A) → p (drop i ns) ≡ got t → (length ns - length (t .rest) ≤ length ns) × (t .rest ≡ drop (length ns - length (t .rest)) ns)
+  rest-at t e =
+      let d = length-drop i ns in
+      let w = s (drop i ns) t e in
+      let x = w .short in
+      let n : i + (length (drop i ns) - length (t .rest)) ≡ length ns - length (t .rest) = omega arith in
+      (omega arith, w .is ∙ drop-drop (length (drop i ns) - length (t .rest)) i ns ∙ ap (λ (k : ℕ). drop k ns) n)
+
+  both-end : (z : Result (Taken A)) → p (drop i ns) ≡ z
+      → endIn ns (andThen z λ t. andThen (q (t .rest)) λ u. taken (h (t .value) (u .value)) (u .rest)) ≡ pick (leb (endIn ns z) (length ns)) (endFrom q ns (endIn ns z)) (1 + length ns)
+  unfolding andThen pick endFrom
+  both-end (refused m) e = rw (lt-leb (1 + length ns) (length ns) (omega arith))
+  both-end (got t) e =
+      let w = rest-at t e in
+      rw (le-leb (length ns - length (t .rest)) (length ns) (w .0)) (last (q (t .rest)) ∙ ap (λ (l : List ℕ). endIn ns (q l)) (w .1))
+    where
+      last : (y : Result (Taken B)) → endIn ns (andThen y λ u. taken (h (t .value) (u .value)) (u .rest)) ≡ endIn ns y
+      last (refused m) = refl
+      last (got u) = refl

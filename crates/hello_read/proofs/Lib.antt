@@ -1,0 +1,2 @@
+-- Laws of the reading call.
+pub mod Laws

@@ -1,0 +1,46 @@
+-- `hello_words::put_macs` meets its contract. The invariant: the rest written behind what is there makes the whole.
+-- Assumes nothing.
+use Rattle.hello_words.proofs.Parts.{Left, macs-none, macs-next, macs-done}
+use Rattle.hello_words.specs.Words.{numberWord}
+use Rattle.frame_copy.specs.Areas.{pasted}
+use Rattle.numbers.specs.Bytes.{parts}
+use lib.ListN.{length}
+use mathlib.Core.Path.{_≡_, refl}
+use mathlib.Core.List.{flatMap}
+use Prim.Native.Nat.{_-_, _≤_}
+use borrow.Author.Needs.{needs}
+use Rattle.hello_words.proofs.put_macs.Statement.{statement}
+use Rattle.hello_words.proofs.put_macs.Tie as tie
+
+abbrev Inv-loop : tie.InvT-loop
+Inv-loop v out₀ at n i₀ out i = (i ≤ n) × ((length out ≡ length out₀) × (Left 6 8 numberWord v at out i ≡ pasted out₀ at (flatMap numberWord (parts 6 v))))
+
+abbrev μ-loop : tie.MeasureT-loop
+μ-loop v out₀ at n i₀ out i = n - i
+
+loop-holds : tie.Need-loop-holds Inv-loop μ-loop
+loop-holds c = (search needs, (refl, search macs-none))
+
+loop-again : tie.Need-loop-again Inv-loop μ-loop
+loop-again c = (search needs, (search needs, search macs-next))
+
+returns : tie.Need-returns Inv-loop μ-loop
+returns c = search macs-done
+
+pub put-macs-spec : {M : Type 1} → statement M
+put-macs-spec =
+    tie.close
+    (tie.spec
+    Inv-loop
+    μ-loop
+    loop-holds
+    (λ c. search needs)
+    (λ c κs. search needs)
+    (λ c. search needs)
+    (λ c. search needs)
+    (λ c κs. search needs)
+    (λ c. search needs)
+    (λ c. search needs)
+    loop-again
+    (λ c. search needs)
+    returns)

@@ -1,0 +1,27 @@
+-- `hello_words::put_record` meets its contract: return by return.
+-- Assumes nothing.
+use Rattle.hello_words.proofs.Words.{record-put}
+use borrow.Author.Needs.{needs}
+use Rattle.hello_words.proofs.put_record.Statement.{statement}
+use Rattle.hello_words.proofs.put_record.Tie as tie
+
+returns : tie.Need-returns
+returns c = search record-put
+
+pub put-record-spec : {M : Type 1} → statement M
+put-record-spec =
+    tie.close
+    (tie.spec
+    (λ c. search needs)
+    (λ c κs. search needs)
+    (λ c κs. search needs)
+    (λ c. search needs)
+    (λ c κs. search needs)
+    (λ c. search needs)
+    (λ c κs. search needs)
+    (λ c. search needs)
+    (λ c κs. search needs)
+    (λ c. search needs)
+    (λ c κs. search needs)
+    (λ c. search needs)
+    returns)
