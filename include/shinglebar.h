@@ -25,8 +25,8 @@
  *
  * - An area that a call writes (output, working area, and the table of receive, receive_port, age and every
  *   flush) may not be used by another thread until the call has returned. A table that threads share needs
- *   a lock of theirs: shared for lookup, spoilt, free slot and widen, exclusive for receive, receive_port,
- *   age and every flush.
+ *   a lock of theirs: shared for lookup, spoilt, free slot, widen and why, exclusive for receive,
+ *   receive_port, age and every flush.
  * - A thread needs SHINGLEBAR_STACK_MAX bytes of stack for a call, beside its own. There is no heap.
  *
  * Bridge messages. A frame with 01-80-C2-00-00-00 to 0F or 21 in front answers 5 in receive, with Compact
@@ -63,6 +63,9 @@
 #define SHINGLEBAR_COMPACT_LENGTH_MAX 9204
 /* The longest payload that is written: an output area in which every one has room. */
 #define SHINGLEBAR_WRITTEN_LENGTH_MAX 6172
+
+/* The highest place of a TLV that shinglebar_why shows: only payloads of over 8 MB have a higher one. */
+#define SHINGLEBAR_PLACE_MAX 4194303u
 
 /* The bytes of a pair of a map, and of the longest map that is good: a pair for each VLAN. */
 #define SHINGLEBAR_PAIR_LENGTH 6
@@ -143,6 +146,18 @@ enum shinglebar_flush_kind {
 enum shinglebar_flush_portion_kind {
     /* shinglebar_count, _next_slot, _examined */
     SHINGLEBAR_FLUSH_PORTION_DONE = 64
+};
+
+/* The first reason that applies, in this order. */
+enum shinglebar_why_kind {
+    SHINGLEBAR_WHY_FREE = 64,
+    SHINGLEBAR_WHY_SPOILT = 65,
+    SHINGLEBAR_WHY_CONFIGURED = 66,
+    SHINGLEBAR_WHY_NICKNAME_NOT_MEANT = 67,
+    SHINGLEBAR_WHY_LABEL_NOT_MEANT = 68,
+    SHINGLEBAR_WHY_MAC_NOT_MEANT = 69,
+    /* shinglebar_is_sender, _nickname_place, _label_is_by_tlv, _label_place, _is_every_mac, _mac_place */
+    SHINGLEBAR_WHY_CLEARED = 70
 };
 
 enum shinglebar_compact_kind {
@@ -365,6 +380,14 @@ uint64_t shinglebar_flush_vlan_only(uint32_t ingress, const uint8_t *payload, si
 uint64_t shinglebar_flush_portion(uint32_t ingress, const uint8_t *payload, size_t payload_len,
                                   uint64_t slot, uint64_t k, uint8_t *table, size_t table_len);
 
+/* Why that flush clears the record of a slot, or leaves it: the first reason of enum shinglebar_why_kind that
+ * applies, and of a record that is cleared what brings it: the first listed nickname that matches, or the
+ * sender; the first VLAN block or TLV that brings the label (type 6 brings every label); the first TLV that
+ * brings the MAC, or every MAC where none was gathered. Places count from 0 among the nicknames, the VLAN
+ * blocks or all TLVs, skipped ones too; a padding byte has none. Nothing is changed. */
+uint64_t shinglebar_why(uint32_t ingress, const uint8_t *payload, size_t payload_len, uint64_t slot,
+                        const uint8_t *table, size_t table_len);
+
 /* Reads one Ethernet frame without FCS: delivers a native frame and learns its source, or carries out
  * a flush. */
 uint64_t shinglebar_receive(uint64_t port, uint64_t inner, uint32_t nickname, uint32_t compact,
@@ -506,6 +529,43 @@ static inline unsigned shinglebar_next_slot(uint64_t result)
 static inline unsigned shinglebar_examined(uint64_t result)
 {
     return (unsigned)((result >> 40) & 0xFFFFu);
+}
+
+/* Of SHINGLEBAR_WHY_CLEARED: 1 if K-nicks is 0 and the sender's nickname matched, 0 if a listed one did. */
+static inline int shinglebar_is_sender(uint64_t result)
+{
+    return (int)((result >> 16) & 0x1u);
+}
+
+/* Of SHINGLEBAR_WHY_CLEARED: the place of the nickname in the list, or 0 with the sender. */
+static inline unsigned shinglebar_nickname_place(uint64_t result)
+{
+    return (unsigned)((result >> 8) & 0xFFu);
+}
+
+/* Of SHINGLEBAR_WHY_CLEARED: 1 if a TLV brings the label, 0 if a VLAN block behind K-VLBs does. */
+static inline int shinglebar_label_is_by_tlv(uint64_t result)
+{
+    return (int)((result >> 17) & 0x1u);
+}
+
+/* Of SHINGLEBAR_WHY_CLEARED: the place of that TLV or block. One over 4,194,303 shows as that. */
+static inline uint32_t shinglebar_label_place(uint64_t result)
+{
+    return (uint32_t)((result >> 18) & SHINGLEBAR_PLACE_MAX);
+}
+
+/* Of SHINGLEBAR_WHY_CLEARED: 1 if no MAC was gathered, so that every MAC is meant, else 0. */
+static inline int shinglebar_is_every_mac(uint64_t result)
+{
+    return (int)(result >> 63);
+}
+
+/* Of SHINGLEBAR_WHY_CLEARED: the place of the TLV that brings the MAC, or 0 with every MAC. One over
+ * 4,194,303 shows as that. */
+static inline uint32_t shinglebar_mac_place(uint64_t result)
+{
+    return (uint32_t)((result >> 40) & SHINGLEBAR_PLACE_MAX);
 }
 
 /* Of SHINGLEBAR_COMPACT_WRITTEN, SHINGLEBAR_EXPAND_WRITTEN, SHINGLEBAR_INGRESS_WRITTEN,
@@ -717,6 +777,13 @@ static inline uint64_t shinglebar_flush_portion_any(uint32_t ingress, const uint
 {
     return shinglebar_flush_portion(ingress, shinglebar_const_area(payload, payload_len), payload_len,
                                     slot, k, shinglebar_area(table, table_len), table_len);
+}
+
+static inline uint64_t shinglebar_why_any(uint32_t ingress, const uint8_t *payload, size_t payload_len,
+                                          uint64_t slot, const uint8_t *table, size_t table_len)
+{
+    return shinglebar_why(ingress, shinglebar_const_area(payload, payload_len), payload_len, slot,
+                          shinglebar_const_area(table, table_len), table_len);
 }
 
 /* By shinglebar_receive_port. */

@@ -94,6 +94,15 @@ extern "C" {
         table_len: usize,
     ) -> u64;
 
+    pub fn shinglebar_why(
+        ingress: u32,
+        payload: *const u8,
+        payload_len: usize,
+        slot: u64,
+        table: *const u8,
+        table_len: usize,
+    ) -> u64;
+
     pub fn shinglebar_compact(
         port: u64,
         inner: u64,

@@ -13,6 +13,7 @@
 //! | [`flush`] | carries out the payload of an Address Flush |
 //! | [`flush_portion`] | carries out a portion of it, at most so many slots |
 //! | [`flush_vlan_only`] | carries it out as the VLAN-only model does |
+//! | [`why`] | says why a flush clears the record of a slot, or leaves it |
 //! | [`compact`], [`expand`] | convert between General and Compact Format |
 //! | [`send`] | chooses what to send to a far port |
 //! | [`send_watched`], [`Watch`] | the same at a port that stops compacting when the link looks shared |
@@ -72,7 +73,8 @@ mod write;
 
 pub use answer::{
     decode, encode, Aged, Answer, Compacted, Expanded, Flushed, Found, FreeSlot, Ingressed,
-    Learning, Portioned, Received, ReceivedAtPort, Sent, Spoilt, UnknownWord, Widened, Written,
+    LabelBy, Learning, MacBy, NicknameBy, Portioned, Received, ReceivedAtPort, Sent, Spoilt,
+    UnknownWord, Why, Widened, Written,
 };
 pub use refusal::Refusal;
 pub use values::{CampusLabel, Encapsulation, Label, Mac, Outer, Pair, PortVlan, Settings};
@@ -94,6 +96,8 @@ pub const OLD_TABLE_LENGTH_MAX: usize = 57_344;
 pub const FRAME_LENGTH_MAX: usize = 9216;
 /// The bytes of a working area in which every compaction has room.
 pub const COMPACT_LENGTH_MAX: usize = 9204;
+/// The highest place of a TLV that [`why`] shows: only payloads of over 8 MB have a higher one.
+pub const PLACE_MAX: u32 = 4_194_303;
 /// The bytes of the longest payload that is written: an output area in which every one has room.
 pub const WRITTEN_LENGTH_MAX: usize = 6172;
 
@@ -317,6 +321,43 @@ pub fn flush_portion(
         payload,
         u64::from(slot),
         u64::from(k),
+        table,
+    ))
+}
+
+/// Why an Address Flush clears the record of a slot, or leaves it: the first reason that applies, and of a
+/// record that is cleared what brings its nickname, its label and its MAC. Nothing is changed.
+///
+/// ```
+/// use shinglebar::{LabelBy, MacBy, NicknameBy, Refusal, Why};
+///
+/// // Learned: VLAN 10, 02-00-00-00-00-01, nickname 1234; and a free slot.
+/// let mut table = [0; 2 * shinglebar::RECORD_LENGTH];
+/// table[..14].copy_from_slice(&[
+///     0x40, 0x00, 0x01, 0x40, 0x40, 0x00, 0x00, 0x00, 0x00, 0x22, 0x46, 0x82, 0x81, 0x2C,
+/// ]);
+/// // Two nicknames; two blocks, the VLANs 20 to 29 and 10 to 12.
+/// let payload = [
+///     0x02, 0x56, 0x78, 0x12, 0x34, 0x02, 0x00, 0x14, 0x00, 0x1D, 0x00, 0x0A, 0x00, 0x0C,
+/// ];
+/// let cleared = Why::Cleared {
+///     nickname: NicknameBy::Listed(1),
+///     label: LabelBy::Block(1),
+///     mac: MacBy::Every,
+/// };
+/// assert_eq!(shinglebar::why(0x0102, &payload, 0, &table), Ok(cleared));
+/// assert_eq!(shinglebar::why(0x0102, &payload, 1, &table), Ok(Why::Free));
+/// assert_eq!(shinglebar::why(0x0102, &payload, 2, &table), Err(Refusal::Portion));
+/// // No nickname is listed, and the sender is another.
+/// let other = shinglebar::why(0x0102, &[0x00, 0x00, 0x06, 0x00], 0, &table);
+/// assert_eq!(other, Ok(Why::NicknameNotMeant));
+/// ```
+#[inline]
+pub fn why(ingress: u16, payload: &[u8], slot: u16, table: &[u8]) -> Result<Why, Refusal> {
+    answered(raw::why(
+        u32::from(ingress),
+        payload,
+        u64::from(slot),
         table,
     ))
 }

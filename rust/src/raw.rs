@@ -206,6 +206,22 @@ pub fn flush_portion(ingress: u32, payload: &[u8], slot: u64, k: u64, table: &mu
     }
 }
 
+/// Says why a flush clears the record of a slot, or leaves it.
+#[inline]
+pub fn why(ingress: u32, payload: &[u8], slot: u64, table: &[u8]) -> u64 {
+    // SAFETY: two slices: neither is null, each is as long as said, and both are only read.
+    unsafe {
+        exports::shinglebar_why(
+            ingress,
+            payload.as_ptr(),
+            payload.len(),
+            slot,
+            table.as_ptr(),
+            table.len(),
+        )
+    }
+}
+
 /// Compacts a General frame for a far port.
 #[inline]
 pub fn compact(far: &Settings, frame: &[u8], out: &mut [u8]) -> u64 {

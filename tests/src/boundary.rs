@@ -5,7 +5,7 @@
 
 use shinglebar::{
     decode, encode, raw, Aged, Answer, Compacted, Expanded, Flushed, Found, FreeSlot, Ingressed,
-    Portioned, Received, ReceivedAtPort, Sent, Spoilt, Widened, Written,
+    Portioned, Received, ReceivedAtPort, Sent, Spoilt, Why, Widened, Written,
 };
 
 use crate::lend::Lend;
@@ -117,6 +117,14 @@ pub fn flush_portion(
         [("payload", payload)],
         [("table", table)],
         |[payload], [table]| raw::flush_portion(ingress, payload, slot, k, table),
+    ))
+}
+
+pub fn why(lender: &mut impl Lend, ingress: u32, payload: &[u8], slot: u64, table: &[u8]) -> u64 {
+    known::<Why>(lender.lend(
+        [("payload", payload), ("table", table)],
+        [],
+        |[payload, table], []| raw::why(ingress, payload, slot, table),
     ))
 }
 

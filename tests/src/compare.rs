@@ -141,6 +141,19 @@ pub fn flush_portion(
     paper
 }
 
+pub fn why(lender: &mut impl Lend, ingress: u32, payload: &[u8], slot: u64, table: &[u8]) -> u64 {
+    let library = boundary::why(lender, ingress, payload, slot, table);
+    let paper = reference::why(ingress, payload, slot, table);
+    assert!(
+        library == paper,
+        "why: {}ingress {ingress:#x}\nslot {slot}\npayload {}\ntable {}",
+        words(library, paper),
+        hex(payload),
+        hex(table)
+    );
+    paper
+}
+
 pub fn receive(
     lender: &mut impl Lend,
     settings: &Settings,

@@ -12,6 +12,7 @@
 //! | tests/example.rs | receive, age: examples/port.c |
 //! | tests/install.rs | none: `make install` and the version |
 //! | tests/flush.rs | flush |
+//! | tests/why.rs | why, and flush beside it |
 //! | tests/write.rs | write_flush, and flush with what it wrote |
 //! | tests/receive.rs | receive |
 //! | tests/convert.rs | compact, expand, send |

@@ -38,6 +38,19 @@ pub const PORTION: Answers = &[
     (64, "portion done"),
 ];
 
+pub const WHY: Answers = &[
+    (2, "refusal 2: table length"),
+    (15, "refusal 15: flush payload corrupt"),
+    (24, "refusal 24: slot"),
+    (64, "free"),
+    (65, "spoilt"),
+    (66, "configured"),
+    (67, "nickname not meant"),
+    (68, "label not meant"),
+    (69, "MAC not meant"),
+    (70, "cleared"),
+];
+
 pub const RECEIVE: Answers = &[
     (1, "refusal 1: settings"),
     (2, "refusal 2: table length"),

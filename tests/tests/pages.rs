@@ -279,6 +279,29 @@ fn write_flush_touches_only_what_it_is_lent() {
 }
 
 #[test]
+fn why_touches_only_what_it_is_lent() {
+    let mut both = Pages::both();
+    run::cases(
+        "why_touches_only_what_it_is_lent",
+        2 * SHARE,
+        run::WHY,
+        &[],
+        |random, tally| {
+            let pool = Pool::new(random);
+            let ingress = generate::ingress(random, &pool);
+            let table = table(random, &pool);
+            let payload = generate::payload(random, &pool);
+            for payload in variants(random, payload) {
+                let (slot, _) = generate::portion(random, table.len());
+                for pages in &mut both {
+                    tally.word(compare::why(pages, ingress, &payload, slot, &table));
+                }
+            }
+        },
+    );
+}
+
+#[test]
 fn calls_on_the_table_alone_touch_only_what_they_are_lent() {
     let mut both = Pages::both();
     run::cases(

@@ -19,6 +19,7 @@ mod settings;
 mod small;
 mod table;
 mod watch;
+mod why;
 mod write;
 
 pub use convert::{compact, expand, send, WORKING_AREA};
@@ -35,6 +36,7 @@ pub use settings::{Settings, DEFAULT_LIFE, OLD_LIFE};
 pub use small::flush_vlan_only;
 pub use table::{age, free_slot, lookup, spoilt};
 pub use watch::{send_watched, watch_event, watch_reset, watch_tick, Watch};
+pub use why::why;
 pub use write::{write_flush, Block, Lists};
 
 /// "Numbers are most significant byte first."
