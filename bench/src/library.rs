@@ -7,7 +7,7 @@ pub use shinglebar::exports::{
     shinglebar_age, shinglebar_compact, shinglebar_expand, shinglebar_flush,
     shinglebar_flush_portion, shinglebar_flush_vlan_only, shinglebar_free_slot, shinglebar_ingress,
     shinglebar_lookup, shinglebar_receive, shinglebar_receive_port, shinglebar_send,
-    shinglebar_spoilt, shinglebar_widen, shinglebar_write_flush,
+    shinglebar_spoilt, shinglebar_why, shinglebar_widen, shinglebar_write_flush,
 };
 
 pub type Lookup = unsafe extern "C" fn(
@@ -38,6 +38,15 @@ pub type Portion = unsafe extern "C" fn(
     slot: u64,
     k: u64,
     table: *mut u8,
+    table_len: usize,
+) -> u64;
+
+pub type Why = unsafe extern "C" fn(
+    ingress: u32,
+    payload: *const u8,
+    payload_len: usize,
+    slot: u64,
+    table: *const u8,
     table_len: usize,
 ) -> u64;
 

@@ -24,7 +24,7 @@ mod watch;
 mod write;
 
 pub use convert::{compact, expand, send};
-pub use flush::{flush, flush_portion, flush_vlan_only};
+pub use flush::{flush, flush_portion, flush_vlan_only, why};
 pub use homes::widen;
 pub use ingress::ingress;
 pub use receive::{receive, receive_port};
