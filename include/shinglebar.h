@@ -25,7 +25,7 @@
  *
  * - An area that a call writes (output, working area, and the table of receive, receive_port, age and every
  *   flush) may not be used by another thread until the call has returned. A table that threads share needs
- *   a lock of theirs: shared for lookup, spoilt, free slot, widen and why, exclusive for receive,
+ *   a lock of theirs: shared for lookup, spoilt, free slot, widen, why and report, exclusive for receive,
  *   receive_port, age and every flush.
  * - A thread needs SHINGLEBAR_STACK_MAX bytes of stack for a call, beside its own. There is no heap.
  *
@@ -64,6 +64,9 @@
 /* The longest payload that is written: an output area in which every one has room. */
 #define SHINGLEBAR_WRITTEN_LENGTH_MAX 6172
 
+/* The longest report: an output area in which every one has room. */
+#define SHINGLEBAR_REPORT_LENGTH_MAX 36880
+
 /* The highest place of a TLV that shinglebar_why shows: only payloads of over 8 MB have a higher one. */
 #define SHINGLEBAR_PLACE_MAX 4194303u
 
@@ -72,8 +75,8 @@
 #define SHINGLEBAR_MAP_LENGTH_MAX 24564
 
 /* The bytes of stack that a call takes at most: any call (a long flush takes most, so a frame that
- * brings one does), and a call that carries out no flush, which is every call but receive, receive_port,
- * flush, flush_vlan_only and flush_portion.
+ * brings one does), and a call that carries out no flush and writes no report, which is every call but
+ * receive, receive_port, flush, flush_vlan_only, flush_portion and report.
  * Measured on x86-64: tests/c/stack.c paints the stack of a thread, makes the calls that take most, and
  * fails where one takes more. What the dynamic loader takes when it binds memmove and memset, about
  * 3,000 bytes, is counted. */
@@ -232,6 +235,11 @@ enum shinglebar_widen_kind {
     SHINGLEBAR_WIDEN_WRITTEN = 64
 };
 
+enum shinglebar_report_kind {
+    /* shinglebar_written_length */
+    SHINGLEBAR_REPORT_WRITTEN = 64
+};
+
 /* What learning did with the inner source of a frame delivered. */
 enum shinglebar_learning_outcome {
     SHINGLEBAR_LEARNING_LEARNED = 0,
@@ -357,6 +365,13 @@ uint64_t shinglebar_free_slot(const uint8_t *table, size_t table_len);
  * with a zero byte after it. Answers 2 where the older table's length is 0, not a multiple of 14, or over
  * 57,344, then 16. A length alone does not tell the two widths apart: a multiple of 210 may be either. */
 uint64_t shinglebar_widen(const uint8_t *old, size_t old_len, uint8_t *out, size_t out_len);
+
+/* Writes the morning report of a table to the output area: a line for each nickname with learned or
+ * configured records, rising, of four capital hexadecimal digits and the two counts; then `free N` and
+ * `spoilt N`. Every line ends with a line feed, and no zero byte follows. A table length that other calls
+ * refuse with 2 is no refusal here: it writes the single line `refused 2`. Answers 16 where the area is too
+ * short; SHINGLEBAR_REPORT_LENGTH_MAX bytes are always enough. */
+uint64_t shinglebar_report(const uint8_t *table, size_t table_len, uint8_t *out, size_t out_len);
 
 #ifndef SHINGLEBAR_TABLE_ONLY
 
@@ -569,8 +584,8 @@ static inline uint32_t shinglebar_mac_place(uint64_t result)
 }
 
 /* Of SHINGLEBAR_COMPACT_WRITTEN, SHINGLEBAR_EXPAND_WRITTEN, SHINGLEBAR_INGRESS_WRITTEN,
- * SHINGLEBAR_WIDEN_WRITTEN, SHINGLEBAR_WRITE_FLUSH_WRITTEN and SHINGLEBAR_SEND_COMPACTED: the bytes written
- * to the output or working area. */
+ * SHINGLEBAR_WIDEN_WRITTEN, SHINGLEBAR_WRITE_FLUSH_WRITTEN, SHINGLEBAR_REPORT_WRITTEN and
+ * SHINGLEBAR_SEND_COMPACTED: the bytes written to the output or working area. */
 static inline size_t shinglebar_written_length(uint64_t result)
 {
     return (size_t)((result >> 8) & 0xFFFFu);
@@ -713,7 +728,7 @@ static inline void shinglebar_pack_pair(uint16_t vlan, uint32_t label, uint8_t *
  *
  * One that a program does not use is not emitted and asks nothing of the archive. Where the compiler is
  * told to emit unused inline functions (-fkeep-inline-functions), a program that uses only lookup, age,
- * spoilt, free slot and widen can define SHINGLEBAR_TABLE_ONLY to leave the other calls out.
+ * spoilt, free slot, widen and report can define SHINGLEBAR_TABLE_ONLY to leave the other calls out.
  */
 
 static inline uint8_t *shinglebar_area(uint8_t *area, size_t length)
@@ -752,6 +767,11 @@ static inline uint64_t shinglebar_free_slot_any(const uint8_t *table, size_t tab
 static inline uint64_t shinglebar_widen_any(const uint8_t *old, size_t old_len, uint8_t *out, size_t out_len)
 {
     return shinglebar_widen(shinglebar_const_area(old, old_len), old_len, shinglebar_area(out, out_len), out_len);
+}
+
+static inline uint64_t shinglebar_report_any(const uint8_t *table, size_t table_len, uint8_t *out, size_t out_len)
+{
+    return shinglebar_report(shinglebar_const_area(table, table_len), table_len, shinglebar_area(out, out_len), out_len);
 }
 
 #ifndef SHINGLEBAR_TABLE_ONLY

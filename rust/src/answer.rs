@@ -9,7 +9,7 @@
 //! | flush_portion | 64 portion done | 8..23 cleared, 24..39 next slot, 40..55 examined |
 //! | why | 64 free, 65 spoilt, 66 configured, 67 nickname, 68 label, 69 MAC not meant | |
 //! | why | 70 cleared | 8..15 nickname place, 16 sender, 17 label by a TLV, 18..39 label place, 40..61 MAC place, 63 every MAC |
-//! | compact, expand, ingress, widen, write_flush | 64 written | 8..23 length |
+//! | compact, expand, ingress, widen, write_flush, report | 64 written | 8..23 length |
 //! | send, send_watched | 64 compacted | 8..23 length |
 //! | send, send_watched | 65 the frame itself | |
 //! | lookup | 64 found | 8..23 nickname |
@@ -26,7 +26,7 @@ use core::error::Error;
 use core::fmt;
 use core::ops::RangeInclusive;
 
-use crate::{Label, Refusal, PLACE_MAX, RECORD_LENGTH, TABLE_LENGTH_MAX};
+use crate::{Label, Refusal, PLACE_MAX, RECORD_LENGTH, REPORT_LENGTH_MAX, TABLE_LENGTH_MAX};
 
 /// The bytes of what a call writes: a frame.
 const LENGTHS: RangeInclusive<u16> = 14..=9216;
@@ -34,6 +34,9 @@ const LENGTHS: RangeInclusive<u16> = 14..=9216;
 const TABLES: RangeInclusive<u16> = RECORD_LENGTH as u16..=TABLE_LENGTH_MAX as u16;
 /// The bytes of a payload that is written: one VLAN block, and 255 of everything.
 const PAYLOADS: RangeInclusive<u16> = 6..=6172;
+/// The bytes of a report: the line of a bad length, or at least the two last lines and at most a line for each slot before them.
+const REFUSED_REPORT: u16 = 10;
+const REPORTS: RangeInclusive<u16> = 16..=REPORT_LENGTH_MAX as u16;
 /// The records of a table that can be cleared, and its slots.
 const COUNTS: RangeInclusive<u16> = 0..=4096;
 const SLOTS: RangeInclusive<u16> = 0..=4095;
@@ -236,6 +239,13 @@ pub enum Spoilt {
 /// The widened table starts the output area.
 #[derive(Clone, Copy, Debug, PartialEq, Eq, Hash)]
 pub struct Widened {
+    /// The bytes written.
+    pub length: usize,
+}
+
+/// The morning report starts the output area.
+#[derive(Clone, Copy, Debug, PartialEq, Eq, Hash)]
+pub struct Reported {
     /// The bytes written.
     pub length: usize,
 }
@@ -782,6 +792,20 @@ impl Answer for Widened {
     fn from_word(word: u64) -> Option<Widened> {
         let length = value(word, TABLES).map(usize::from)?;
         (kind(word) == 64 && length.is_multiple_of(RECORD_LENGTH)).then_some(Widened { length })
+    }
+
+    fn word(&self) -> u64 {
+        with_length(64, self.length)
+    }
+}
+
+impl Answer for Reported {
+    const REFUSALS: &'static [Refusal] = &[Refusal::OutputLength];
+
+    fn from_word(word: u64) -> Option<Reported> {
+        let refused = value(word, REFUSED_REPORT..=REFUSED_REPORT);
+        let length = refused.or(value(word, REPORTS)).map(usize::from)?;
+        (kind(word) == 64).then_some(Reported { length })
     }
 
     fn word(&self) -> u64 {

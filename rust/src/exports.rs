@@ -162,6 +162,13 @@ extern "C" {
 
     pub fn shinglebar_widen(old: *const u8, old_len: usize, out: *mut u8, out_len: usize) -> u64;
 
+    pub fn shinglebar_report(
+        table: *const u8,
+        table_len: usize,
+        out: *mut u8,
+        out_len: usize,
+    ) -> u64;
+
     pub fn shinglebar_write_flush(
         nicknames: *const u8,
         nicknames_len: usize,

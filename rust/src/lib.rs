@@ -18,6 +18,7 @@
 //! | [`send`] | chooses what to send to a far port |
 //! | [`send_watched`], [`Watch`] | the same at a port that stops compacting when the link looks shared |
 //! | [`lookup`], [`age`], [`spoilt`], [`free_slot`] | the address table |
+//! | [`report`] | writes the morning report of a table |
 //! | [`widen`] | makes an older table, of records of 14 bytes, one of 15 |
 //! | [`write_flush`] | writes the payload of an Address Flush |
 //!
@@ -73,8 +74,8 @@ mod write;
 
 pub use answer::{
     decode, encode, Aged, Answer, Compacted, Expanded, Flushed, Found, FreeSlot, Ingressed,
-    LabelBy, Learning, MacBy, NicknameBy, Portioned, Received, ReceivedAtPort, Sent, Spoilt,
-    UnknownWord, Why, Widened, Written,
+    LabelBy, Learning, MacBy, NicknameBy, Portioned, Received, ReceivedAtPort, Reported, Sent,
+    Spoilt, UnknownWord, Why, Widened, Written,
 };
 pub use refusal::Refusal;
 pub use values::{CampusLabel, Encapsulation, Label, Mac, Outer, Pair, PortVlan, Settings};
@@ -96,6 +97,8 @@ pub const OLD_TABLE_LENGTH_MAX: usize = 57_344;
 pub const FRAME_LENGTH_MAX: usize = 9216;
 /// The bytes of a working area in which every compaction has room.
 pub const COMPACT_LENGTH_MAX: usize = 9204;
+/// The bytes of the longest report: an output area in which every one has room.
+pub const REPORT_LENGTH_MAX: usize = 36_880;
 /// The highest place of a TLV that [`why`] shows: only payloads of over 8 MB have a higher one.
 pub const PLACE_MAX: u32 = 4_194_303;
 /// The bytes of the longest payload that is written: an output area in which every one has room.
@@ -490,6 +493,30 @@ pub fn free_slot(table: &[u8]) -> Result<FreeSlot, Refusal> {
 #[inline]
 pub fn widen(old: &[u8], out: &mut [u8]) -> Result<Widened, Refusal> {
     answered(raw::widen(old, out))
+}
+
+/// Writes the morning report of a table as text: a line for each nickname with learned or configured records, rising, with the two
+/// counts; then the free and the spoilt slots. A table of a bad length is no refusal: its report is the line `refused 2`.
+///
+/// ```
+/// use shinglebar::{Refusal, Reported};
+///
+/// // Learned: VLAN 10, 02-00-00-00-00-01, nickname 1234.
+/// let table = [
+///     0x40, 0x00, 0x01, 0x40, 0x40, 0x00, 0x00, 0x00, 0x00, 0x22, 0x46, 0x82, 0x81, 0x2C, 0x00,
+/// ];
+/// let mut out = [0; shinglebar::REPORT_LENGTH_MAX];
+/// let reported = shinglebar::report(&table, &mut out)?;
+/// assert_eq!(&out[..reported.length], b"1234 1 0\nfree 0\nspoilt 0\n");
+///
+/// let reported = shinglebar::report(&table[1..], &mut out)?;
+/// assert_eq!(&out[..reported.length], b"refused 2\n");
+/// assert_eq!(shinglebar::report(&table, &mut out[..24]), Err(Refusal::OutputLength));
+/// # Ok::<(), Refusal>(())
+/// ```
+#[inline]
+pub fn report(table: &[u8], out: &mut [u8]) -> Result<Reported, Refusal> {
+    answered(raw::report(table, out))
 }
 
 #[cfg(test)]

@@ -310,6 +310,14 @@ pub fn widen(old: &[u8], out: &mut [u8]) -> u64 {
     unsafe { exports::shinglebar_widen(old.as_ptr(), old.len(), out.as_mut_ptr(), out.len()) }
 }
 
+/// Writes the morning report of a table.
+#[inline]
+pub fn report(table: &[u8], out: &mut [u8]) -> u64 {
+    // SAFETY: two slices: neither is null, each is as long as said, and the one that is lent for
+    // writing overlaps nothing, being `&mut`.
+    unsafe { exports::shinglebar_report(table.as_ptr(), table.len(), out.as_mut_ptr(), out.len()) }
+}
+
 /// Names the lowest spoilt slot.
 #[inline]
 pub fn spoilt(table: &[u8]) -> u64 {

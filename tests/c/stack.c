@@ -229,6 +229,12 @@ static uint64_t call_lookup(void)
     return shinglebar_lookup(SHINGLEBAR_LABEL_VLAN, 10, (uint64_t)1 << 40, table, sizeof table);
 }
 
+static uint64_t call_report(void)
+{
+    static uint8_t text[SHINGLEBAR_REPORT_LENGTH_MAX];
+    return shinglebar_report(table, sizeof table, text, sizeof text);
+}
+
 static uint64_t call_age(void)
 {
     return shinglebar_age(299, table, sizeof table);
@@ -378,6 +384,20 @@ static void others(void)
     within("write_flush", taken("write_flush", call_write_flush, SHINGLEBAR_WRITE_FLUSH_WRITTEN), most);
 }
 
+/* With three nicknames, and with as many as there are slots. */
+static void reports(void)
+{
+    size_t at, few = taken("report", call_report, SHINGLEBAR_REPORT_WRITTEN), many;
+    for (at = 0; at < sizeof table; at += SHINGLEBAR_RECORD_LENGTH) {
+        struct shinglebar_record record = shinglebar_unpack_record(table + at);
+        record.nickname = 1 + (unsigned)(at * 97 / SHINGLEBAR_RECORD_LENGTH) % 0xFFBF;
+        if (!shinglebar_pack_record(&record, table + at))
+            exit(2);
+    }
+    many = taken("report", call_report, SHINGLEBAR_REPORT_WRITTEN);
+    within("report", few > many ? few : many, SHINGLEBAR_STACK_MAX);
+}
+
 /* With maps of lengths on both sides of those where judging takes other areas. */
 static void maps(void)
 {
@@ -406,5 +426,6 @@ int main(void)
     flushes();
     others();
     maps();
+    reports();
     return failures == 0 ? 0 : 1;
 }

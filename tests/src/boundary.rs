@@ -5,7 +5,7 @@
 
 use shinglebar::{
     decode, encode, raw, Aged, Answer, Compacted, Expanded, Flushed, Found, FreeSlot, Ingressed,
-    Portioned, Received, ReceivedAtPort, Sent, Spoilt, Why, Widened, Written,
+    Portioned, Received, ReceivedAtPort, Reported, Sent, Spoilt, Why, Widened, Written,
 };
 
 use crate::lend::Lend;
@@ -186,6 +186,14 @@ pub fn widen(lender: &mut impl Lend, old: &[u8], out: &mut [u8]) -> u64 {
         [("older table", old)],
         [("output area", out)],
         |[old], [out]| raw::widen(old, out),
+    ))
+}
+
+pub fn report(lender: &mut impl Lend, table: &[u8], out: &mut [u8]) -> u64 {
+    known::<Reported>(lender.lend(
+        [("table", table)],
+        [("output area", out)],
+        |[table], [out]| raw::report(table, out),
     ))
 }
 

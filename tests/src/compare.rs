@@ -317,6 +317,22 @@ pub fn widen(lender: &mut impl Lend, old: &[u8], out: &mut [u8]) -> u64 {
     paper
 }
 
+pub fn report(lender: &mut impl Lend, table: &[u8], out: &mut [u8]) -> u64 {
+    let given = out.to_vec();
+    let mut after = out.to_vec();
+    let library = boundary::report(lender, table, &mut after);
+    let paper = reference::report(table, out);
+    assert!(
+        library == paper && after == out,
+        "report: {}{}table {}\noutput area {}",
+        words(library, paper),
+        difference("output area", &after, out),
+        hex(table),
+        hex(&given)
+    );
+    paper
+}
+
 pub fn write_flush(
     lender: &mut impl Lend,
     nicknames: &[u8],

@@ -13,6 +13,7 @@
 //! | tests/install.rs | none: `make install` and the version |
 //! | tests/flush.rs | flush |
 //! | tests/why.rs | why, and flush beside it |
+//! | tests/report.rs | report, and the program `morning_report` |
 //! | tests/write.rs | write_flush, and flush with what it wrote |
 //! | tests/receive.rs | receive |
 //! | tests/convert.rs | compact, expand, send |

@@ -23,6 +23,8 @@ pub const WIDEN: Answers = &[
     (64, "written"),
 ];
 
+pub const REPORT: Answers = &[(16, "refusal 16: output area"), (64, "written")];
+
 pub const FREE_SLOT: Answers = &[(2, "refusal 2: table length"), (64, "slot"), (65, "none")];
 
 pub const FLUSH: Answers = &[

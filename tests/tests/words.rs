@@ -5,7 +5,7 @@
 use shinglebar::{
     decode, encode, raw, Aged, Answer, CampusLabel, Compacted, Encapsulation, Expanded, Flushed,
     Found, Ingressed, Label, LabelBy, Learning, Mac, MacBy, NicknameBy, Outer, Pair, PortVlan,
-    Portioned, Received, ReceivedAtPort, Refusal, Sent, Settings, Spoilt, Why, Widened,
+    Portioned, Received, ReceivedAtPort, Refusal, Reported, Sent, Settings, Spoilt, Why, Widened,
 };
 use shinglebar_tests::generate::{self, Pool};
 use shinglebar_tests::maps;
@@ -154,6 +154,12 @@ impl Packed for Spoilt {
 }
 
 impl Packed for Widened {
+    fn packed(&self) -> u64 {
+        value(64, self.length)
+    }
+}
+
+impl Packed for Reported {
     fn packed(&self) -> u64 {
         value(64, self.length)
     }
@@ -490,6 +496,27 @@ fn typed_widen_gives_what_the_paper_says() {
     );
 }
 
+#[test]
+fn typed_report_gives_what_the_paper_says() {
+    run::cases(
+        "typed_report_gives_what_the_paper_says",
+        8,
+        run::REPORT,
+        &[],
+        |random, tally| {
+            let table = generate::crowd(random);
+            let length = generate::area_length(random, reference::reported(&table).len());
+            let mut out = random.bytes(length);
+            let mut paper_out = out.clone();
+            let outcome = shinglebar::report(&table, &mut out);
+            let paper = reference::report(&table, &mut paper_out);
+            assert_eq!(packed(outcome), paper, "{outcome:?}");
+            assert!(out == paper_out);
+            tally.word(paper);
+        },
+    );
+}
+
 /// The bits of a word by their use: the low byte, those of values, and all others, which are 0.
 struct Bits {
     kind: u8,
@@ -617,6 +644,7 @@ fn a_word_that_is_no_answer_is_not_taken_for_one() {
         &[bits(64, ONE_VALUE, 64), bits(65, NO_VALUE, 65)],
     );
     check_words::<Widened>("widen", run::WIDEN, &[bits(64, ONE_VALUE, 0x0F40)]);
+    check_words::<Reported>("report", run::REPORT, &[bits(64, ONE_VALUE, 0x1940)]);
 }
 
 #[test]
@@ -648,6 +676,9 @@ fn values_that_no_answer_has_are_not_taken_for_one() {
     let table = |length: u64| decode::<Widened>(64 | length << 8).is_ok();
     assert!(!table(0) && !table(14) && table(15) && table(210));
     assert!(!table(57_344) && table(61_440) && !table(61_455));
+    let report = |length: u64| decode::<Reported>(64 | length << 8).is_ok();
+    assert!(!report(0) && !report(9) && report(10) && !report(11) && !report(15));
+    assert!(report(16) && report(25) && report(36_880) && !report(36_881));
 }
 
 /// The words of the table of document 01, which the second implementation has as comments.
@@ -710,4 +741,6 @@ fn empty_slices_are_areas_too() {
     assert_eq!(raw::spoilt(&[]), 2);
     assert_eq!(raw::widen(&[], &mut []), 2);
     assert_eq!(raw::widen(&[0; OLD_RECORD], &mut []), 16);
+    assert_eq!(raw::report(&[], &mut []), 16);
+    assert_eq!(raw::report(&[], &mut [0; 10]), 64 | 10 << 8);
 }
