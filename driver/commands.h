@@ -16,5 +16,6 @@ int unset_command(const struct options *options);
 int widen_command(const struct options *options);
 int write_command(const struct options *options);
 int why_command(const struct options *options);
+int report_command(const struct options *options);
 
 #endif

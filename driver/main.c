@@ -48,6 +48,8 @@ int main(int count, char **words)
         return write_command(&options);
     case WHY:
         return why_command(&options);
+    case REPORT:
+        return report_command(&options);
     }
     return 2;
 }

@@ -11,7 +11,7 @@
 
 #define WITH_SETTINGS (RECEIVE | COMPACT | EXPAND | LIVE | SEND | INGRESS)
 #define WITH_CAPTURE (RECEIVE | COMPACT | EXPAND | SEND | INGRESS)
-#define WITH_TABLE (RECEIVE | LOOKUP | AGE | CHECK | LIVE | SET | UNSET | WIDEN | WHY)
+#define WITH_TABLE (RECEIVE | LOOKUP | AGE | CHECK | LIVE | SET | UNSET | WIDEN | WHY | REPORT)
 /* A capture, with the settings of its port, may be named or left out. */
 #define MAY_HAVE_CAPTURE WHY
 #define WITH_PAIR (LOOKUP | SET | UNSET)
@@ -155,6 +155,10 @@ static const struct {
      "For the tables of versions before 2026-12: each record gets a zero byte, and the second that the table was aged to\n"
      "stays. A file says its width by its length. Where both widths have that length (multiples of 210 bytes), a table of\n"
      "15 bytes has the line `shinglebar table 15` in front of its records; without it only `widen` takes the file.\n"},
+    {REPORT, "report", "prints the morning report of a table",
+     "A line for each nickname with learned or configured records, rising: four hexadecimal digits, learned count, configured\n"
+     "count; then the free and the spoilt slots. It is what the program `morning_report` prints of the records. Exit status 1\n"
+     "if the file is no table: its report is `refused 2`.\n"},
     {SEND, "send", "sends the General frames of a capture out of a Linux interface",
      "Needs CAP_NET_RAW. The settings are the far port's: a frame is compacted where it may be, if --compact is on.\n"
      "While the watch of --watch has seconds left, which `live` on the same machine writes, no frame is compacted.\n"},
@@ -198,7 +202,7 @@ static void help_command(FILE *to, size_t index)
     }
     if (command & (WITH_CAPTURE | MAY_HAVE_CAPTURE))
         fputs("\nCAPTURE is a pcap or pcapng file of Ethernet frames without FCS; - is standard input.\n", to);
-    if (command & WITH_TABLE & ~(LOOKUP | CHECK | WHY))
+    if (command & WITH_TABLE & ~(LOOKUP | CHECK | WHY | REPORT))
         fputs("\nA table file is held while it is used: a second process is refused. It keeps owner, group and mode.\n", to);
     fputs("\nAn address is 02-00-00-00-00-01, with : or without marks too. A number is decimal, or hexadecimal after 0x.\n",
           to);

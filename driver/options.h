@@ -22,7 +22,8 @@ enum command {
     WIDEN = 1024,
     WRITE = 2048,
     INGRESS = 4096,
-    WHY = 8192
+    WHY = 8192,
+    REPORT = 16384
 };
 
 /* The payload of a flush, at most as long as a frame has room for. */

@@ -2143,7 +2143,8 @@ fn each_command_has_help_on_each_of_its_options() {
         "--confidence",
         "--seconds",
     ];
-    let commands: [(&str, &[&str], bool); 14] = [
+    let commands: [(&str, &[&str], bool); 15] = [
+        ("report", &["--table", "--json"], false),
         (
             "receive",
             &[
@@ -3367,4 +3368,75 @@ fn bad_command_lines_of_why_get_a_message_and_status_2() {
     let files = ["why", "in", "--table", "table", "--slot", "1"];
     let past = "table has 1 slots, and --slot says 1";
     bad(&run_in(&folder, &[&files[..], &SETTINGS].concat()), 1, past);
+}
+
+#[test]
+fn report_prints_what_the_program_prints() {
+    let folder = folder("report");
+    let report = ["report", "--table", "table"];
+    let entry = |nickname| Entry {
+        label: vlan(10),
+        mac: 0x0200_0000_0001,
+        nickname,
+        confidence: 20,
+        seconds: 300,
+        multihomed: false,
+    };
+    let table = [
+        write(true, &entry(0xFFBF)),
+        write(true, &entry(0x1234)),
+        write(false, &entry(0x1234)),
+        [0; RECORD],
+        [0xC0; RECORD],
+        write(true, &entry(0x1234)),
+    ]
+    .concat();
+    fs::write(folder.join("table"), &table).expect("a table");
+    let printed = good(&run_in(&folder, &report));
+    assert_eq!(printed, "1234 2 1\nFFBF 1 0\nfree 1\nspoilt 1\n");
+    assert_eq!(printed, reference::reported(&table));
+    let objects = good(&run_in(&folder, &[&report[..], &["--json"]].concat()));
+    same_facts(&printed, &objects);
+    let first = "{\"nickname\":\"1234\",\"learned\":2,\"configured\":1}\n";
+    assert!(objects.starts_with(first), "{objects}");
+    // a table of the most slots and of as many nicknames
+    let table = generate::all_different(&mut Random::new(14), TABLE / RECORD);
+    fs::write(folder.join("table"), &table).expect("a table");
+    assert_eq!(good(&run_in(&folder, &report)), reference::reported(&table));
+    // the line in front says the width, and is no part of the table; without it the width is not guessed
+    let fourteen = write(true, &entry(0x1234)).repeat(14);
+    let wide = [&b"shinglebar table 15\n"[..], &fourteen].concat();
+    fs::write(folder.join("table"), &wide).expect("a table");
+    let lines = "1234 14 0\nfree 0\nspoilt 0\n";
+    assert_eq!(good(&run_in(&folder, &report)), lines);
+    fs::write(folder.join("table"), &fourteen).expect("a table");
+    let output = run_in(&folder, &report);
+    bad(
+        &output,
+        1,
+        "table has 210 bytes and does not say of which width",
+    );
+    assert_eq!(text(&output.stdout), "");
+    // what is no table has the program's line, and the reason beside it
+    for (length, said) in [
+        (0, "table is no address table: it has 0 bytes; refused 2"),
+        (1, "table is no address table: it has 1 bytes; refused 2"),
+        (
+            OLD_RECORD,
+            "table has records of 14 bytes; `widen` makes them 15",
+        ),
+        (
+            TABLE + 1,
+            "table is no address table: it has 61441 or more bytes",
+        ),
+    ] {
+        fs::write(folder.join("table"), vec![0; length]).expect("a table");
+        let output = run_in(&folder, &report);
+        bad(&output, 1, said);
+        assert_eq!(text(&output.stdout), "refused 2\n");
+    }
+    fs::remove_file(folder.join("table")).expect("the table");
+    bad(&run_in(&folder, &report), 1, "table is not there");
+    bad(&run_in(&folder, &["report"]), 2, "--table FILE is needed");
+    assert_eq!(names(&folder), [] as [&str; 0]);
 }
