@@ -6,8 +6,8 @@
 pub use shinglebar::exports::{
     shinglebar_age, shinglebar_compact, shinglebar_expand, shinglebar_flush,
     shinglebar_flush_portion, shinglebar_flush_vlan_only, shinglebar_free_slot, shinglebar_ingress,
-    shinglebar_lookup, shinglebar_receive, shinglebar_receive_port, shinglebar_send,
-    shinglebar_spoilt, shinglebar_why, shinglebar_widen, shinglebar_write_flush,
+    shinglebar_lookup, shinglebar_receive, shinglebar_receive_port, shinglebar_report,
+    shinglebar_send, shinglebar_spoilt, shinglebar_why, shinglebar_widen, shinglebar_write_flush,
 };
 
 pub type Lookup = unsafe extern "C" fn(
@@ -65,6 +65,7 @@ pub type Receive = unsafe extern "C" fn(
     out_len: usize,
 ) -> u64;
 
+/// Of widen and report.
 pub type Widen =
     unsafe extern "C" fn(old: *const u8, old_len: usize, out: *mut u8, out_len: usize) -> u64;
 

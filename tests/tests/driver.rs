@@ -3370,6 +3370,24 @@ fn bad_command_lines_of_why_get_a_message_and_status_2() {
     bad(&run_in(&folder, &[&files[..], &SETTINGS].concat()), 1, past);
 }
 
+/// The report that README.md shows is that of the table which the worked example leaves.
+#[test]
+fn the_report_of_the_readme_is_real() {
+    let folder = folder("readme_report");
+    let capture = data("hall.pcap");
+    good(&run_in(
+        &folder,
+        &receive_words(capture.to_str().expect("UTF-8")),
+    ));
+    let printed = good(&run_in(&folder, &["report", "--table", "table"]));
+    let shown: String = printed
+        .lines()
+        .map(|line| format!("    {line}\n"))
+        .collect();
+    let readme = text(&bytes(&package().join("../README.md")));
+    assert!(readme.contains(&format!("\n\n{shown}\n")), "{shown}");
+}
+
 #[test]
 fn report_prints_what_the_program_prints() {
     let folder = folder("report");
