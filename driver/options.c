@@ -55,6 +55,8 @@ static const struct option OPTIONS[] = {
      RECEIVE | LIVE | INGRESS | WHY, INGRESS, AT(map), 0, 0},
     {"--multihomed", "BIT", "first or second, the R bit that marks frames of stations on two switches (none)", R_BIT,
      RECEIVE | LIVE | WHY, 0, AT(settings.multihomed), 0, 0},
+    {"--smart", "on|off", "whether Smart Endnodes encapsulate for themselves, with the port's nickname as ingress (off)", SWITCH,
+     RECEIVE | LIVE | WHY, 0, AT(settings.smart), 0, 0},
     {"--interface", "NAME", "the Linux interface", TEXT, LIVE | SEND, LIVE | SEND, AT(interface), 0, 0},
     {"--frames", "N", "stops after N frames", NUMBER, LIVE, 0, AT(frames), 1, UINT32_MAX},
     {"--for", "SECONDS", "stops after so many seconds", NUMBER, LIVE, 0, AT(duration), 1, UINT32_MAX},

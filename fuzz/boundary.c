@@ -441,7 +441,7 @@ static void bring_into_ranges(struct numbers *it)
     it->outer_destination &= 0xFFFFFFFFFFFFu;
     it->m &= 1;
     it->multihomed %= 3;
-    it->smart = 0;
+    it->smart &= 1;
     if (it->inner == it->port)
         it->inner ^= 1;
     if (it->nickname < 1 || it->nickname > 0xFFBF)

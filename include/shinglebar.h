@@ -317,7 +317,7 @@ struct shinglebar_settings {
     uint32_t confidence;
     uint32_t seconds;
     uint32_t multihomed; /* receive_port; 0, 1 or 2, another number is refusal 1 */
-    uint32_t smart;      /* receive_port; 0, another number is refusal 1 */
+    uint32_t smart;      /* receive_port; 0 or 1, another number is refusal 1 */
     const uint8_t *map;  /* receive_port, ingress */
     size_t map_len;
 };
@@ -416,7 +416,8 @@ uint64_t shinglebar_receive(uint64_t port, uint64_t inner, uint32_t nickname, ui
  * length with the tag. Frames with a VLAN label are delivered as by shinglebar_receive, and with an empty map
  * and multihomed and smart 0 it is that call. `multihomed` names the TRILL header's R bit that marks frames of
  * stations on two switches: 0 none, 1 the first, 2 the second. A marked frame's record is multihomed, and an
- * address has such a record for each home. `smart` is 0 for now: another number is refusal 1. */
+ * address has such a record for each home. `smart` is 1 at a port with Smart Endnodes: a frame with our own
+ * ingress nickname is not refused with 9 there, and teaches nothing (answer kept); at other ports it is 0. */
 uint64_t shinglebar_receive_port(uint64_t port, uint64_t inner, uint32_t nickname, uint32_t compact,
                                  uint32_t confidence, uint32_t seconds, uint32_t multihomed,
                                  uint32_t smart, const uint8_t *map, size_t map_len,

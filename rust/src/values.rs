@@ -100,7 +100,7 @@ pub struct Settings {
     pub seconds: u16,
     /// The R bit of the header that marks frames of a station on two switches: 0 none, 1 the first, 2 the second.
     pub multihomed: u8,
-    /// Off: no station encapsulates for itself.
+    /// Smart Endnodes on or off: whether stations encapsulate for themselves, with the own nickname as ingress. Such frames teach nothing.
     pub smart: bool,
 }
 

@@ -36,7 +36,7 @@ static void without_a_map(void)
     later.multihomed = 2;
     expect("multihomed, the second bit", shinglebar_receive_any(&later, NULL, 0, NULL, 0, NULL, 0), 2);
     later.multihomed = 0;
-    later.smart = 1;
+    later.smart = 2;
     expect("smart", shinglebar_receive_any(&later, NULL, 0, NULL, 0, NULL, 0), 1);
     expect("first byte", table[0], 0);
     result = shinglebar_receive_any(&SETTINGS, frame, sizeof frame, table, sizeof table, out,

@@ -180,16 +180,17 @@ pub fn map(random: &mut Random, pool: &Pool) -> Vec<u8> {
     }
 }
 
-/// Settings of `receive_port`: any R bit or none, and now and then one of the last two out of range.
+/// Settings of `receive_port`: any R bit or none, Smart Endnodes on or off, and now and then one of the two out of range.
 pub fn settings(random: &mut Random, pool: &Pool) -> Settings {
     let mut settings = generate::settings(random, pool);
     settings.multihomed = random.pick(&[0, 0, 1, 2]);
+    settings.smart = random.pick(&[0, 0, 1]);
     if random.one_in(60) {
         let number = random.pick(&[3, 0x100, 0x101, 1 << 16, 1 << 31, u32::MAX]);
         match random.below(3) {
             0 => settings.multihomed = number,
             1 => settings.smart = number,
-            _ => settings.smart = 1,
+            _ => settings.smart = 2,
         }
     }
     settings

@@ -2909,6 +2909,44 @@ fn a_map_file_that_is_no_map_is_refused_by_its_line() {
     good(&run_in(&folder, &receive));
 }
 
+/// Document 02, 2026-13: with `--smart on` a frame with the port's own ingress nickname is delivered and teaches nothing.
+#[test]
+fn the_option_smart_takes_frames_with_the_own_ingress_nickname() {
+    let folder = folder("smart");
+    let frame = generate::Frame {
+        compact: false,
+        outer_destination: PORT.port,
+        outer_source: 0x0200_0000_00B2,
+        outer_tag: None,
+        trill: 0x22F3,
+        version: 0,
+        reserved: 0,
+        multicast: false,
+        option_length: 0,
+        hop_count: 5,
+        egress: PORT.nickname as u16,
+        ingress: PORT.nickname as u16,
+        options: Vec::new(),
+        inner_destination: 0x0200_0000_000D,
+        inner_source: 0x0200_0000_0001,
+        label: vec![0x81, 0x00, 0x00, 0x0A],
+        content: vec![0x08, 0x00, 0x45, 0x00],
+    };
+    fs::write(folder.join("in"), captures::capture(USUAL, &[frame.bytes()])).expect("a capture");
+    let words = |smart| [&receive_words("in")[..], &["--no-ageing"], smart].concat();
+    for (smart, said) in [
+        (&["--smart", "on"][..], "delivered 16 bytes of VLAN 10, kept"),
+        (&["--smart=off"], "refused 9"),
+        (&[], "refused 9"),
+    ] {
+        let printed = good(&run_in(&folder, &words(smart)));
+        assert!(printed.contains(said), "{printed}");
+        let table = bytes(&folder.join("table"));
+        assert!(table.ends_with(&[0; 16 * RECORD]), "{printed}");
+        fs::remove_file(folder.join("table")).expect("the table");
+    }
+}
+
 /// Document 02, 2026-12: the option names the R bit, and reaches the call.
 #[test]
 fn the_option_multihomed_names_the_bit_that_marks_frames() {

@@ -90,9 +90,9 @@ fn make(
     match call {
         Call::Receive { map, out, .. } => {
             let mut out = out.clone();
-            let word = match (map.as_slice(), settings.multihomed) {
-                ([], 0) => boundary::receive(random, settings, frame, table, &mut out),
-                (map, _) => boundary::receive_port(random, settings, map, frame, table, &mut out),
+            let word = match (map.as_slice(), settings.multihomed, settings.smart) {
+                ([], 0, 0) => boundary::receive(random, settings, frame, table, &mut out),
+                (map, ..) => boundary::receive_port(random, settings, map, frame, table, &mut out),
             };
             (word, out)
         }
@@ -246,6 +246,7 @@ fn call_lists_give_the_same_with_frames_compacted() {
             let mut settings = generate::settings(random, &pool);
             settings.compact = 1;
             settings.multihomed = random.pick(&[0, 1, 2]);
+            settings.smart = random.pick(&[0, 1]);
             let start = generate::table(random, &pool);
             let (mut plain, mut mixed, mut paper) = (start.clone(), start.clone(), start.clone());
             for step in 0..random.length(1, 16) {

@@ -667,7 +667,7 @@ fn in_reading_21_comes_after_2_and_before_3_and_22_directly_before_16() {
         multihomed: 3,
         ..PORT
     };
-    let smart = Settings { smart: 1, ..PORT };
+    let smart = Settings { smart: 2, ..PORT };
     for settings in [bad, multihomed, smart] {
         assert_eq!(read(&settings, &twice, &general[..13], RECORD - 1, 0), 1);
     }

@@ -249,7 +249,7 @@ fn typed_reading_with_a_map_and_typed_ingress_give_what_the_paper_says() {
                 let bit = random.between(1, 2) as u8;
                 (settings.multihomed, numbers.multihomed) = (bit, u32::from(bit));
             }
-            if random.one_in(50) {
+            if random.one_in(3) {
                 (settings.smart, numbers.smart) = (true, 1);
             }
             let map = pairs(&maps::small_map(random, &pool));

@@ -4,7 +4,7 @@ use std::slice;
 
 use super::flush::clear;
 use super::frame::{is_trill_group, length_good, six, two, Fields, Front, C_TAG};
-use super::homes::learn;
+use super::homes::{learn, Learning};
 use super::map::{judge, Wanted};
 use super::record::{nickname_good, slots_mut, Slot, FINE, GROUP};
 use super::refusal;
@@ -70,7 +70,7 @@ pub unsafe extern "C" fn receive_port(
     out_len: usize,
 ) -> u64 {
     let port = match Port::new(port, inner, nickname, compact, confidence, seconds) {
-        Ok(port) if multihomed <= 2 && smart == 0 => port.marking(multihomed),
+        Ok(port) if multihomed <= 2 && smart <= 1 => port.with(multihomed, smart),
         _ => return refusal::SETTINGS,
     };
     let Some(slots) = slots_mut(table, table_len) else {
@@ -149,7 +149,7 @@ fn is_onward(port: &Port, fields: &Fields) -> Result<bool, u64> {
     }
     if !nickname_good(u64::from(fields.egress))
         || !nickname_good(u64::from(fields.ingress))
-        || fields.ingress == port.nickname
+        || fields.ingress == port.nickname && !port.smart
     {
         return Err(refusal::NICKNAME);
     }
@@ -197,15 +197,18 @@ fn deliver(
         tagged.copy_from_slice(&tag);
     }
     rest.copy_from_slice(content);
-    let learning = learn(
-        slots,
-        fields.label,
-        fields.inner_source,
-        fields.ingress,
-        port.confidence,
-        port.seconds,
-        frame[fields.header_at] & port.mark != 0,
-    );
+    let learning = match fields.ingress == port.nickname {
+        true => Learning::Kept,
+        false => learn(
+            slots,
+            fields.label,
+            fields.inner_source,
+            fields.ingress,
+            port.confidence,
+            port.seconds,
+            frame[fields.header_at] & port.mark != 0,
+        ),
+    };
     let kind = fields.label / FINE;
     let label = fields.label % FINE;
     Ok(DELIVERED

@@ -12,6 +12,8 @@ pub struct Port {
     pub seconds: u16,
     /// The R bit that marks frames of a station on two switches, in the first byte of the header; 0 for none.
     pub mark: u8,
+    /// Smart Endnodes on: our own ingress nickname is not refused.
+    pub smart: bool,
 }
 
 /// An individual address, below 2^48.
@@ -47,13 +49,18 @@ impl Port {
             confidence: confidence as u8,
             seconds: seconds as u16,
             mark: 0,
+            smart: false,
         })
     }
 
-    /// The same with the setting 0 none, 1 the first R bit, 2 the second.
+    /// The same with the settings multihomed (0 none, 1 the first R bit, 2 the second) and Smart Endnodes.
     #[inline(always)]
-    pub fn marking(self, multihomed: u32) -> Port {
+    pub fn with(self, multihomed: u32, smart: u32) -> Port {
         let mark = [0, 0x20, 0x10][multihomed as usize];
-        Port { mark, ..self }
+        Port {
+            mark,
+            smart: smart == 1,
+            ..self
+        }
     }
 }

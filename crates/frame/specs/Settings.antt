@@ -42,9 +42,9 @@ secondBit = 2
 abbrev pub mostMultihomed : ℕ
 mostMultihomed = secondBit
 
--- Smart Endnodes on or off (2026-13): 0, which is off, until they land
+-- Smart Endnodes on (1) or off (0) (2026-13)
 abbrev pub mostSmart : ℕ
-mostSmart = 0
+mostSmart = 1
 
 unfoldable pub laterGood : Settings → Bool
 laterGood s = both (leb (s .multihomed) mostMultihomed) (leb (s .smart) mostSmart)
@@ -55,6 +55,10 @@ settingsGood s = both (addressesGood s) (both (numbersGood s) (laterGood s))
 -- Compact is on
 abbrev pub compactOn : Settings → Bool
 compactOn s = eqb (s .compact) 1
+
+-- Smart Endnodes are on
+abbrev pub smartOn : Settings → Bool
+smartOn s = eqb (s .smart) 1
 
 -- the seconds that a learned record gets, `life` being the default
 abbrev pub lifeOf : ℕ → Settings → ℕ

@@ -25,7 +25,9 @@ pub const SECOND_BIT: u32 = 2;
 pub const MOST_MULTIHOMED: u32 = SECOND_BIT;
 
 // Smart Endnodes: 0, which is off, until their request lands.
-pub const MOST_SMART: u32 = 0;
+pub const SMART_ON: u32 = 1;
+
+pub const MOST_SMART: u32 = SMART_ON;
 
 // The greatest confidence; the learning seconds, and those that 0 stands for.
 pub const MOST_CONFIDENCE: u32 = 255;

@@ -26,7 +26,7 @@ use Rattle.convert.proofs.Areas.{writes}
 use Rattle.receive.specs.Deciding.{isMarked, ingressAllowed, nicknamesGood, isOnward}
 use Rattle.port_map.specs.Maps.{pairsIn, goodOnce, pairsGood, mapGood}
 use Rattle.receive.specs.Delivering.{stays, nativeOut}
-use Rattle.receive.specs.Receive.{learnedEntry, delivery, acted, reading, receivedWith}
+use Rattle.receive.specs.Receive.{learnedEntry, taught, delivery, acted, reading, receivedWith}
 use Rattle.promises.specs.Cases.{farPort, p10Compact}
 use Rattle.promises.specs.Interchange.{Call, read, age, lookup, spoilt, portion, calledWith, runWith, run, workingArea, frameOr, compactedCall, compactedWhere}
 use Rattle.promises.specs.Example.{p10Frame, outBefore, later, generalCalls, compactCalls, seen, InterchangeExample}
@@ -48,7 +48,7 @@ unfolding compactedWhere compactedCall pick
 replaced = ap (λ r. read [] (frameOr p10Frame r) outBefore ∷ later) p10-converted
 
 both-run : (run farPort freed generalCalls ≡ seen) × (run farPort freed compactCalls ≡ seen)
-unfolding pick both either anyOf between check andThen settled num bytesOf startsWith laid individual nicknameGood vlanGood labelFrom entryOf entryGood held slotOf markedSlot unpacked recordNumber packed entryMatches tableGood onSlots firstSlot lowest holds placeOf nicknameAt lookedUp agedSlot aged spoiltSlot spoiltAt lowestSpoilt holdsConfigured holdsLearned holdsUnmarked holdsMarked rivalOf clearedPair roomFor judgedAt freeSlot intoFree judged learnt isMarked addressesGood secondsGood numbersGood laterGood settingsGood trillGroup controlAddress reservedGroup frontRefused frontOf headerLength labelLength labelRead nativeBytes outerLength generalAfter general compactAfter compact frameLengthGood byFront parsed parts partsFrom pairsIn goodOnce pairsGood mapGood ingressAllowed nicknamesGood isOnward learnedEntry stays nativeOut delivery acted reading receivedWith calledWith runWith run
+unfolding pick both either anyOf between check andThen settled num bytesOf startsWith laid individual nicknameGood vlanGood labelFrom entryOf entryGood held slotOf markedSlot unpacked recordNumber packed entryMatches tableGood onSlots firstSlot lowest holds placeOf nicknameAt lookedUp agedSlot aged spoiltSlot spoiltAt lowestSpoilt holdsConfigured holdsLearned holdsUnmarked holdsMarked rivalOf clearedPair roomFor judgedAt freeSlot intoFree judged learnt isMarked addressesGood secondsGood numbersGood laterGood settingsGood trillGroup controlAddress reservedGroup frontRefused frontOf headerLength labelLength labelRead nativeBytes outerLength generalAfter general compactAfter compact frameLengthGood byFront parsed parts partsFrom pairsIn goodOnce pairsGood mapGood ingressAllowed nicknamesGood isOnward learnedEntry taught stays nativeOut delivery acted reading receivedWith calledWith runWith run
 both-run = (refl, refl)
 
 -- the first frames have 40 and 28 bytes

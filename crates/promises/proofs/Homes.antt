@@ -23,7 +23,7 @@ use Rattle.frame.specs.declared.Settings.{Settings}
 use Rattle.receive.specs.Deciding.{isMarked, ingressAllowed, nicknamesGood, isOnward}
 use Rattle.port_map.specs.Maps.{pairsIn, goodOnce, pairsGood, mapGood}
 use Rattle.receive.specs.Delivering.{stays, nativeOut}
-use Rattle.receive.specs.Receive.{learnedEntry, delivery, acted, reading, receivedWith, portReceived, received}
+use Rattle.receive.specs.Receive.{learnedEntry, taught, delivery, acted, reading, receivedWith, portReceived, received}
 use Rattle.promises.specs.Homes.{NoneAsBefore, MarkedRead}
 
 none-marked : (life : ℕ) (s : Settings) (p : Fields) → s .multihomed ≡ 0 → learnedEntry life s p .multihomed ≡ false
@@ -34,5 +34,5 @@ pub none-as-before : NoneAsBefore
 none-as-before life s p t none unique = learnt-before (learnedEntry life s p) (none-marked life s p none) t unique
 
 pub marked-read : MarkedRead
-unfolding pick both either anyOf between check andThen settled num bytesOf startsWith laid individual nicknameGood vlanGood labelFrom entryOf entryGood held slotOf markedSlot unpacked recordNumber packed entryMatches tableGood onSlots firstSlot lowest holds holdsConfigured holdsLearned holdsUnmarked holdsMarked rivalOf clearedPair roomFor judgedAt freeSlot intoFree judged learnt isMarked addressesGood secondsGood numbersGood laterGood settingsGood trillGroup controlAddress reservedGroup frontRefused frontOf headerLength labelLength labelRead nativeBytes compactAfter compact frameLengthGood byFront parsed ingressAllowed nicknamesGood isOnward learnedEntry parts partsFrom pairsIn goodOnce pairsGood mapGood stays nativeOut delivery acted reading receivedWith portReceived received
+unfolding pick both either anyOf between check andThen settled num bytesOf startsWith laid individual nicknameGood vlanGood labelFrom entryOf entryGood held slotOf markedSlot unpacked recordNumber packed entryMatches tableGood onSlots firstSlot lowest holds holdsConfigured holdsLearned holdsUnmarked holdsMarked rivalOf clearedPair roomFor judgedAt freeSlot intoFree judged learnt isMarked addressesGood secondsGood numbersGood laterGood settingsGood trillGroup controlAddress reservedGroup frontRefused frontOf headerLength labelLength labelRead nativeBytes compactAfter compact frameLengthGood byFront parsed ingressAllowed nicknamesGood isOnward learnedEntry taught parts partsFrom pairsIn goodOnce pairsGood mapGood stays nativeOut delivery acted reading receivedWith portReceived received
 marked-read = record { first = refl; second = refl; not-first = refl; not-second = refl; none = refl; beyond = refl }

@@ -14,7 +14,7 @@ use Rattle.convert.specs.Compaction.{staysGeneral, generalFields, compacting, c
 use Rattle.convert.specs.Expansion.{Outer, outerDestination, generalBytes, expanding, expanded}
 use Rattle.convert.specs.Sending.{sentFields, sending, sent}
 use Rattle.receive.specs.Deciding.{isMarked, ingressAllowed, nicknamesGood, isOnward, channelGood}
-use Rattle.receive.specs.Receive.{learnedEntry, delivery, channel, acted, reading, receivedWith, portReceived}
+use Rattle.receive.specs.Receive.{learnedEntry, taught, delivery, channel, acted, reading, receivedWith, portReceived}
 use Rattle.promises.specs.Interchange.{Call, read, age, lookup, spoilt, portion, Seen, seenReading, calledWith, runWith, run}
 use Rattle.promises.specs.Lives.{oldLife, passing, LifeAsBefore, OtherLivesStay}
 
@@ -22,7 +22,7 @@ use Rattle.promises.specs.Lives.{oldLife, passing, LifeAsBefore, OtherLi
 
 module _ (s : Settings) where
   reading-as-before : (m f t o : List ℕ) → portReceived (passing 300 s) m f t o ≡ receivedWith oldLife (passing 0 s) m f t o
-  unfolding portReceived receivedWith reading acted delivery channel channelGood learnedEntry isMarked ingressAllowed nicknamesGood isOnward parsed frontOf settingsGood addressesGood numbersGood laterGood secondsGood pick both either between
+  unfolding portReceived receivedWith reading acted delivery taught channel channelGood learnedEntry isMarked ingressAllowed nicknamesGood isOnward parsed frontOf settingsGood addressesGood numbersGood laterGood secondsGood pick both either between
   reading-as-before m f t o = refl
 
   call-as-before : (t : List ℕ) (c : Call) → calledWith defaultLife (passing 300 s) t c ≡ calledWith oldLife (passing 0 s) t c
@@ -68,7 +68,7 @@ module _ (s : Settings) (some : s .seconds ≡ 0 → ⊥) where
   same-life life = rw (ne-eqb (s .seconds) 0 some)
 
   reading-stays : (m f t o : List ℕ) → portReceived s m f t o ≡ receivedWith oldLife s m f t o
-  unfolding portReceived receivedWith reading acted delivery learnedEntry
+  unfolding portReceived receivedWith reading acted delivery taught learnedEntry
   reading-stays m f t o = rw (same-life defaultLife, same-life oldLife)
 
   call-stays : (t : List ℕ) (c : Call) → calledWith defaultLife s t c ≡ calledWith oldLife s t c

@@ -16,7 +16,7 @@ ghost use Rattle.models.specs.Example.{NotPromised};
 ghost use Rattle.frame.specs.Claims.{HeaderLocal, LabelLocal, LabelsGood};
 ghost use Rattle.convert.specs.Claims.{ReadsSame, ExpandCompacted, CompactExpanded, ConvertRefusals, SendsExactly, RoomForCompaction, SendRoom, ControlNeverCompact};
 ghost use Rattle.convert.specs.Chosen.{ChosenSent};
-ghost use Rattle.receive.specs.Claims.{ReadRefusal, ReadingKeepsApart, ReadsParsed, ReadingLeavesAlone, ReadFlushExact, PaddedRead, NoMapNoChange};
+ghost use Rattle.receive.specs.Claims.{ReadRefusal, ReadingKeepsApart, ReadsParsed, ReadingLeavesAlone, ReadFlushExact, PaddedRead, NoMapNoChange, SmartPort};
 ghost use Rattle.port_map.specs.Claims.{SearchInverse};
 ghost use Rattle.receive.specs.Order.{ReadsExactly};
 ghost use Rattle.ingress.specs.Cases.{MapCases};
@@ -30,7 +30,7 @@ ghost use Rattle.promises.specs.Interchange.{Interchange};
 ghost use Rattle.promises.specs.Lives.{LifeAsBefore, OtherLivesStay};
 
 pub fn claims()
-    ensures demands { λ _. ⌜ Interchange × InterchangeExample × ExpandCompacted × CompactExpanded × RefusalChangesNothing × Validity × FlushExact × ReadFlushExact × PaddedFlush × PaddedRead × ReadsExactly × HomesStayApart × WidenedSame × UnmarkedAsBefore × NoneAsBefore × HomesExamples × MarkedRead × FreeSlotFound × SpoiltStays × ConfiguredStays × SendsExactly × RoomForCompaction × SendRoom × ChosenSent × ControlNeverCompact × LifeAsBefore × OtherLivesStay × SearchInverse × NoMapNoChange × MapRoundTrip × Cases × ControlCases × MapCases ⌝ }
+    ensures demands { λ _. ⌜ Interchange × InterchangeExample × ExpandCompacted × CompactExpanded × RefusalChangesNothing × Validity × FlushExact × ReadFlushExact × PaddedFlush × PaddedRead × ReadsExactly × HomesStayApart × WidenedSame × UnmarkedAsBefore × NoneAsBefore × HomesExamples × MarkedRead × FreeSlotFound × SpoiltStays × ConfiguredStays × SendsExactly × RoomForCompaction × SendRoom × ChosenSent × ControlNeverCompact × LifeAsBefore × OtherLivesStay × SearchInverse × NoMapNoChange × MapRoundTrip × SmartPort × Cases × ControlCases × MapCases ⌝ }
     ensures calls { λ _. ⌜ ReadRefusal × FlushRefusal × AgeingRefusal × WideningRefusal × ConvertRefusals × IngressRefusal × ReadingKeepsApart × FlushingKeepsApart × AgeingKeepsApart × LearningKeepsApart × ReadingLeavesAlone × FlushingLeavesAlone × AgeingLeavesAlone × LearningLeavesAlone ⌝ }
     ensures portions { λ _. ⌜ PortionExact × PortionsWhole × PortionsReach × PortionsEnd × Later × Passed × PortionRefusal × PortionKeepsApart × PortionLeavesAlone ⌝ }
     ensures models { λ _. ⌜ FullModel × VlanOnly × NotPromised ⌝ }

@@ -14,7 +14,6 @@ use Rattle.numbers.specs.After.{OnTable, OnBoth, onBoth}
 use Rattle.numbers.specs.Bytes.{num}
 use Rattle.numbers.specs.Ranges.{individual, vlanGood}
 use Rattle.table.specs.Slots.{tableGood}
-use Rattle.table.specs.Learning.{learnt}
 use Rattle.flush.specs.Payload.{everyType, corrupt, nickBytes, blockCount, behind, blockBytes, piecesOf, Payload, made, payloadOf}
 use Rattle.flush.specs.Flush.{slotMeant, clearedBy, clearing}
 use Rattle.frame.specs.Settings.{settingsGood, compactOn, defaultLife}
@@ -27,7 +26,7 @@ use Rattle.frame.specs.declared.Settings.{Settings}
 use Rattle.port_map.specs.Maps.{map-bad, no-pair, mapGood}
 use Rattle.receive.specs.Deciding.{nicknamesGood, isOnward, channelBytes, channelProtocol, channelPayload, flushProtocol, channelGood}
 use Rattle.receive.specs.Delivering.{nativeOut}
-use Rattle.receive.specs.Receive.{learnedEntry, deliveredWith, flushedWith, delivery, channel, acted, reading, receivedWith, portReceived}
+use Rattle.receive.specs.Receive.{taught, deliveredWith, flushedWith, delivery, channel, acted, reading, receivedWith, portReceived}
 use Rattle.receive.specs.Order.{Row, unless, when, firstOf, Outcome, outerRows, outerEnd, headerRows, addressRows, labelRows, labelEnd, trillRows, contentRows, generalRows, generalParts, compactRows, compactParts, frontRows, frontParts, isGot, channelRows, flushesAll, nativeRows, delivers, actedOn, readInOrder, ReadsExactly}
 use Rattle.receive.specs.declared.ReadAnswer.{ReadAnswer}
 use Rattle.receive.specs.declared.ReadAnswer.the-variants.{Refused, Onward, OtherChannel}
@@ -229,8 +228,8 @@ module _ (m : List ℕ) (s : Settings) (p : Fields) (t o : List ℕ) where
   native-rows = go (trillGroup (num (p .dst))) (nativeOut m p) (native-missing m p)
     where
       go : (a : Bool) (r : Result (List ℕ)) → ((n : ℕ) → r ≡ refused n → n ≡ no-pair)
-          → check (not a) not-channel (andThen r λ b. check (leb (length b) (length o)) area-short (got (deliveredWith p b o (learnt (learnedEntry defaultLife s p) t))))
-          ≡ firstOf (when a (refused not-channel) ∷ unless (isGot r) (refused no-pair) ∷ unless (leb (length (settled (λ n. []) r)) (length o)) (refused area-short) ∷ []) (got (deliveredWith p (settled (λ n. []) r) o (learnt (learnedEntry defaultLife s p) t)))
+          → check (not a) not-channel (andThen r λ b. check (leb (length b) (length o)) area-short (got (deliveredWith p b o (taught defaultLife s p t))))
+          ≡ firstOf (when a (refused not-channel) ∷ unless (isGot r) (refused no-pair) ∷ unless (leb (length (settled (λ n. []) r)) (length o)) (refused area-short) ∷ []) (got (deliveredWith p (settled (λ n. []) r) o (taught defaultLife s p t)))
       go true r only = refl
       go false (refused n) only = ap refused (only n refl)
       go false (got b) only = short (leb (length b) (length o)) _

@@ -21,6 +21,7 @@ use Rattle.numbers.proofs.Answers.{refused-got, got-got, check-got, pick-got, t
 use Rattle.table.specs.Record.{labelGood, entryGood}
 use Rattle.table.specs.Learning.{learnt}
 use Rattle.table.specs.declared.Label.{Label}
+use Rattle.table.specs.declared.Learning.the-variants.{Kept}
 use Rattle.table.specs.Slots.{tableGood}
 use Rattle.table.specs.Claims.{Sound, Apart, LeavesAlone}
 use Rattle.table.proofs.Packing.{label-fits}
@@ -40,9 +41,9 @@ use Rattle.frame.specs.Formats.{byFront, parsed}
 use Rattle.frame.specs.declared.Settings.{Settings}
 use Rattle.frame.proofs.Local.{labels-good}
 use Rattle.frame.proofs.Parts.{Good, general-is, compact-is}
-use Rattle.receive.specs.Deciding.{isMarked, ingressAllowed, nicknamesGood, channelPayload}
+use Rattle.receive.specs.Deciding.{isOwn, isMarked, ingressAllowed, nicknamesGood, channelPayload}
 use Rattle.receive.specs.Delivering.{nativeOut}
-use Rattle.receive.specs.Receive.{learnedEntry, deliveredWith, delivery, flushedWith, channel, acted, reading, receivedWith, portReceived}
+use Rattle.receive.specs.Receive.{learnedEntry, taught, deliveredWith, delivery, flushedWith, channel, acted, reading, receivedWith, portReceived}
 use Rattle.receive.specs.Words.{LabelFits}
 use Rattle.receive.specs.Claims.{ReadRefusal, ReadingKeepsApart, ReadsParsed, ReadingLeavesAlone, FlushRead, ReadFlushExact}
 use Rattle.receive.specs.declared.ReadAnswer.{ReadAnswer}
@@ -59,7 +60,7 @@ pub record Holds (m : List ℕ) (life : ℕ) (s : Settings) (p : Fields) (t o : 
   pub onward : P (onBoth Onward t o)
   pub other : P (onBoth OtherChannel t o)
   pub flushes : isChannel (p .content) ≡ true → (c : OnTable ℕ) → clearing everyType (ingressOf (p .header)) (channelPayload (p .content)) t ≡ got c → P (flushedWith o c)
-  pub delivers : nicknamesGood s (p .header) ≡ true → individual (num (p .src)) ≡ true → (b : List ℕ) → nativeOut m p ≡ got b → P (deliveredWith p b o (learnt (learnedEntry life s p) t))
+  pub delivers : nicknamesGood s (p .header) ≡ true → individual (num (p .src)) ≡ true → (b : List ℕ) → nativeOut m p ≡ got b → P (deliveredWith p b o (taught life s p t))
 
 module _ (m : List ℕ) (life : ℕ) (s : Settings) (p : Fields) (t o : List ℕ) (P : OnBoth ReadAnswer → Type 0) (h : Holds m life s p t o P) where
   channel-left : isChannel (p .content) ≡ true → (a : OnBoth ReadAnswer) → channel s p t o ≡ got a → P a
@@ -111,6 +112,24 @@ pub settled-left : {A : Type 0} (P : A → Type 0) (leave : ℕ → A) (r : Resu
 unfolding settled
 settled-left P leave (refused n) f g = f n
 settled-left P leave (got a) f g = g a refl
+
+-- a frame with our own ingress nickname teaches nothing, another its source
+module _ (life : ℕ) (s : Settings) (p : Fields) (t : List ℕ) where
+  pub own-taught : isOwn s (ingressOf (p .header)) ≡ true → taught life s p t ≡ onTable Kept t
+  unfolding taught pick
+  own-taught own = rw own
+
+  pub other-taught : isOwn s (ingressOf (p .header)) ≡ false → taught life s p t ≡ learnt (learnedEntry life s p) t
+  unfolding taught pick
+  other-taught other = rw other
+
+  -- so the table is the one that came or one that learned
+  pub taught-left : (P : List ℕ → Type 0) → P t → P (learnt (learnedEntry life s p) t .table) → P (taught life s p t .table)
+  taught-left P same learns = go (isOwn s (ingressOf (p .header))) refl
+    where
+      go : (own : Bool) → isOwn s (ingressOf (p .header)) ≡ own → P (taught life s p t .table)
+      go true e = rw (own-taught e) same
+      go false e = rw (other-taught e) learns
 
 -- two answers that differ make any two numbers equal
 pub apart : {C : Type 0} → _≡_ {A = ℕ} 0 1 → C
@@ -200,7 +219,7 @@ keeps-apart m life s p t o small set g u = record {
   onward = u;
   other = u;
   flushes = λ is c q. clearing-apart (ingressOf (p .header)) (channelPayload (p .content)) t c q u;
-  delivers = λ n i b made. learning-apart (learnedEntry life s p) (learned-sound life s p small set g n i) t u;
+  delivers = λ n i b made. taught-left life s p t Apart u (learning-apart (learnedEntry life s p) (learned-sound life s p small set g n i) t u);
 }
 
 pub reading-apart : ReadingKeepsApart
@@ -222,7 +241,7 @@ reading-leaves-alone s m f t o =
       onward = same;
       other = same;
       flushes = λ is c r. clearing-leaves-alone (ingressOf (p .header)) (channelPayload (p .content)) t c r;
-      delivers = λ n i b made. learning-leaves-alone (learnedEntry defaultLife s p) t;
+      delivers = λ n i b made. taught-left defaultLife s p t (LeavesAlone t) same (learning-leaves-alone (learnedEntry defaultLife s p) t);
     }))
   where
     same : LeavesAlone t t

@@ -1,14 +1,17 @@
 -- What holds of reading, with every map m, good or not; without one it is reading with the empty map.
 -- Assumes nothing.
 use Prim.Native.Nat.{ℕ, _+_, _<_, _≤_}
-use mathlib.Core.Bool.{true}
+use mathlib.Core.Bool.{true, false}
 use mathlib.Core.List.{List, []}
 use mathlib.Core.Path.{_≡_}
 use lib.ListN.{length}
-use Rattle.numbers.specs.Result.{got}
+use Rattle.numbers.specs.Result.{refused, got}
 use Rattle.numbers.specs.After.{onTable}
 use Rattle.table.specs.Slots.{slotsOf}
 use Rattle.table.specs.Claims.{Apart, LeavesAlone}
+use Rattle.table.specs.declared.Label.{Label}
+use Rattle.table.specs.declared.Learning.{Learning}
+use Rattle.table.specs.declared.Learning.the-variants.{Kept}
 use Rattle.flush.specs.Payload.{everyType, Payload, payloadOf}
 use Rattle.flush.specs.Flush.{flushed}
 use Rattle.flush.specs.Padding.{padded}
@@ -20,9 +23,10 @@ use Rattle.frame.specs.Fields.{Fields}
 use Rattle.frame.specs.Formats.{longestFrame, parsed}
 use Rattle.frame.specs.declared.Settings.{Settings}
 use Rattle.port_map.specs.Maps.{mapGood}
-use Rattle.receive.specs.Deciding.{channelPayload}
+use Rattle.receive.specs.Before.{receivedBefore}
+use Rattle.receive.specs.Deciding.{isOwn, channelPayload}
 use Rattle.receive.specs.Receive.{portReceived, received}
-use Rattle.receive.specs.declared.ReadAnswer.the-variants.{Refused, Flushed}
+use Rattle.receive.specs.declared.ReadAnswer.the-variants.{Refused, Delivered, Flushed}
 
 -- demand 1: "A refusal returns its number and changes nothing: every lent area keeps its bytes"
 abbrev pub ReadRefusal : Type 0
@@ -68,3 +72,25 @@ PaddedRead =
 pub record NoMapNoChange : Type 0 where
   pub empty : (s : Settings) (f t o : List ℕ) → portReceived s [] f t o ≡ received s f t o
   pub vlan : (s : Settings) (m f t o : List ℕ) (p : Fields) → mapGood m ≡ true → parsed s f ≡ got p → isTag (p .label) ≡ true → portReceived s m f t o ≡ received s f t o
+
+-- the settings s with Smart Endnodes on (1) or off (0)
+abbrev pub withSmart : ℕ → Settings → Settings
+withSmart n s = record {
+  port = s .port;
+  inner = s .inner;
+  nickname = s .nickname;
+  compact = s .compact;
+  confidence = s .confidence;
+  seconds = s .seconds;
+  multihomed = s .multihomed;
+  smart = n;
+}
+
+-- 2026-13: with Smart Endnodes off reading is as it was; on, it differs only where the ingress nickname is our own, and "learns nothing
+-- from such frames (answer kept)"
+pub record SmartPort : Type 0 where
+  pub off : (s : Settings) (m f t o : List ℕ) → portReceived (withSmart 0 s) m f t o ≡ receivedBefore (withSmart 0 s) m f t o
+  pub refused-alike : (s : Settings) (m f t o : List ℕ) (n : ℕ) → parsed s f ≡ refused n → portReceived (withSmart 1 s) m f t o ≡ portReceived (withSmart 0 s) m f t o
+  pub others-alike : (s : Settings) (m f t o : List ℕ) (p : Fields) → parsed s f ≡ got p → isOwn s (ingressOf (p .header)) ≡ false → portReceived (withSmart 1 s) m f t o ≡ portReceived (withSmart 0 s) m f t o
+  pub own-kept : (s : Settings) (m f t o : List ℕ) (p : Fields) (l : Learning) (n : ℕ) (b : Label) → parsed s f ≡ got p → isOwn s (ingressOf (p .header)) ≡ true → portReceived s m f t o .answer ≡ Delivered l n b
+      → (l ≡ Kept) × (portReceived s m f t o .table ≡ t)

@@ -10,13 +10,17 @@ use Rattle.numbers.specs.Bytes.{num}
 use Rattle.numbers.specs.Ranges.{nicknameGood}
 use Rattle.frame.specs.Front.{allEgressRBridges}
 use Rattle.frame.specs.Header.{wordAt, firstReserved, secondReserved, multicastOf, egressOf, ingressOf}
-use Rattle.frame.specs.Settings.{firstBit, secondBit}
+use Rattle.frame.specs.Settings.{firstBit, secondBit, smartOn}
 use Rattle.frame.specs.Fields.{Fields}
 use Rattle.frame.specs.declared.Settings.{Settings}
 
--- our own nickname may not be the ingress nickname
+-- the ingress nickname is our own
+abbrev pub isOwn : Settings → ℕ → Bool
+isOwn s n = eqb n (s .nickname)
+
+-- "A port with Smart Endnodes on doesn't refuse our own ingress nickname .. other ports keep 9" (2026-13)
 unfoldable pub ingressAllowed : Settings → ℕ → Bool
-ingressAllowed s n = not (eqb n (s .nickname))
+ingressAllowed s n = either (smartOn s) (not (isOwn s n))
 
 -- refusal 9: "a nickname outside 0001 to FFBF, or ingress nickname our own"
 unfoldable pub nicknamesGood : Settings → List ℕ → Bool

@@ -14,7 +14,6 @@ use Rattle.numbers.specs.After.{OnBoth, onBoth}
 use Rattle.numbers.specs.Bytes.{num}
 use Rattle.numbers.specs.Ranges.{individual, vlanGood}
 use Rattle.table.specs.Slots.{tableGood}
-use Rattle.table.specs.Learning.{learnt}
 use Rattle.flush.specs.Payload.{everyType, made, payloadOf}
 use Rattle.flush.specs.Flush.{slotMeant, clearedBy}
 use Rattle.frame.specs.Settings.{settingsGood, compactOn, defaultLife}
@@ -27,7 +26,7 @@ use Rattle.frame.specs.declared.Settings.{Settings}
 use Rattle.port_map.specs.Maps.{map-bad, no-pair, mapGood}
 use Rattle.receive.specs.Deciding.{nicknamesGood, isOnward, channelBytes, channelProtocol, channelPayload, flushProtocol, channelGood}
 use Rattle.receive.specs.Delivering.{nativeOut}
-use Rattle.receive.specs.Receive.{learnedEntry, deliveredWith, flushedWith, portReceived}
+use Rattle.receive.specs.Receive.{taught, deliveredWith, flushedWith, portReceived}
 use Rattle.receive.specs.declared.ReadAnswer.{ReadAnswer}
 use Rattle.receive.specs.declared.ReadAnswer.the-variants.{Refused, Onward, OtherChannel}
 
@@ -211,7 +210,7 @@ module _ (m : List ℕ) (s : Settings) (p : Fields) (t o : List ℕ) where
       ∷ []
 
   abbrev pub delivers : Outcome
-  delivers = got (deliveredWith p (nativeWritten m p) o (learnt (learnedEntry defaultLife s p) t))
+  delivers = got (deliveredWith p (nativeWritten m p) o (taught defaultLife s p t))
 
   abbrev pub actedOn : Outcome
   actedOn =

@@ -9,13 +9,14 @@ use lib.ListN.{length}
 use Rattle.numbers.specs.Tests.{pick}
 use Rattle.numbers.specs.Result.{Result, got, check, andThen, settled}
 use Rattle.numbers.specs.Refusals.{settings-bad, table-length-bad, hops-spent, nickname-bad, source-group, not-channel, channel-bad, area-short}
-use Rattle.numbers.specs.After.{OnTable, OnBoth, onBoth}
+use Rattle.numbers.specs.After.{OnTable, onTable, OnBoth, onBoth}
 use Rattle.numbers.specs.Bytes.{num, laid}
 use Rattle.numbers.specs.Ranges.{individual}
 use Rattle.table.specs.Slots.{tableGood}
 use Rattle.table.specs.Learning.{learnt}
 use Rattle.table.specs.declared.Entry.{Entry}
 use Rattle.table.specs.declared.Learning.{Learning}
+use Rattle.table.specs.declared.Learning.the-variants.{Kept}
 use Rattle.flush.specs.Payload.{everyType}
 use Rattle.flush.specs.Flush.{clearing}
 use Rattle.frame.specs.Settings.{settingsGood, lifeOf, defaultLife}
@@ -26,7 +27,7 @@ use Rattle.frame.specs.Fields.{Fields}
 use Rattle.frame.specs.Formats.{parsed}
 use Rattle.frame.specs.declared.Settings.{Settings}
 use Rattle.port_map.specs.Maps.{map-bad, mapGood}
-use Rattle.receive.specs.Deciding.{nicknamesGood, isOnward, isMarked, channelBytes, channelProtocol, channelPayload, flushProtocol, channelGood}
+use Rattle.receive.specs.Deciding.{isOwn, nicknamesGood, isOnward, isMarked, channelBytes, channelProtocol, channelPayload, flushProtocol, channelGood}
 use Rattle.receive.specs.Delivering.{nativeOut}
 use Rattle.receive.specs.declared.ReadAnswer.{ReadAnswer}
 use Rattle.receive.specs.declared.ReadAnswer.the-variants.{Refused, Onward, Delivered, OtherChannel, Flushed}
@@ -42,6 +43,11 @@ learnedEntry life s p = record {
   multihomed = isMarked s (p .header);
 }
 
+-- a delivered frame teaches its source; but a port "learns nothing from such frames (answer kept)", those with our own ingress
+-- nickname (2026-13)
+unfoldable pub taught : ℕ → Settings → Fields → List ℕ → OnTable Learning
+taught life s p t = pick (isOwn s (ingressOf (p .header))) (onTable Kept t) (learnt (learnedEntry life s p) t)
+
 -- "the answer gives its length, its label, and learned, refreshed, kept or full": the length of the bytes b that are written, and the
 -- label as the campus numbers it
 abbrev pub deliveredWith : Fields → List ℕ → List ℕ → OnTable Learning → OnBoth ReadAnswer
@@ -53,7 +59,7 @@ delivery native life s p t o =
     check (not (trillGroup (num (p .dst)))) not-channel
     (andThen native λ b.
     check (leb (length b) (length o)) area-short
-    (got (deliveredWith p b o (learnt (learnedEntry life s p) t))))
+    (got (deliveredWith p b o (taught life s p t))))
 
 abbrev pub flushedWith : List ℕ → OnTable ℕ → OnBoth ReadAnswer
 flushedWith o c = onBoth (Flushed (c .answer)) (c .table) o

@@ -1,5 +1,5 @@
 // Reading a frame. The definitions are in specs/.
-ghost use Rattle.receive.specs.Claims.{ReadRefusal, ReadingKeepsApart, ReadsParsed, ReadingLeavesAlone, ReadFlushExact, PaddedRead, NoMapNoChange};
+ghost use Rattle.receive.specs.Claims.{ReadRefusal, ReadingKeepsApart, ReadsParsed, ReadingLeavesAlone, ReadFlushExact, PaddedRead, NoMapNoChange, SmartPort};
 ghost use Rattle.receive.specs.Order.{ReadsExactly};
 use table::Label;
 use table::Learning;
@@ -38,5 +38,5 @@ pub const FLUSH_PROTOCOL: u64 = 0x009;
 
 // What holds of the definition of reading.
 pub fn claims()
-    ensures { λ _. ⌜ ReadRefusal × ReadingKeepsApart × ReadsParsed × ReadingLeavesAlone × ReadFlushExact × PaddedRead × ReadsExactly × NoMapNoChange ⌝ }
+    ensures { λ _. ⌜ ReadRefusal × ReadingKeepsApart × ReadsParsed × ReadingLeavesAlone × ReadFlushExact × PaddedRead × ReadsExactly × NoMapNoChange × SmartPort ⌝ }
 {}

@@ -14,7 +14,7 @@ use Rattle.receive_decide.specs.Meaning.{ValuesOf, nicknamesOf, onwardOf
 use Rattle.receive_decide.specs.declared.FieldValues.{FieldValues}
 
 module _ (s : Settings) (p : Fields) (v : FieldValues) (w : ValuesOf p v) where
-  nicknames-same : nicknamesGood s (p .header) ≡ nicknamesOf (s .nickname) (v .egress) (v .ingress)
+  nicknames-same : nicknamesGood s (p .header) ≡ nicknamesOf (s .smart) (s .nickname) (v .egress) (v .ingress)
   unfolding nicknamesGood ingressAllowed nicknamesOf
   nicknames-same = rw (w .egress, w .ingress)
 
@@ -27,7 +27,7 @@ module _ (s : Settings) (p : Fields) (v : FieldValues) (w : ValuesOf p v) where
     unfolding deciding check
     hops-out h = rw (← w .hops, eq-eqb (v .hops) 0 h)
 
-    module _ (some : v .hops ≡ 0 → ⊥) (n : Bool) (en : n ≡ nicknamesOf (s .nickname) (v .egress) (v .ingress)) where
+    module _ (some : v .hops ≡ 0 → ⊥) (n : Bool) (en : n ≡ nicknamesOf (s .smart) (s .nickname) (v .egress) (v .ingress)) where
       pub nicknames-out : not n ≡ true → refused 9 ≡ deciding s p a b c
       unfolding deciding check
       nicknames-out h = rw (← w .hops, ne-eqb (v .hops) 0 some, nicknames-same, ← en, not-true n h)

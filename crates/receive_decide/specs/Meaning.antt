@@ -4,7 +4,7 @@ use Prim.Native.Nat.{ℕ, _^_, _<_}
 use mathlib.Core.Bool.{Bool, not}
 use mathlib.Core.Path.{_≡_}
 use lib.Dec.{eqb}
-use Rattle.numbers.specs.Tests.{pick, both}
+use Rattle.numbers.specs.Tests.{pick, both, either}
 use Rattle.numbers.specs.Result.{Result, refused, check}
 use Rattle.numbers.specs.Refusals.{hops-spent, nickname-bad, source-group}
 use Rattle.numbers.specs.Bytes.{num}
@@ -30,8 +30,8 @@ pub record ValuesOf (p : Fields) (v : FieldValues) : Type 0 where
   pub src-fits : v .src < 2 ^ 48
 
 -- `nicknamesGood` and `isOnward` of the numbers themselves
-unfoldable pub nicknamesOf : ℕ → ℕ → ℕ → Bool
-nicknamesOf own egress ingress = both (nicknameGood egress) (both (nicknameGood ingress) (not (eqb ingress own)))
+unfoldable pub nicknamesOf : ℕ → ℕ → ℕ → ℕ → Bool
+nicknamesOf smart own egress ingress = both (nicknameGood egress) (both (nicknameGood ingress) (either (eqb smart 1) (not (eqb ingress own))))
 
 unfoldable pub onwardOf : ℕ → ℕ → ℕ → Bool
 onwardOf own multicast egress = both (eqb multicast 0) (not (eqb egress own))

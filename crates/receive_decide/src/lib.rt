@@ -8,6 +8,7 @@ ghost use Rattle.receive.specs.declared.ReadAnswer.{ReadAnswer};
 ghost use Rattle.frame_parse.specs.Meaning.{fieldsIn, PartsOf};
 ghost use Rattle.receive_decide.specs.Meaning.{ValuesOf, deciding, stepAs, nicknamesOf, onwardOf};
 use frame::ADDRESS_BYTES;
+use frame::SMART_ON;
 use frame::Settings;
 use frame_parse::Parts;
 use numbers::refusals::HOPS_SPENT;
@@ -48,12 +49,12 @@ pub fn read_values(f: &[u8], p: Parts) -> FieldValues
     }
 }
 
-// Refusal 9.
-fn nicknames_good(nickname: u32, egress: u64, ingress: u64) -> bool
-    ensures { λ r. ⌜ r ≡ nicknamesOf nickname egress ingress ⌝ }
+// Refusal 9; with Smart Endnodes on our own ingress nickname is good too.
+fn nicknames_good(smart: u32, nickname: u32, egress: u64, ingress: u64) -> bool
+    ensures { λ r. ⌜ r ≡ nicknamesOf smart nickname egress ingress ⌝ }
 {
     numbers::nickname_good(egress)
-        & (numbers::nickname_good(ingress) & (ingress != nickname as u64))
+        & (numbers::nickname_good(ingress) & ((smart == SMART_ON) | (ingress != nickname as u64)))
 }
 
 // M is 0 and egress is not our nickname.
@@ -70,7 +71,7 @@ pub fn decide(s: Settings, v: FieldValues, channel: bool) -> Step
     if v.hops == 0 {
         return Step::Refused(HOPS_SPENT);
     }
-    if !nicknames_good(s.nickname, v.egress, v.ingress) {
+    if !nicknames_good(s.smart, s.nickname, v.egress, v.ingress) {
         return Step::Refused(NICKNAME_BAD);
     }
     if !numbers::is_individual(v.src) {

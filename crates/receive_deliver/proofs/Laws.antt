@@ -21,6 +21,7 @@ use Rattle.table.specs.declared.Entry.{Entry}
 use Rattle.table.specs.declared.Label.{Label}
 use Rattle.table.specs.declared.Label.the-variants.{Vlan, Fine}
 use Rattle.table.specs.declared.Learning.{Learning}
+use Rattle.table.specs.declared.Learning.the-variants.{Kept}
 use Rattle.table_records.specs.Entries.{Fits}
 use Rattle.frame.specs.Fields.{Fields, nativeBytes}
 use Rattle.frame.specs.Header.{wordAt}
@@ -32,7 +33,7 @@ use Rattle.frame.specs.declared.Settings.{Settings}
 use Rattle.receive.specs.Deciding.{isMarked}
 use Rattle.port_map.specs.Maps.{no-pair, campusLabel}
 use Rattle.receive.specs.Delivering.{taggedBytes}
-use Rattle.receive.specs.Receive.{learnedEntry, delivery}
+use Rattle.receive.specs.Receive.{learnedEntry, taught, delivery}
 use Rattle.receive.specs.declared.ReadAnswer.{ReadAnswer}
 use Rattle.receive.specs.declared.ReadAnswer.the-variants.{Refused, Delivered}
 use Rattle.receive.proofs.Outcomes.{settings-fit, apart}
@@ -43,7 +44,7 @@ use Rattle.frame_copy.specs.Areas.{pasted}
 use Rattle.frame_copy.proofs.Copying.{paste-next, paste-after, paste-laid}
 use Rattle.receive_decide.specs.Meaning.{ValuesOf}
 use Rattle.receive_decide.specs.declared.FieldValues.{FieldValues}
-use Rattle.receive_deliver.specs.Meaning.{learnedOf, Asks, tagOf, tagLength, isMissing, nativeAs, writtenWith, nativeLength}
+use Rattle.receive_deliver.specs.Meaning.{learnedOf, taughtOf, Asks, tagOf, tagLength, isMissing, nativeAs, writtenWith, nativeLength}
 use Rattle.receive_deliver.specs.declared.Tag.{Tag}
 use Rattle.receive_deliver.specs.declared.Tag.the-variants as tag
 use Rattle.receive_deliver.specs.declared.Wanted.the-variants as wanted
@@ -102,6 +103,16 @@ pub learned-is : (s : Settings) (l : Label) (m n k : ℕ) (mark : Bool) → sett
     × Fits (record { label = l; mac = m; nickname = n; confidence = s .confidence; seconds = k; multihomed = mark })
 learned-is s l m n k mark set a b e =
     (rw e, record { label = a; mac = b; seconds = rw e (settings-fit defaultLife s (omega arith) set .1) })
+
+-- ---- what is taught
+
+pub taught-nothing : (own : ℕ) (e : Entry) (t : List ℕ) → e .nickname ≡ own → onTable Kept t ≡ taughtOf own e t
+unfolding taughtOf pick
+taught-nothing own e t h = rw (eq-eqb (e .nickname) own h)
+
+pub taught-learns : (own : ℕ) (e : Entry) (t u : List ℕ) (how : Learning) → (e .nickname ≡ own → ⊥) → onTable how u ≡ learnt e t → onTable how u ≡ taughtOf own e t
+unfolding taughtOf pick
+taught-learns own e t u how h l = rw (ne-eqb (e .nickname) own h) l
 
 -- ---- the tag
 
@@ -235,9 +246,10 @@ module _ (f : List ℕ) (p : Parts) (i : PartsOf f p) where
               → (label : Label) → label ≡ labelRead (fieldsIn f p .label)
               → (mark : Bool) → mark ≡ isMarked s (fieldsIn f p .header)
               → (e : Entry) → e ≡ learnedOf s label (v .src) (v .ingress) mark
-              → (how : Learning) (u : List ℕ) → onTable how u ≡ learnt e t
+              → (how : Learning) (u : List ℕ) → onTable how u ≡ taughtOf (s .nickname) e t
               → (z : List ℕ) → z ≡ laid (writtenWith tag (fieldsIn f p)) o
               → onBoth (Delivered how long label) u z ≡ delivered tag
-          unfolding delivery settled check andThen learnedEntry
+          unfolding delivery taught settled check andThen learnedEntry taughtOf
           done l label le mark ma e ee how u lu z lz =
-              rw (← w .dst, ← group, h, written-as tag (fieldsIn f p) (sym em ∙ some), its-length, le-leb long (length o) l, ← le, ← w .src, ← w .ingress, ← ma, ← ee, ← lu, lz)
+              let eo : e .nickname ≡ v .ingress = rw ee in
+              rw (← w .dst, ← group, h, written-as tag (fieldsIn f p) (sym em ∙ some), its-length, le-leb long (length o) l, ← le, ← w .src, ← w .ingress, ← ma, ← ee, ← eo, ← lu, lz)

@@ -4,10 +4,16 @@ use Prim.Native.Nat.{ℕ, _+_, _-_}
 use mathlib.Core.Bool.{Bool, true, false}
 use mathlib.Core.List.{List, [], _++_}
 use mathlib.Core.Path.{_≡_}
+use lib.Dec.{eqb}
+use Rattle.numbers.specs.Tests.{pick}
+use Rattle.numbers.specs.After.{OnTable, onTable}
 use Rattle.numbers.specs.Bytes.{bytesOf}
 use Rattle.numbers.specs.Result.{Result, refused, got}
+use Rattle.table.specs.Learning.{learnt}
 use Rattle.table.specs.declared.Entry.{Entry}
 use Rattle.table.specs.declared.Label.{Label}
+use Rattle.table.specs.declared.Learning.{Learning}
+use Rattle.table.specs.declared.Learning.the-variants.{Kept}
 use Rattle.frame.specs.Front.{addressesBytes}
 use Rattle.frame.specs.Fields.{Fields, nativeBytes}
 use Rattle.frame.specs.Header.{wordAt}
@@ -26,6 +32,10 @@ use Rattle.receive_deliver.specs.declared.Wanted.the-variants as wanted
 abbrev pub learnedOf : Settings → Label → ℕ → ℕ → Bool → Entry
 learnedOf s label mac nickname mark =
     record { label = label; mac = mac; nickname = nickname; confidence = s .confidence; seconds = lifeOf defaultLife s; multihomed = mark }
+
+-- `taught` of an entry, our own nickname being the number own
+unfoldable pub taughtOf : ℕ → Entry → List ℕ → OnTable Learning
+taughtOf own e t = pick (eqb (e .nickname) own) (onTable Kept t) (learnt e t)
 
 -- what a frame's label asks of a map: nothing, or the VLAN of its fine-grained label, w being the label's second part
 abbrev pub Asks : Wanted → Fields → Type 0

@@ -7,7 +7,7 @@ ghost use lib.Dec.{eqb};
 ghost use lib.ListN.{length};
 ghost use Rattle.numbers.specs.Tests.{pick};
 ghost use Rattle.numbers.specs.Result.{settled};
-ghost use Rattle.numbers.specs.After.{onBoth};
+ghost use Rattle.numbers.specs.After.{onTable, onBoth};
 ghost use Rattle.numbers.specs.Bytes.{laid};
 ghost use Rattle.table.specs.Record.{labelNumber};
 ghost use Rattle.table_records.specs.Entries.{Fits};
@@ -20,7 +20,7 @@ ghost use Rattle.receive.specs.declared.ReadAnswer.the-variants as answer;
 ghost use Rattle.frame_parse.specs.Meaning.{fieldsIn, PartsOf};
 ghost use Rattle.receive_decide.specs.Meaning.{ValuesOf};
 ghost use Rattle.frame_copy.specs.Areas.{pasted};
-ghost use Rattle.receive_deliver.specs.Meaning.{learnedOf, Asks, tagOf, tagLength, isMissing, nativeAs, writtenWith, nativeLength};
+ghost use Rattle.receive_deliver.specs.Meaning.{learnedOf, taughtOf, Asks, tagOf, tagLength, isMissing, nativeAs, writtenWith, nativeLength};
 use frame::ADDRESSES_BYTES;
 use frame::DEFAULT_LIFE_SECONDS;
 use frame::ETHERTYPE_BYTES;
@@ -39,6 +39,7 @@ use receive::ReadAnswer;
 use receive_decide::FieldValues;
 use table::Entry;
 use table::Label;
+use table::Learning;
 
 // The 12 bits of a tag's number start here in a label, and the low 12 of a fine-grained label.
 const PART_OFFSET: usize = ETHERTYPE_BYTES;
@@ -144,6 +145,17 @@ fn learned_entry(s: Settings, label: Label, mac: u64, nickname: u64, mark: bool)
     }
 }
 
+// Learns the entry, unless its nickname is our own: such a frame teaches nothing.
+fn teach(nickname: u32, e: Entry, table: &mut [u8]) -> Learning
+    requires { ⌜ Fits e ⌝ }
+    ensures { λ r. ⌜ onTable r (now (table .exit)) ≡ taughtOf nickname e (now (table .entry)) ⌝ }
+{
+    if e.nickname as u32 == nickname {
+        return Learning::Kept;
+    }
+    table_learning::learn(e, table)
+}
+
 // The number of a tag: its length and its offset.
 const TAG_NUMBER_BYTES: usize = TAG_BYTES - ETHERTYPE_BYTES;
 
@@ -203,7 +215,8 @@ pub fn deliver(
     let label = label_of(f, p);
     write_native(f, p, tag, out);
     let mark = is_marked(s, f, p);
-    let how = table_learning::learn(learned_entry(s, label, v.src, v.ingress, mark), table);
+    let entry = learned_entry(s, label, v.src, v.ingress, mark);
+    let how = teach(s.nickname, entry, table);
     ReadAnswer::Delivered {
         learning: how,
         length: n as u16,

@@ -1,6 +1,6 @@
 //! Reading one frame.
 
-use super::answer::{word, Received};
+use super::answer::{word, Learning, Received};
 use super::flush::clear;
 use super::frame::{
     check_length as check_frame_length, front, is_reserved, read_compact, read_general, Fields,
@@ -76,10 +76,11 @@ fn received(
     if fields.hop_count == 0 {
         return Err(Refusal::HopCount);
     }
-    // 9: "a nickname outside 0001 to FFBF, or ingress nickname our own"
+    // 9: "a nickname outside 0001 to FFBF, or ingress nickname our own". Document 02, 2026-13: "A port with Smart Endnodes on doesn't
+    // refuse our own ingress nickname [..]; other ports keep 9."
     if !is_nickname(u64::from(fields.egress))
         || !is_nickname(u64::from(fields.ingress))
-        || fields.ingress == port.nickname
+        || fields.ingress == port.nickname && !port.smart
     {
         return Err(Refusal::Nickname);
     }
@@ -119,17 +120,20 @@ fn deliver(
         return Err(Refusal::OutputLength);
     };
     area.copy_from_slice(&native);
-    let learning = learn(
-        table,
-        &Entry {
-            label: fields.label,
-            mac: fields.inner_source,
-            nickname: fields.ingress,
-            confidence: port.confidence,
-            seconds: port.seconds,
-            multihomed: is_marked(port.multihomed, fields),
-        },
-    );
+    let entry = Entry {
+        label: fields.label,
+        mac: fields.inner_source,
+        nickname: fields.ingress,
+        confidence: port.confidence,
+        seconds: port.seconds,
+        multihomed: is_marked(port.multihomed, fields),
+    };
+    // Document 02, 2026-13: "and learns nothing from such frames (answer kept)"
+    let learning = if fields.ingress == port.nickname {
+        Learning::Kept
+    } else {
+        learn(table, &entry)
+    };
     Ok(Received::Delivered {
         length: native.len(),
         learning,

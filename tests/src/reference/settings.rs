@@ -32,6 +32,7 @@ pub struct Port {
     pub confidence: u8,
     pub seconds: u16,
     pub multihomed: MultihomingBit,
+    pub smart: bool,
 }
 
 /// An address is a number below 2^48.
@@ -80,10 +81,10 @@ impl Settings {
             _ => None,
         };
         let multihomed = MultihomingBit::check(self.multihomed)?;
-        // The setting of a request that has not landed: 0.
-        let later = self.smart == 0;
+        // Document 02, 2026-13: "A port with Smart Endnodes on", or off: 1 or 0
+        let smart = self.smart <= 1;
         match seconds {
-            Some(seconds) if addresses && nickname && compact && confidence && later => Ok(Port {
+            Some(seconds) if addresses && nickname && compact && confidence && smart => Ok(Port {
                 port: self.port,
                 inner: self.inner,
                 nickname: self.nickname as u16,
@@ -91,6 +92,7 @@ impl Settings {
                 confidence: self.confidence as u8,
                 seconds,
                 multihomed,
+                smart: self.smart == 1,
             }),
             _ => Err(Refusal::Settings),
         }

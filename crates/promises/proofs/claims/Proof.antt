@@ -35,6 +35,7 @@ use Rattle.convert.proofs.Shown.{chosen-sent}
 use Rattle.receive.proofs.Outcomes.{read-refusal, reading-apart, reads-parsed, reading-leaves-alone, read-flush-exact}
 use Rattle.port_map.proofs.Searches.{search-inverse}
 use Rattle.receive.proofs.NoMap.{no-map-no-change}
+use Rattle.receive.proofs.Smart.{smart-port}
 use Rattle.receive.proofs.Padded.{padded-read}
 use Rattle.receive.proofs.Order.{reads-exactly}
 use Rattle.watch.proofs.Stops.{stop-never-shortened, stop-runs-out, watch-cases}
@@ -74,7 +75,7 @@ stays-configured = record {
 
 returns : tie.Need-returns
 returns c = (
-  (interchange, example-holds, expand-compacted, compact-expanded, refusals, validity, flush-exact, read-flush-exact, padded-flush, padded-read, reads-exactly, homes, widened-same, unmarked-as-before, none-as-before, homes-examples, marked-read, free-slot-found, stays-spoilt, stays-configured, sends-exactly, room-for-compaction, send-room, chosen-sent, control-never-compact, life-as-before, other-lives-stay, search-inverse, no-map-no-change, map-round-trip, cases-hold, control-cases, map-cases),
+  (interchange, example-holds, expand-compacted, compact-expanded, refusals, validity, flush-exact, read-flush-exact, padded-flush, padded-read, reads-exactly, homes, widened-same, unmarked-as-before, none-as-before, homes-examples, marked-read, free-slot-found, stays-spoilt, stays-configured, sends-exactly, room-for-compaction, send-room, chosen-sent, control-never-compact, life-as-before, other-lives-stay, search-inverse, no-map-no-change, map-round-trip, smart-port, cases-hold, control-cases, map-cases),
   (
     (read-refusal, flush-refusal, ageing-refusal, widening-refusal, convert-refusals, ingress-refusal, reading-apart, flushing-keeps-apart, ageing-apart, learning-apart, reading-leaves-alone, flushing-leaves-alone, ageing-leaves-alone, learning-leaves-alone),
     (

@@ -35,7 +35,7 @@ returns-4 c =
     let group = some .before .before in
     let start = group .before .before .before .before .before in
     let a = start .args in
-    done (a .f .now) (a .p) (start .pre .1 .0) (a .s) (a .v) (start .pre .1 .1) (a .table .now) (a .out .now) (a .tag) _ (group .before .is-trill-group .ensures) (group .if1 .left) _ (some .before .tag-missing .ensures) (some .if2 .left) _ (bytes .tag-bytes .ensures .0) (room .if3 .left) _ (label .label-of .ensures .0) _ (mark .is-marked .ensures) _ (entry .learned-entry .ensures .0) _ _ (learn .learn .ensures) _ (native .write-native .ensures)
+    done (a .f .now) (a .p) (start .pre .1 .0) (a .s) (a .v) (start .pre .1 .1) (a .table .now) (a .out .now) (a .tag) _ (group .before .is-trill-group .ensures) (group .if1 .left) _ (some .before .tag-missing .ensures) (some .if2 .left) _ (bytes .tag-bytes .ensures .0) (room .if3 .left) _ (label .label-of .ensures .0) _ (mark .is-marked .ensures) _ (entry .learned-entry .ensures .0) _ _ (learn .teach .ensures) _ (native .write-native .ensures)
 
 pub deliver-spec : {M : Type 1} → statement M
 deliver-spec =
