@@ -128,7 +128,11 @@ enum shinglebar_refusal_number {
     /* lists that cannot be written as a flush */
     SHINGLEBAR_REFUSAL_LISTS = 23,
     /* k is 0, or the slot number is n or more */
-    SHINGLEBAR_REFUSAL_PORTION = 24
+    SHINGLEBAR_REFUSAL_PORTION = 24,
+    /* Smart-Hello or its contents corrupt, or a number or list that cannot be written */
+    SHINGLEBAR_REFUSAL_HELLO = 25,
+    /* Smart-Parameters missing */
+    SHINGLEBAR_REFUSAL_PARAMETERS_MISSING = 26
 };
 
 /* The kinds of results that are no refusals, by call; those of receive are those of receive_port too. */
@@ -171,6 +175,16 @@ enum shinglebar_compact_kind {
 enum shinglebar_expand_kind {
     /* shinglebar_written_length */
     SHINGLEBAR_EXPAND_WRITTEN = 64
+};
+
+enum shinglebar_hello_read_kind {
+    /* shinglebar_hello_length */
+    SHINGLEBAR_HELLO_READ_WRITTEN = 64
+};
+
+enum shinglebar_hello_write_kind {
+    /* shinglebar_hello_length */
+    SHINGLEBAR_HELLO_WRITE_WRITTEN = 64
 };
 
 enum shinglebar_write_flush_kind {
@@ -452,6 +466,20 @@ uint64_t shinglebar_send(uint64_t port, uint64_t inner, uint32_t nickname, uint3
                          uint32_t confidence, uint32_t seconds, const uint8_t *frame,
                          size_t frame_len, uint8_t *work, size_t work_len);
 
+/* Reads the payload of a Smart-Hello (RFC 8384) and writes its contents to an area, as numbers of 8 bytes, most
+ * significant byte first: the number of Smart-Parameters, 1, their holding time and flags; the number of Nickname
+ * sub-TLVs, for each the number of its records, and for each record priority, tree root priority and nickname; the
+ * number of Tree Identifiers sub-TLVs, for each starting number, number of nicknames, nicknames; the number of
+ * Smart-MACs, for each F, M, label, number of MACs, MACs. What it does not know is skipped. Answers 25, then 26
+ * without Smart-Parameters, then 16. struct shinglebar_contents goes through such an area. */
+uint64_t shinglebar_hello_read(const uint8_t *payload, size_t payload_len, uint8_t *contents, size_t contents_len);
+
+/* Writes the payload of a Smart-Hello from such contents: Smart-Parameters, nicknames, trees, Smart-MACs, as many
+ * in a TLV as it holds. Answers 25 for contents of another form, a number over its field (with F 0 a label of more
+ * than 12 bits), over 49 records, 123 nicknames of trees or 41 MACs in one; then 26, then 16. What is written may be
+ * longer than the payload that was read: sorted by kind, sub-TLVs can fill their TLVs less well. */
+uint64_t shinglebar_hello_write(const uint8_t *contents, size_t contents_len, uint8_t *out, size_t out_len);
+
 /* Writes the payload of an Address Flush from four lists, each number most significant byte first:
  * nicknames of 2 bytes (none: the sender), blocks of VLANs (start 2, end 2), of fine-grained labels (4, 4)
  * and of MACs (8, 8; none: every MAC). At most 255 in a list, at least one block of labels. Lists that
@@ -592,6 +620,12 @@ static inline size_t shinglebar_written_length(uint64_t result)
     return (size_t)((result >> 8) & 0xFFFFu);
 }
 
+/* Of SHINGLEBAR_HELLO_READ_WRITTEN and SHINGLEBAR_HELLO_WRITE_WRITTEN: the bytes written to the area. */
+static inline size_t shinglebar_hello_length(uint64_t result)
+{
+    return (size_t)(result >> 8);
+}
+
 /* Of SHINGLEBAR_WATCH_LEFT: the seconds left. */
 static inline uint32_t shinglebar_seconds_left(uint64_t result)
 {
@@ -644,7 +678,9 @@ static inline const char *shinglebar_refusal_string(uint64_t result)
         "map: a VLAN or label twice, a VLAN outside 1 to FFE, a label over FFFFFF, or a length that is no multiple of 6",
         "no pair found in the map",
         "lists that cannot be written as a flush",
-        "k is 0, or the slot number is n or more"
+        "k is 0, or the slot number is n or more",
+        "Smart-Hello or its contents corrupt, or a number or list that cannot be written",
+        "Smart-Parameters missing"
     };
     size_t number = result < sizeof words / sizeof words[0] ? (size_t)result : 0;
     return words[number] == NULL ? words[0] : words[number];
@@ -863,6 +899,52 @@ static inline uint64_t shinglebar_send_any(const struct shinglebar_settings *far
     return shinglebar_send(far->port, far->inner, far->nickname, far->compact, far->confidence,
                            far->seconds, shinglebar_const_area(frame, frame_len), frame_len,
                            shinglebar_area(work, work_len), work_len);
+}
+
+static inline uint64_t shinglebar_hello_read_any(const uint8_t *payload, size_t payload_len, uint8_t *contents,
+                                                 size_t contents_len)
+{
+    return shinglebar_hello_read(shinglebar_const_area(payload, payload_len), payload_len,
+                                 shinglebar_area(contents, contents_len), contents_len);
+}
+
+static inline uint64_t shinglebar_hello_write_any(const uint8_t *contents, size_t contents_len, uint8_t *out,
+                                                  size_t out_len)
+{
+    return shinglebar_hello_write(shinglebar_const_area(contents, contents_len), contents_len,
+                                  shinglebar_area(out, out_len), out_len);
+}
+
+/* The numbers of a contents area that are left, and whether one was asked for that is not there. */
+struct shinglebar_contents {
+    const uint8_t *at;
+    size_t left; /* bytes */
+    int missing;
+};
+
+static inline struct shinglebar_contents shinglebar_contents_of(const uint8_t *contents, size_t contents_len)
+{
+    struct shinglebar_contents it;
+    it.at = contents;
+    it.left = contents_len;
+    it.missing = 0;
+    return it;
+}
+
+/* The next number, or 0 where there is none. */
+static inline uint64_t shinglebar_contents_next(struct shinglebar_contents *it)
+{
+    uint64_t number = 0;
+    int at;
+    if (it->left < 8) {
+        it->missing = 1;
+        return 0;
+    }
+    for (at = 0; at < 8; at++)
+        number = number << 8 | it->at[at];
+    it->at += 8;
+    it->left -= 8;
+    return number;
 }
 
 static inline uint64_t shinglebar_write_flush_any(const uint8_t *nicknames, size_t nicknames_len,

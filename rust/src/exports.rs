@@ -169,6 +169,20 @@ extern "C" {
         out_len: usize,
     ) -> u64;
 
+    pub fn shinglebar_hello_read(
+        payload: *const u8,
+        payload_len: usize,
+        contents: *mut u8,
+        contents_len: usize,
+    ) -> u64;
+
+    pub fn shinglebar_hello_write(
+        contents: *const u8,
+        contents_len: usize,
+        out: *mut u8,
+        out_len: usize,
+    ) -> u64;
+
     pub fn shinglebar_write_flush(
         nicknames: *const u8,
         nicknames_len: usize,

@@ -19,6 +19,7 @@
 //! | [`send_watched`], [`Watch`] | the same at a port that stops compacting when the link looks shared |
 //! | [`lookup`], [`age`], [`spoilt`], [`free_slot`] | the address table |
 //! | [`report`] | writes the morning report of a table |
+//! | [`hello_read`], [`hello_write`] | read the payload of a Smart-Hello into its contents, and write one |
 //! | [`widen`] | makes an older table, of records of 14 bytes, one of 15 |
 //! | [`write_flush`] | writes the payload of an Address Flush |
 //!
@@ -66,6 +67,7 @@
 mod answer;
 #[allow(unsafe_code)]
 pub mod exports;
+mod hello;
 pub mod raw;
 mod refusal;
 mod values;
@@ -74,8 +76,11 @@ mod write;
 
 pub use answer::{
     decode, encode, Aged, Answer, Compacted, Expanded, Flushed, Found, FreeSlot, Ingressed,
-    LabelBy, Learning, MacBy, NicknameBy, Portioned, Received, ReceivedAtPort, Reported, Sent,
-    Spoilt, UnknownWord, Why, Widened, Written,
+    LabelBy, Learning, MacBy, NicknameBy, Portioned, ReadHello, Received, ReceivedAtPort, Reported,
+    Sent, Spoilt, UnknownWord, Why, Widened, Written, WrittenHello,
+};
+pub use hello::{
+    hello_read, hello_write, Contents, ContentsWriter, NicknameRecord, Nicknames, SmartMac, Trees,
 };
 pub use refusal::Refusal;
 pub use values::{CampusLabel, Encapsulation, Label, Mac, Outer, Pair, PortVlan, Settings};

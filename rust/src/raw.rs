@@ -318,6 +318,36 @@ pub fn report(table: &[u8], out: &mut [u8]) -> u64 {
     unsafe { exports::shinglebar_report(table.as_ptr(), table.len(), out.as_mut_ptr(), out.len()) }
 }
 
+/// Reads the payload of a Smart-Hello into its contents area.
+#[inline]
+pub fn hello_read(payload: &[u8], contents: &mut [u8]) -> u64 {
+    // SAFETY: two slices: neither is null, each is as long as said, and the one that is lent for
+    // writing overlaps nothing, being `&mut`.
+    unsafe {
+        exports::shinglebar_hello_read(
+            payload.as_ptr(),
+            payload.len(),
+            contents.as_mut_ptr(),
+            contents.len(),
+        )
+    }
+}
+
+/// Writes the payload of a Smart-Hello from a contents area.
+#[inline]
+pub fn hello_write(contents: &[u8], out: &mut [u8]) -> u64 {
+    // SAFETY: two slices: neither is null, each is as long as said, and the one that is lent for
+    // writing overlaps nothing, being `&mut`.
+    unsafe {
+        exports::shinglebar_hello_write(
+            contents.as_ptr(),
+            contents.len(),
+            out.as_mut_ptr(),
+            out.len(),
+        )
+    }
+}
+
 /// Names the lowest spoilt slot.
 #[inline]
 pub fn spoilt(table: &[u8]) -> u64 {

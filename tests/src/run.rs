@@ -25,6 +25,13 @@ pub const WIDEN: Answers = &[
 
 pub const REPORT: Answers = &[(16, "refusal 16: output area"), (64, "written")];
 
+pub const HELLO: Answers = &[
+    (16, "refusal 16: area"),
+    (25, "refusal 25: corrupt"),
+    (26, "refusal 26: parameters missing"),
+    (64, "written"),
+];
+
 pub const FREE_SLOT: Answers = &[(2, "refusal 2: table length"), (64, "slot"), (65, "none")];
 
 pub const FLUSH: Answers = &[

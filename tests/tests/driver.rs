@@ -2932,10 +2932,17 @@ fn the_option_smart_takes_frames_with_the_own_ingress_nickname() {
         label: vec![0x81, 0x00, 0x00, 0x0A],
         content: vec![0x08, 0x00, 0x45, 0x00],
     };
-    fs::write(folder.join("in"), captures::capture(USUAL, &[frame.bytes()])).expect("a capture");
+    fs::write(
+        folder.join("in"),
+        captures::capture(USUAL, &[frame.bytes()]),
+    )
+    .expect("a capture");
     let words = |smart| [&receive_words("in")[..], &["--no-ageing"], smart].concat();
     for (smart, said) in [
-        (&["--smart", "on"][..], "delivered 16 bytes of VLAN 10, kept"),
+        (
+            &["--smart", "on"][..],
+            "delivered 16 bytes of VLAN 10, kept",
+        ),
         (&["--smart=off"], "refused 9"),
         (&[], "refused 9"),
     ] {

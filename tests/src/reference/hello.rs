@@ -240,7 +240,12 @@ impl Contents {
         }
         all.push(self.macs.len() as u64);
         for macs in &self.macs {
-            all.extend([macs.fine, macs.multihomed, macs.label, macs.macs.len() as u64]);
+            all.extend([
+                macs.fine,
+                macs.multihomed,
+                macs.label,
+                macs.macs.len() as u64,
+            ]);
             all.extend(&macs.macs);
         }
         all.iter().flat_map(|number| number.to_be_bytes()).collect()
@@ -252,7 +257,12 @@ impl Contents {
         if area.len() % 8 != 0 {
             return Err(Refusal::Hello);
         }
-        let mut area = Numbers(area.chunks_exact(8).map(number).collect::<Vec<_>>().into_iter());
+        let mut area = Numbers(
+            area.chunks_exact(8)
+                .map(number)
+                .collect::<Vec<_>>()
+                .into_iter(),
+        );
         let parameters = match area.next()? {
             0 => None,
             1 => Some(Parameters {
