@@ -1,5 +1,5 @@
 # Shinglebar. `make test` is the gate that every change passes.
-.PHONY: test run driver install lab fuzz fuzzer bench archive vectors captures outside outside-write fmt
+.PHONY: test run driver report install lab fuzz fuzzer bench archive vectors captures outside outside-write fmt
 
 # What `make run` says first: the minutes that `rt staticlib shinglebar` takes from nothing on two cores.
 PROVING_MINUTES = 8
@@ -9,6 +9,7 @@ GATE_MINUTES = 32
 ARCHIVE = target/staticlib/libshinglebar.a
 DRIVER = target/driver/shinglebar-port
 MADE = target/install
+REPORT = target/bin/morning_report
 CFLAGS = -O2 -g
 
 # The version stands in the header; everything else takes it from there.
@@ -46,6 +47,15 @@ driver: $(DRIVER)
 $(DRIVER): $(wildcard driver/*.c driver/*.h) include/shinglebar.h $(ARCHIVE)
 	@mkdir -p $(@D)
 	$(CC) -std=c99 $(CFLAGS) -Wall -Wextra -Werror -pedantic -Iinclude driver/*.c $(ARCHIVE) -o $@
+
+# Prints the morning report of a table file, TABLE=file; proves the program only where it is not built. The line that says the width of
+# the records is no part of them.
+report: $(REPORT)
+	@[ -n "$(TABLE)" ] || { echo "make report: TABLE=file is needed" >&2; exit 1; }
+	@if [ "$$(head -c 20 "$(TABLE)" | tr -d '\0')" = "shinglebar table 15" ]; then tail -c +21 "$(TABLE)"; else cat "$(TABLE)"; fi | $(REPORT)
+
+$(REPORT):
+	rt check morning_report
 
 # Installs header, archive, driver, pkg-config file and man page; proves the library only where there is no archive.
 install: $(DRIVER) $(MADE)/shinglebar-port.1

@@ -15,5 +15,7 @@ int set_command(const struct options *options);
 int unset_command(const struct options *options);
 int widen_command(const struct options *options);
 int write_command(const struct options *options);
+int why_command(const struct options *options);
+int report_command(const struct options *options);
 
 #endif

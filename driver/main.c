@@ -46,6 +46,10 @@ int main(int count, char **words)
         return widen_command(&options);
     case WRITE:
         return write_command(&options);
+    case WHY:
+        return why_command(&options);
+    case REPORT:
+        return report_command(&options);
     }
     return 2;
 }

@@ -11,7 +11,9 @@
 
 #define WITH_SETTINGS (RECEIVE | COMPACT | EXPAND | LIVE | SEND | INGRESS)
 #define WITH_CAPTURE (RECEIVE | COMPACT | EXPAND | SEND | INGRESS)
-#define WITH_TABLE (RECEIVE | LOOKUP | AGE | CHECK | LIVE | SET | UNSET | WIDEN)
+#define WITH_TABLE (RECEIVE | LOOKUP | AGE | CHECK | LIVE | SET | UNSET | WIDEN | WHY | REPORT)
+/* A capture, with the settings of its port, may be named or left out. */
+#define MAY_HAVE_CAPTURE WHY
 #define WITH_PAIR (LOOKUP | SET | UNSET)
 #define WITH_ANY (WITH_SETTINGS | WITH_TABLE | WRITE)
 #define RFC6325_CONFIDENCE 32
@@ -22,7 +24,7 @@
 #define ALL_RBRIDGES UINT64_C(0x0180C2000040)
 
 /* How an option's value is written, and so where it goes. */
-enum form { TEXT, ADDRESS, NICKNAME, SWITCH, R_BIT, NUMBER, FLAG, NICKNAMES, BLOCKS, MAC_BLOCKS };
+enum form { TEXT, ADDRESS, NICKNAME, SWITCH, R_BIT, NUMBER, FLAG, BYTES, NICKNAMES, BLOCKS, MAC_BLOCKS };
 
 struct option {
     const char *name;
@@ -45,30 +47,30 @@ static const struct option OPTIONS[] = {
      WITH_TABLE & ~WIDEN, AT(table), 0, 0},
     {"--table", "FILE", "the address table, records of 14 bytes; replaced whole or not at all", TEXT, WIDEN, WIDEN, AT(table), 0,
      0},
-    {"--slots", "N", "makes the table with N free slots if its file is missing, 1 to 4096", NUMBER, RECEIVE | LIVE | SET, 0,
+    {"--slots", "N", "makes the table with N free slots if its file is missing, 1 to 4096", NUMBER, RECEIVE | LIVE | SET | WHY, 0,
      AT(slots), 1, TABLE_SLOTS_MAX},
     {"--out", "FILE", "the capture to write; replaced whole or not at all; - is standard output", TEXT,
      RECEIVE | COMPACT | EXPAND | LIVE | WRITE | INGRESS, COMPACT | EXPAND | INGRESS, AT(out), 0, 0},
     {"--map", "FILE", "the port's map, a line `VLAN LABEL` for each pair of VLAN and fine-grained label", TEXT,
-     RECEIVE | LIVE | INGRESS, INGRESS, AT(map), 0, 0},
-    {"--multihomed", "BIT", "first or second, the R bit that marks frames of stations on two switches (none)", R_BIT, RECEIVE | LIVE,
-     0, AT(settings.multihomed), 0, 0},
+     RECEIVE | LIVE | INGRESS | WHY, INGRESS, AT(map), 0, 0},
+    {"--multihomed", "BIT", "first or second, the R bit that marks frames of stations on two switches (none)", R_BIT,
+     RECEIVE | LIVE | WHY, 0, AT(settings.multihomed), 0, 0},
     {"--smart", "on|off", "whether Smart Endnodes encapsulate for themselves, with the port's nickname as ingress (off)", SWITCH,
-     RECEIVE | LIVE, 0, AT(settings.smart), 0, 0},
+     RECEIVE | LIVE | WHY, 0, AT(settings.smart), 0, 0},
     {"--interface", "NAME", "the Linux interface", TEXT, LIVE | SEND, LIVE | SEND, AT(interface), 0, 0},
     {"--frames", "N", "stops after N frames", NUMBER, LIVE, 0, AT(frames), 1, UINT32_MAX},
     {"--for", "SECONDS", "stops after so many seconds", NUMBER, LIVE, 0, AT(duration), 1, UINT32_MAX},
     {"--save", "SECONDS", "writes the table file so often (30)", NUMBER, LIVE, 0, AT(save), 1, UINT32_MAX},
-    {"--port", "ADDRESS", "the port's address", ADDRESS, WITH_SETTINGS, WITH_SETTINGS, AT(settings.port), 0, 0},
-    {"--inner", "ADDRESS", "the port's own inner address", ADDRESS, WITH_SETTINGS, WITH_SETTINGS, AT(settings.inner), 0,
-     0},
-    {"--nickname", "HEX", "the port's own nickname, 0001 to FFBF", NICKNAME, WITH_SETTINGS, WITH_SETTINGS,
+    {"--port", "ADDRESS", "the port's address", ADDRESS, WITH_SETTINGS | WHY, WITH_SETTINGS, AT(settings.port), 0, 0},
+    {"--inner", "ADDRESS", "the port's own inner address", ADDRESS, WITH_SETTINGS | WHY, WITH_SETTINGS, AT(settings.inner),
+     0, 0},
+    {"--nickname", "HEX", "the port's own nickname, 0001 to FFBF", NICKNAME, WITH_SETTINGS | WHY, WITH_SETTINGS,
      AT(settings.nickname), 0, 0xFFFF},
-    {"--compact", "on|off", "whether the port takes Compact Format (off)", SWITCH, WITH_SETTINGS, 0,
+    {"--compact", "on|off", "whether the port takes Compact Format (off)", SWITCH, WITH_SETTINGS | WHY, 0,
      AT(settings.compact), 0, 0},
-    {"--confidence", "N", "learning confidence, 0 to 255 (32)", NUMBER, WITH_SETTINGS, 0, AT(settings.confidence), 0,
+    {"--confidence", "N", "learning confidence, 0 to 255 (32)", NUMBER, WITH_SETTINGS | WHY, 0, AT(settings.confidence), 0,
      255},
-    {"--seconds", "N", "learning seconds, 10 to 8191, or 0 for the default 1200 (0)", NUMBER, WITH_SETTINGS, 0,
+    {"--seconds", "N", "learning seconds, 10 to 8191, or 0 for the default 1200 (0)", NUMBER, WITH_SETTINGS | WHY, 0,
      AT(settings.seconds), 0, 8191},
     {"--source", "ADDRESS", "the outer source, an individual address", ADDRESS, EXPAND | WRITE | INGRESS, EXPAND | INGRESS,
      AT(source), 0, 0},
@@ -86,8 +88,14 @@ static const struct option OPTIONS[] = {
     {"--confidence", "N", "the record's confidence, 0 to 255 (255)", NUMBER, SET, 0, AT(settings.confidence), 0, 255},
     {"--mac", "ADDRESS", "prints only the lines that concern this address", ADDRESS, RECEIVE | LIVE, 0,
      AT(audience.mac), 0, 0},
+    {"--slot", "N", "the slot that is asked for, counted from 0", NUMBER, WHY, 0, AT(slot), 0, TABLE_SLOTS_MAX - 1},
+    {"--mac", "ADDRESS", "the address that is asked for", ADDRESS, WHY, 0, AT(audience.mac), 0, 0},
+    {"--vlan", "N", "of the address only the record with this VLAN", NUMBER, WHY, 0, AT(label), 0, 0xFFFF},
+    {"--fgl", "N", "of the address only the record with this fine-grained label", NUMBER, WHY, 0, AT(label), 0, 0xFFFFFF},
+    {"--hex", "DIGITS", "the payload of a flush in hexadecimal digits, in place of a capture", BYTES, WHY, 0, AT(digits), 0, 0},
+    {"--ingress", "HEX", "the ingress nickname of the flush of --hex", NICKNAME, WHY, 0, AT(ingress), 0, 0xFFFF},
     {"--by", "SECONDS", "the seconds that have passed, 0 to 65535", NUMBER, AGE, AGE, AT(by), 0, 65535},
-    {"--no-ageing", NULL, "no time passes for the table", FLAG, RECEIVE, 0, AT(no_ageing), 0, 0},
+    {"--no-ageing", NULL, "no time passes for the table", FLAG, RECEIVE | WHY, 0, AT(no_ageing), 0, 0},
     {"--dry-run", NULL, "the table file is read and not written", FLAG,
      RECEIVE | AGE | LIVE | SET | UNSET | WIDEN, 0, AT(dry_run), 0, 0},
     {"--nickname", "HEX", "a nickname whose addresses are to be forgotten; none: the sender's", NICKNAMES, WRITE, 0,
@@ -149,6 +157,10 @@ static const struct {
      "For the tables of versions before 2026-12: each record gets a zero byte, and the second that the table was aged to\n"
      "stays. A file says its width by its length. Where both widths have that length (multiples of 210 bytes), a table of\n"
      "15 bytes has the line `shinglebar table 15` in front of its records; without it only `widen` takes the file.\n"},
+    {REPORT, "report", "prints the morning report of a table",
+     "A line for each nickname with learned or configured records, rising: four hexadecimal digits, learned count, configured\n"
+     "count; then the free and the spoilt slots. It is what the program `morning_report` prints of the records. Exit status 1\n"
+     "if the file is no table: its report is `refused 2`.\n"},
     {SEND, "send", "sends the General frames of a capture out of a Linux interface",
      "Needs CAP_NET_RAW. The settings are the far port's: a frame is compacted where it may be, if --compact is on.\n"
      "While the watch of --watch has seconds left, which `live` on the same machine writes, no frame is compacted.\n"},
@@ -156,6 +168,13 @@ static const struct {
      "--nickname, --vlan, --fgl and --mac may be given up to 255 times each; a block is A-B, both ends included, or A alone.\n"
      "The payload goes to --payload, a General frame with it to all switches to the capture --out, which needs --source and\n"
      "--ingress. Exit status 2 if the lists cannot be written.\n"},
+    {WHY, "why", "tells why a flush clears an address, or leaves it",
+     "One of --slot and --mac is needed. With --hex and --ingress the flush is that payload; with a capture and the settings\n"
+     "of its port the frames are read as `receive` does, and each flush is told of: the frame, and a sentence for each slot\n"
+     "with the address; also where it aged. A cleared record's sentence names the nickname (listed, or the sender's), the\n"
+     "VLAN block or TLV that brings the label, and the TLV that brings the MAC, the first of each; places count from 0, among\n"
+     "the nicknames, the VLAN blocks or all TLVs. Another sentence names the first reason that a record stays. The table\n"
+     "file is read and not written. Exit status 1 if no flush met a record that was asked for.\n"},
 };
 #define COMMAND_COUNT (sizeof COMMANDS / sizeof COMMANDS[0])
 
@@ -174,7 +193,7 @@ static void help_command(FILE *to, size_t index)
 {
     unsigned command = COMMANDS[index].command;
     fprintf(to, "%s %s%s [OPTION VALUE].. : %s.\n%s\n", PROGRAM, COMMANDS[index].name,
-            command & WITH_CAPTURE ? " CAPTURE" : "", COMMANDS[index].help, COMMANDS[index].more);
+            command & WITH_CAPTURE ? " CAPTURE" : command & MAY_HAVE_CAPTURE ? " [CAPTURE]" : "", COMMANDS[index].help, COMMANDS[index].more);
     for (size_t i = 0; i < OPTION_COUNT; i++) {
         const struct option *option = &OPTIONS[i];
         if (!(option->commands & command))
@@ -183,9 +202,9 @@ static void help_command(FILE *to, size_t index)
         fprintf(to, "%*s%s%s\n", used < 24 ? 24 - used : 1, "", option->help,
                 option->required & command ? " [needed]" : "");
     }
-    if (command & WITH_CAPTURE)
+    if (command & (WITH_CAPTURE | MAY_HAVE_CAPTURE))
         fputs("\nCAPTURE is a pcap or pcapng file of Ethernet frames without FCS; - is standard input.\n", to);
-    if (command & WITH_TABLE & ~(LOOKUP | CHECK))
+    if (command & WITH_TABLE & ~(LOOKUP | CHECK | WHY | REPORT))
         fputs("\nA table file is held while it is used: a second process is refused. It keeps owner, group and mode.\n", to);
     fputs("\nAn address is 02-00-00-00-00-01, with : or without marks too. A number is decimal, or hexadecimal after 0x.\n",
           to);
@@ -246,6 +265,22 @@ static int read_block(const char *text, int (*read)(const char *, uint64_t *), s
     return text[first] == '-' && read(copy, start) && read(copy + first + 1, end);
 }
 
+/* Two digits a byte, with blanks between bytes or none: 1, or 0 if the text is no such bytes. */
+static int read_bytes(const char *text, struct payload *payload)
+{
+    for (payload->length = 0; *text != '\0'; text += 2) {
+        while (*text == ' ')
+            text++;
+        if (*text == '\0')
+            break;
+        int high = digit(text[0]), low = digit(text[1]);
+        if (high < 0 || low < 0 || payload->length == sizeof payload->bytes)
+            return 0;
+        payload->bytes[payload->length++] = (uint8_t)(high << 4 | low);
+    }
+    return 1;
+}
+
 static int take_block(const struct option *option, const char *text, struct list *list)
 {
     uint64_t start, end;
@@ -287,6 +322,10 @@ static int take_value(const struct option *option, const char *text, struct opti
         if (!read_address(text, (uint64_t *)place))
             return bad_usage("%s takes an address such as 02-00-00-00-00-01, not `%s`", option->name, text);
         return 0;
+    case BYTES:
+        return read_bytes(text, (struct payload *)place)
+                   ? 0
+                   : bad_usage("%s takes two hexadecimal digits for each byte, not `%s`", option->name, text);
     case BLOCKS:
     case MAC_BLOCKS:
         return take_block(option, text, (struct list *)place);
@@ -348,6 +387,36 @@ static int check_settings(const struct shinglebar_settings *settings)
                      "0001 to FFBF, --seconds is 0 or 10 to 8191");
 }
 
+static int is_given(uint64_t given, const char *name, unsigned command)
+{
+    return (given & BIT(find_option(name, command))) != 0;
+}
+
+/* What is asked for, and of which flush. */
+static int check_why(uint64_t given, struct options *options)
+{
+    int vlan = is_given(given, "--vlan", WHY), fgl = is_given(given, "--fgl", WHY), hex = is_given(given, "--hex", WHY);
+    options->has_slot = is_given(given, "--slot", WHY);
+    options->has_label = vlan || fgl;
+    options->audience.is_one = is_given(given, "--mac", WHY);
+    options->kind = fgl ? SHINGLEBAR_LABEL_FINE_GRAINED : SHINGLEBAR_LABEL_VLAN;
+    if (options->has_slot == options->audience.is_one)
+        return bad_usage("one of --slot and --mac is needed");
+    if (vlan && fgl)
+        return bad_usage("--vlan and --fgl are two labels");
+    if (options->has_label && options->has_slot)
+        return bad_usage("--vlan and --fgl go with --mac");
+    if (hex == (options->capture != NULL))
+        return bad_usage("one of a capture and --hex is needed");
+    if (hex != is_given(given, "--ingress", WHY))
+        return bad_usage("--hex and --ingress go together");
+    if (hex)
+        return 0;
+    if (same_file(options->table, options->capture))
+        return bad_usage("the capture and --table are different files");
+    return check_settings(&options->settings);
+}
+
 static int check_options(uint64_t given, struct options *options)
 {
     uint64_t vlan = BIT(find_option("--vlan", WITH_PAIR)), fgl = BIT(find_option("--fgl", WITH_PAIR));
@@ -378,6 +447,8 @@ static int check_options(uint64_t given, struct options *options)
     options->given.ingress = options->settings.nickname;
     options->given.m = options->given.outer_destination == ALL_RBRIDGES;
     int status = options->command & WITH_SETTINGS ? check_settings(&options->settings) : 0;
+    if (options->command == WHY)
+        status = check_why(given, options);
     return status == 0 && options->map != NULL ? map_read(options->map, &options->settings) : status;
 }
 
@@ -421,7 +492,7 @@ static int read_words(int count, char **words, uint64_t *given, struct options *
             return help_command(stdout, find_command(words[1])), 0;
         if (words[at][0] == '-' && !is_standard(words[at]))
             status = read_option(count, words, &at, given, options);
-        else if (options->capture != NULL || !(options->command & WITH_CAPTURE))
+        else if (options->capture != NULL || !(options->command & (WITH_CAPTURE | MAY_HAVE_CAPTURE)))
             status = bad_usage("`%s` is one word too many; try --help", words[at]);
         else
             options->capture = words[at];

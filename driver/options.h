@@ -21,7 +21,15 @@ enum command {
     UNSET = 512,
     WIDEN = 1024,
     WRITE = 2048,
-    INGRESS = 4096
+    INGRESS = 4096,
+    WHY = 8192,
+    REPORT = 16384
+};
+
+/* The payload of a flush, at most as long as a frame has room for. */
+struct payload {
+    size_t length;
+    uint8_t bytes[SHINGLEBAR_FRAME_LENGTH_MAX];
 };
 
 /* An option that was not given is NULL or 0, but for Compact off, confidence 32, seconds 0, saving every
@@ -56,6 +64,12 @@ struct options {
     uint32_t ingress;
     struct lists lists;
     const char *watch;
+    /* The slot that is asked for, and whether there is one; whether a label is. */
+    uint32_t slot;
+    int has_slot;
+    int has_label;
+    /* A payload that was given as digits. */
+    struct payload digits;
 };
 
 /* A number, decimal or hexadecimal after 0x, at most 2^48: 1, or 0 if the text is none. */

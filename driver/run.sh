@@ -20,6 +20,8 @@ mkdir -p "$made"
 # shellcheck disable=SC2086
 {
     step receive $data/hall.pcap --table $made/table --slots 16 --out $made/native.pcap $settings
+    step report --table $made/table
+    step why $data/hall.pcap --table $made/fresh --slots 16 --mac 02-00-00-00-00-02 $settings
     step receive $data/refusals.pcap --table $made/table --quiet $settings
     step compact $data/to_compact.pcap --out $made/compact.pcap $settings
     step expand $made/compact.pcap --out $made/general.pcap --source 02-00-00-00-00-B2 $settings

@@ -67,6 +67,37 @@ static int refuse_old(const char *name, size_t length)
                     (int)LINE_LENGTH - 1, TABLE_LINE);
 }
 
+/* Says why a table file was not opened: 1. */
+static int not_opened(const char *name)
+{
+    if (errno == ENOENT)
+        return bad_data("%s is not there; `receive`, `live` and `set` make it if --slots N is given", name);
+    return bad_data("%s cannot be opened: %s", name, strerror(errno));
+}
+
+int table_load(struct table *table, const char *name, int *has_line)
+{
+    FILE *file = fopen(name, "rb");
+    return file == NULL ? not_opened(name) : records_read(file, name, table, has_line);
+}
+
+int table_is_unclear(const struct table *table, const char *name, int has_line)
+{
+    return !has_line && fits(table->length) && fits_old(table->length) ? refuse_old(name, table->length) : 0;
+}
+
+int table_check(const struct table *table, const char *name, int has_line)
+{
+    if (!has_line && fits_old(table->length))
+        return refuse_old(name, table->length);
+    uint64_t answer = shinglebar_spoilt_any(table->bytes, table->length);
+    if (!shinglebar_is_refusal(answer))
+        return 0;
+    return bad_data("%s is no address table: it has %zu%s bytes; refused %u: %s", name, table->length,
+                    table->length == sizeof table->bytes ? " or more" : "", shinglebar_refusal(answer),
+                    shinglebar_refusal_string(answer));
+}
+
 int table_read(struct table *table, const char *name, unsigned long slots)
 {
     int has_line = 0;
@@ -76,19 +107,10 @@ int table_read(struct table *table, const char *name, unsigned long slots)
         memset(table->bytes, 0, table->length);
         return 0;
     }
-    if (file == NULL && errno == ENOENT)
-        return bad_data("%s is not there; `receive`, `live` and `set` make it if --slots N is given", name);
     if (file == NULL)
-        return bad_data("%s cannot be opened: %s", name, strerror(errno));
-    if (records_read(file, name, table, &has_line) != 0)
+        return not_opened(name);
+    if (records_read(file, name, table, &has_line) != 0 || table_check(table, name, has_line) != 0)
         return 1;
-    if (!has_line && fits_old(table->length))
-        return refuse_old(name, table->length);
-    uint64_t answer = shinglebar_spoilt(table->bytes, table->length);
-    if (shinglebar_is_refusal(answer))
-        return bad_data("%s is no address table: it has %zu%s bytes; refused %u: %s", name, table->length,
-                        table->length == sizeof table->bytes ? " or more" : "", shinglebar_refusal(answer),
-                        shinglebar_refusal_string(answer));
     if (slots != 0 && slots != table_slots(table))
         return bad_data("%s has %u slots, and --slots says %lu", name, table_slots(table), slots);
     return 0;

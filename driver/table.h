@@ -38,6 +38,12 @@ struct home {
 /* Reads a table file. Where it is missing and slots is not 0, the table is that many free slots. 0, or 1 and said. */
 int table_read(struct table *table, const char *name, unsigned long slots);
 
+/* The steps of reading: the bytes of a file and whether the line is in front of them; whether a length fits both widths and no line says
+ * which; whether they are a table. Each 0, or 1 and said. */
+int table_load(struct table *table, const char *name, int *has_line);
+int table_is_unclear(const struct table *table, const char *name, int has_line);
+int table_check(const struct table *table, const char *name, int has_line);
+
 /* Reads a file of records of 14 bytes, as they are. 0, or 1 and said. */
 int table_read_old(struct table *old, const char *name);
 

@@ -25,8 +25,8 @@
  *
  * - An area that a call writes (output, working area, and the table of receive, receive_port, age and every
  *   flush) may not be used by another thread until the call has returned. A table that threads share needs
- *   a lock of theirs: shared for lookup, spoilt, free slot and widen, exclusive for receive, receive_port,
- *   age and every flush.
+ *   a lock of theirs: shared for lookup, spoilt, free slot, widen, why and report, exclusive for receive,
+ *   receive_port, age and every flush.
  * - A thread needs SHINGLEBAR_STACK_MAX bytes of stack for a call, beside its own. There is no heap.
  *
  * Bridge messages. A frame with 01-80-C2-00-00-00 to 0F or 21 in front answers 5 in receive, with Compact
@@ -64,13 +64,20 @@
 /* The longest payload that is written: an output area in which every one has room. */
 #define SHINGLEBAR_WRITTEN_LENGTH_MAX 6172
 
+/* The longest report: an output area in which every one has room. */
+#define SHINGLEBAR_REPORT_LENGTH_MAX 36880
+
+/* The highest place of a TLV that shinglebar_why shows: only payloads of over 8 MB have a higher one. */
+#define SHINGLEBAR_PLACE_MAX 4194303u
+
 /* The bytes of a pair of a map, and of the longest map that is good: a pair for each VLAN. */
 #define SHINGLEBAR_PAIR_LENGTH 6
 #define SHINGLEBAR_MAP_LENGTH_MAX 24564
 
 /* The bytes of stack that a call takes at most: any call (a map of more than 128 pairs takes most, and a long
  * flush nearly as much, so a frame that brings one does), and a call with no such map that carries out no
- * flush, which is every call but receive, receive_port, flush, flush_vlan_only and flush_portion.
+ * flush and writes no report, which is every call but receive, receive_port, flush, flush_vlan_only,
+ * flush_portion and report.
  * Measured on x86-64: tests/c/stack.c paints the stack of a thread, makes the calls that take most, and
  * fails where one takes more. What the dynamic loader takes when it binds memmove and memset, about
  * 3,000 bytes, is counted. */
@@ -122,7 +129,11 @@ enum shinglebar_refusal_number {
     /* lists that cannot be written as a flush */
     SHINGLEBAR_REFUSAL_LISTS = 23,
     /* k is 0, or the slot number is n or more */
-    SHINGLEBAR_REFUSAL_PORTION = 24
+    SHINGLEBAR_REFUSAL_PORTION = 24,
+    /* Smart-Hello or its contents corrupt, or a number or list that cannot be written */
+    SHINGLEBAR_REFUSAL_HELLO = 25,
+    /* Smart-Parameters missing */
+    SHINGLEBAR_REFUSAL_PARAMETERS_MISSING = 26
 };
 
 /* The kinds of results that are no refusals, by call; those of receive are those of receive_port too. */
@@ -145,6 +156,18 @@ enum shinglebar_flush_portion_kind {
     SHINGLEBAR_FLUSH_PORTION_DONE = 64
 };
 
+/* The first reason that applies, in this order. */
+enum shinglebar_why_kind {
+    SHINGLEBAR_WHY_FREE = 64,
+    SHINGLEBAR_WHY_SPOILT = 65,
+    SHINGLEBAR_WHY_CONFIGURED = 66,
+    SHINGLEBAR_WHY_NICKNAME_NOT_MEANT = 67,
+    SHINGLEBAR_WHY_LABEL_NOT_MEANT = 68,
+    SHINGLEBAR_WHY_MAC_NOT_MEANT = 69,
+    /* shinglebar_is_sender, _nickname_place, _label_is_by_tlv, _label_place, _is_every_mac, _mac_place */
+    SHINGLEBAR_WHY_CLEARED = 70
+};
+
 enum shinglebar_compact_kind {
     /* shinglebar_written_length */
     SHINGLEBAR_COMPACT_WRITTEN = 64
@@ -153,6 +176,16 @@ enum shinglebar_compact_kind {
 enum shinglebar_expand_kind {
     /* shinglebar_written_length */
     SHINGLEBAR_EXPAND_WRITTEN = 64
+};
+
+enum shinglebar_hello_read_kind {
+    /* shinglebar_hello_length */
+    SHINGLEBAR_HELLO_READ_WRITTEN = 64
+};
+
+enum shinglebar_hello_write_kind {
+    /* shinglebar_hello_length */
+    SHINGLEBAR_HELLO_WRITE_WRITTEN = 64
 };
 
 enum shinglebar_write_flush_kind {
@@ -215,6 +248,11 @@ enum shinglebar_free_slot_kind {
 enum shinglebar_widen_kind {
     /* shinglebar_written_length */
     SHINGLEBAR_WIDEN_WRITTEN = 64
+};
+
+enum shinglebar_report_kind {
+    /* shinglebar_written_length */
+    SHINGLEBAR_REPORT_WRITTEN = 64
 };
 
 /* What learning did with the inner source of a frame delivered. */
@@ -343,6 +381,13 @@ uint64_t shinglebar_free_slot(const uint8_t *table, size_t table_len);
  * 57,344, then 16. A length alone does not tell the two widths apart: a multiple of 210 may be either. */
 uint64_t shinglebar_widen(const uint8_t *old, size_t old_len, uint8_t *out, size_t out_len);
 
+/* Writes the morning report of a table to the output area: a line for each nickname with learned or
+ * configured records, rising, of four capital hexadecimal digits and the two counts; then `free N` and
+ * `spoilt N`. Every line ends with a line feed, and no zero byte follows. A table length that other calls
+ * refuse with 2 is no refusal here: it writes the single line `refused 2`. Answers 16 where the area is too
+ * short; SHINGLEBAR_REPORT_LENGTH_MAX bytes are always enough. */
+uint64_t shinglebar_report(const uint8_t *table, size_t table_len, uint8_t *out, size_t out_len);
+
 #ifndef SHINGLEBAR_TABLE_ONLY
 
 /* Carries out the payload of an Address Flush. `ingress` is any number; one outside 0001 to FFBF
@@ -364,6 +409,14 @@ uint64_t shinglebar_flush_vlan_only(uint32_t ingress, const uint8_t *payload, si
  * reached. */
 uint64_t shinglebar_flush_portion(uint32_t ingress, const uint8_t *payload, size_t payload_len,
                                   uint64_t slot, uint64_t k, uint8_t *table, size_t table_len);
+
+/* Why that flush clears the record of a slot, or leaves it: the first reason of enum shinglebar_why_kind that
+ * applies, and of a record that is cleared what brings it: the first listed nickname that matches, or the
+ * sender; the first VLAN block or TLV that brings the label (type 6 brings every label); the first TLV that
+ * brings the MAC, or every MAC where none was gathered. Places count from 0 among the nicknames, the VLAN
+ * blocks or all TLVs, skipped ones too; a padding byte has none. Nothing is changed. */
+uint64_t shinglebar_why(uint32_t ingress, const uint8_t *payload, size_t payload_len, uint64_t slot,
+                        const uint8_t *table, size_t table_len);
 
 /* Reads one Ethernet frame without FCS: delivers a native frame and learns its source, or carries out
  * a flush. */
@@ -413,6 +466,20 @@ uint64_t shinglebar_expand(uint64_t port, uint64_t inner, uint32_t nickname, uin
 uint64_t shinglebar_send(uint64_t port, uint64_t inner, uint32_t nickname, uint32_t compact,
                          uint32_t confidence, uint32_t seconds, const uint8_t *frame,
                          size_t frame_len, uint8_t *work, size_t work_len);
+
+/* Reads the payload of a Smart-Hello (RFC 8384) and writes its contents to an area, as numbers of 8 bytes, most
+ * significant byte first: the number of Smart-Parameters, 1, their holding time and flags; the number of Nickname
+ * sub-TLVs, for each the number of its records, and for each record priority, tree root priority and nickname; the
+ * number of Tree Identifiers sub-TLVs, for each starting number, number of nicknames, nicknames; the number of
+ * Smart-MACs, for each F, M, label, number of MACs, MACs. What it does not know is skipped. Answers 25, then 26
+ * without Smart-Parameters, then 16. struct shinglebar_contents goes through such an area. */
+uint64_t shinglebar_hello_read(const uint8_t *payload, size_t payload_len, uint8_t *contents, size_t contents_len);
+
+/* Writes the payload of a Smart-Hello from such contents: Smart-Parameters, nicknames, trees, Smart-MACs, as many
+ * in a TLV as it holds. Answers 25 for contents of another form, a number over its field (with F 0 a label of more
+ * than 12 bits), over 49 records, 123 nicknames of trees or 41 MACs in one; then 26, then 16. What is written may be
+ * longer than the payload that was read: sorted by kind, sub-TLVs can fill their TLVs less well. */
+uint64_t shinglebar_hello_write(const uint8_t *contents, size_t contents_len, uint8_t *out, size_t out_len);
 
 /* Writes the payload of an Address Flush from four lists, each number most significant byte first:
  * nicknames of 2 bytes (none: the sender), blocks of VLANs (start 2, end 2), of fine-grained labels (4, 4)
@@ -509,12 +576,55 @@ static inline unsigned shinglebar_examined(uint64_t result)
     return (unsigned)((result >> 40) & 0xFFFFu);
 }
 
+/* Of SHINGLEBAR_WHY_CLEARED: 1 if K-nicks is 0 and the sender's nickname matched, 0 if a listed one did. */
+static inline int shinglebar_is_sender(uint64_t result)
+{
+    return (int)((result >> 16) & 0x1u);
+}
+
+/* Of SHINGLEBAR_WHY_CLEARED: the place of the nickname in the list, or 0 with the sender. */
+static inline unsigned shinglebar_nickname_place(uint64_t result)
+{
+    return (unsigned)((result >> 8) & 0xFFu);
+}
+
+/* Of SHINGLEBAR_WHY_CLEARED: 1 if a TLV brings the label, 0 if a VLAN block behind K-VLBs does. */
+static inline int shinglebar_label_is_by_tlv(uint64_t result)
+{
+    return (int)((result >> 17) & 0x1u);
+}
+
+/* Of SHINGLEBAR_WHY_CLEARED: the place of that TLV or block. One over 4,194,303 shows as that. */
+static inline uint32_t shinglebar_label_place(uint64_t result)
+{
+    return (uint32_t)((result >> 18) & SHINGLEBAR_PLACE_MAX);
+}
+
+/* Of SHINGLEBAR_WHY_CLEARED: 1 if no MAC was gathered, so that every MAC is meant, else 0. */
+static inline int shinglebar_is_every_mac(uint64_t result)
+{
+    return (int)(result >> 63);
+}
+
+/* Of SHINGLEBAR_WHY_CLEARED: the place of the TLV that brings the MAC, or 0 with every MAC. One over
+ * 4,194,303 shows as that. */
+static inline uint32_t shinglebar_mac_place(uint64_t result)
+{
+    return (uint32_t)((result >> 40) & SHINGLEBAR_PLACE_MAX);
+}
+
 /* Of SHINGLEBAR_COMPACT_WRITTEN, SHINGLEBAR_EXPAND_WRITTEN, SHINGLEBAR_INGRESS_WRITTEN,
- * SHINGLEBAR_WIDEN_WRITTEN, SHINGLEBAR_WRITE_FLUSH_WRITTEN and SHINGLEBAR_SEND_COMPACTED: the bytes written
- * to the output or working area. */
+ * SHINGLEBAR_WIDEN_WRITTEN, SHINGLEBAR_WRITE_FLUSH_WRITTEN, SHINGLEBAR_REPORT_WRITTEN and
+ * SHINGLEBAR_SEND_COMPACTED: the bytes written to the output or working area. */
 static inline size_t shinglebar_written_length(uint64_t result)
 {
     return (size_t)((result >> 8) & 0xFFFFu);
+}
+
+/* Of SHINGLEBAR_HELLO_READ_WRITTEN and SHINGLEBAR_HELLO_WRITE_WRITTEN: the bytes written to the area. */
+static inline size_t shinglebar_hello_length(uint64_t result)
+{
+    return (size_t)(result >> 8);
 }
 
 /* Of SHINGLEBAR_WATCH_LEFT: the seconds left. */
@@ -569,7 +679,9 @@ static inline const char *shinglebar_refusal_string(uint64_t result)
         "map: a VLAN or label twice, a VLAN outside 1 to FFE, a label over FFFFFF, or a length that is no multiple of 6",
         "no pair found in the map",
         "lists that cannot be written as a flush",
-        "k is 0, or the slot number is n or more"
+        "k is 0, or the slot number is n or more",
+        "Smart-Hello or its contents corrupt, or a number or list that cannot be written",
+        "Smart-Parameters missing"
     };
     size_t number = result < sizeof words / sizeof words[0] ? (size_t)result : 0;
     return words[number] == NULL ? words[0] : words[number];
@@ -654,7 +766,7 @@ static inline void shinglebar_pack_pair(uint16_t vlan, uint32_t label, uint8_t *
  *
  * One that a program does not use is not emitted and asks nothing of the archive. Where the compiler is
  * told to emit unused inline functions (-fkeep-inline-functions), a program that uses only lookup, age,
- * spoilt, free slot and widen can define SHINGLEBAR_TABLE_ONLY to leave the other calls out.
+ * spoilt, free slot, widen and report can define SHINGLEBAR_TABLE_ONLY to leave the other calls out.
  */
 
 static inline uint8_t *shinglebar_area(uint8_t *area, size_t length)
@@ -695,6 +807,11 @@ static inline uint64_t shinglebar_widen_any(const uint8_t *old, size_t old_len, 
     return shinglebar_widen(shinglebar_const_area(old, old_len), old_len, shinglebar_area(out, out_len), out_len);
 }
 
+static inline uint64_t shinglebar_report_any(const uint8_t *table, size_t table_len, uint8_t *out, size_t out_len)
+{
+    return shinglebar_report(shinglebar_const_area(table, table_len), table_len, shinglebar_area(out, out_len), out_len);
+}
+
 #ifndef SHINGLEBAR_TABLE_ONLY
 
 static inline uint64_t shinglebar_flush_any(uint32_t ingress, const uint8_t *payload,
@@ -718,6 +835,13 @@ static inline uint64_t shinglebar_flush_portion_any(uint32_t ingress, const uint
 {
     return shinglebar_flush_portion(ingress, shinglebar_const_area(payload, payload_len), payload_len,
                                     slot, k, shinglebar_area(table, table_len), table_len);
+}
+
+static inline uint64_t shinglebar_why_any(uint32_t ingress, const uint8_t *payload, size_t payload_len,
+                                          uint64_t slot, const uint8_t *table, size_t table_len)
+{
+    return shinglebar_why(ingress, shinglebar_const_area(payload, payload_len), payload_len, slot,
+                          shinglebar_const_area(table, table_len), table_len);
 }
 
 /* By shinglebar_receive_port. */
@@ -776,6 +900,52 @@ static inline uint64_t shinglebar_send_any(const struct shinglebar_settings *far
     return shinglebar_send(far->port, far->inner, far->nickname, far->compact, far->confidence,
                            far->seconds, shinglebar_const_area(frame, frame_len), frame_len,
                            shinglebar_area(work, work_len), work_len);
+}
+
+static inline uint64_t shinglebar_hello_read_any(const uint8_t *payload, size_t payload_len, uint8_t *contents,
+                                                 size_t contents_len)
+{
+    return shinglebar_hello_read(shinglebar_const_area(payload, payload_len), payload_len,
+                                 shinglebar_area(contents, contents_len), contents_len);
+}
+
+static inline uint64_t shinglebar_hello_write_any(const uint8_t *contents, size_t contents_len, uint8_t *out,
+                                                  size_t out_len)
+{
+    return shinglebar_hello_write(shinglebar_const_area(contents, contents_len), contents_len,
+                                  shinglebar_area(out, out_len), out_len);
+}
+
+/* The numbers of a contents area that are left, and whether one was asked for that is not there. */
+struct shinglebar_contents {
+    const uint8_t *at;
+    size_t left; /* bytes */
+    int missing;
+};
+
+static inline struct shinglebar_contents shinglebar_contents_of(const uint8_t *contents, size_t contents_len)
+{
+    struct shinglebar_contents it;
+    it.at = contents;
+    it.left = contents_len;
+    it.missing = 0;
+    return it;
+}
+
+/* The next number, or 0 where there is none. */
+static inline uint64_t shinglebar_contents_next(struct shinglebar_contents *it)
+{
+    uint64_t number = 0;
+    int at;
+    if (it->left < 8) {
+        it->missing = 1;
+        return 0;
+    }
+    for (at = 0; at < 8; at++)
+        number = number << 8 | it->at[at];
+    it->at += 8;
+    it->left -= 8;
+    return number;
 }
 
 static inline uint64_t shinglebar_write_flush_any(const uint8_t *nicknames, size_t nicknames_len,

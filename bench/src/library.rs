@@ -6,8 +6,8 @@
 pub use shinglebar::exports::{
     shinglebar_age, shinglebar_compact, shinglebar_expand, shinglebar_flush,
     shinglebar_flush_portion, shinglebar_flush_vlan_only, shinglebar_free_slot, shinglebar_ingress,
-    shinglebar_lookup, shinglebar_receive, shinglebar_receive_port, shinglebar_send,
-    shinglebar_spoilt, shinglebar_widen, shinglebar_write_flush,
+    shinglebar_lookup, shinglebar_receive, shinglebar_receive_port, shinglebar_report,
+    shinglebar_send, shinglebar_spoilt, shinglebar_why, shinglebar_widen, shinglebar_write_flush,
 };
 
 pub type Lookup = unsafe extern "C" fn(
@@ -41,6 +41,15 @@ pub type Portion = unsafe extern "C" fn(
     table_len: usize,
 ) -> u64;
 
+pub type Why = unsafe extern "C" fn(
+    ingress: u32,
+    payload: *const u8,
+    payload_len: usize,
+    slot: u64,
+    table: *const u8,
+    table_len: usize,
+) -> u64;
+
 pub type Receive = unsafe extern "C" fn(
     port: u64,
     inner: u64,
@@ -56,6 +65,7 @@ pub type Receive = unsafe extern "C" fn(
     out_len: usize,
 ) -> u64;
 
+/// Of widen and report.
 pub type Widen =
     unsafe extern "C" fn(old: *const u8, old_len: usize, out: *mut u8, out_len: usize) -> u64;
 

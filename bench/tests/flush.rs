@@ -5,7 +5,7 @@
 
 use shinglebar_bench::baseline;
 use shinglebar_bench::inputs::{address, fine, vlan_blocks, RECORD, SLOTS};
-use shinglebar_bench::library::{shinglebar_flush, Flush};
+use shinglebar_bench::library::{shinglebar_flush, shinglebar_why, Flush, Why};
 use shinglebar_bench::random::Random;
 
 /// One case in so many has a full table and a message that fills a frame.
@@ -200,6 +200,20 @@ fn word(flush: Flush, ingress: u32, payload: &[u8], table: &mut [u8]) -> u64 {
     }
 }
 
+fn reason(why: Why, ingress: u32, payload: &[u8], slot: u64, table: &[u8]) -> u64 {
+    // SAFETY: the areas do not overlap and are as long as said.
+    unsafe {
+        why(
+            ingress,
+            payload.as_ptr(),
+            payload.len(),
+            slot,
+            table.as_ptr(),
+            table.len(),
+        )
+    }
+}
+
 fn number_of(variable: &str, otherwise: u64) -> u64 {
     std::env::var(variable).map_or(otherwise, |text| text.parse().expect("a number"))
 }
@@ -233,6 +247,17 @@ fn the_hand_written_flush_does_what_the_library_does() {
             damage(&mut random, &mut payload);
         }
         let ingress = random.pick(&pool.nicknames) as u32 | random.pick(&[0, 0, 0, 0x1_0000]);
+        // Of some slots, and of one that is not there, it is asked why.
+        let mut asked = vec![slots];
+        asked.extend((0..8).map(|_| random.between(0, slots - 1)));
+        for slot in asked {
+            let answer = reason(shinglebar_why, ingress, &payload, slot, &ours);
+            let theirs = reason(baseline::why, ingress, &payload, slot, &ours);
+            assert!(
+                answer == theirs,
+                "seed {seed}, slot {slot}: {answer:#x} and {theirs:#x}"
+            );
+        }
         let mut hand_written = ours.clone();
         let answer = word(shinglebar_flush, ingress, &payload, &mut ours);
         let theirs = word(baseline::flush, ingress, &payload, &mut hand_written);

@@ -7,7 +7,10 @@
 //! | receive, receive_port | 66 other channel | |
 //! | receive, receive_port, flush, flush_vlan_only | 67 flushed | 8..23 records cleared |
 //! | flush_portion | 64 portion done | 8..23 cleared, 24..39 next slot, 40..55 examined |
-//! | compact, expand, ingress, widen, write_flush | 64 written | 8..23 length |
+//! | why | 64 free, 65 spoilt, 66 configured, 67 nickname, 68 label, 69 MAC not meant | |
+//! | why | 70 cleared | 8..15 nickname place, 16 sender, 17 label by a TLV, 18..39 label place, 40..61 MAC place, 63 every MAC |
+//! | compact, expand, ingress, widen, write_flush, report | 64 written | 8..23 length |
+//! | hello_read, hello_write | 64 written | 8..63 length |
 //! | send, send_watched | 64 compacted | 8..23 length |
 //! | send, send_watched | 65 the frame itself | |
 //! | lookup | 64 found | 8..23 nickname |
@@ -24,7 +27,7 @@ use core::error::Error;
 use core::fmt;
 use core::ops::RangeInclusive;
 
-use crate::{Label, Refusal, RECORD_LENGTH, TABLE_LENGTH_MAX};
+use crate::{Label, Refusal, PLACE_MAX, RECORD_LENGTH, REPORT_LENGTH_MAX, TABLE_LENGTH_MAX};
 
 /// The bytes of what a call writes: a frame.
 const LENGTHS: RangeInclusive<u16> = 14..=9216;
@@ -32,9 +35,17 @@ const LENGTHS: RangeInclusive<u16> = 14..=9216;
 const TABLES: RangeInclusive<u16> = RECORD_LENGTH as u16..=TABLE_LENGTH_MAX as u16;
 /// The bytes of a payload that is written: one VLAN block, and 255 of everything.
 const PAYLOADS: RangeInclusive<u16> = 6..=6172;
+/// The bytes of a report: the line of a bad length, or at least the two last lines and at most a line for each slot before them.
+const REFUSED_REPORT: u16 = 10;
+const REPORTS: RangeInclusive<u16> = 16..=REPORT_LENGTH_MAX as u16;
+/// The bytes of contents and of a Smart-Hello that have Smart-Parameters and nothing else: six numbers, and a TLV of 9 bytes.
+const LEAST_CONTENTS: u64 = 48;
+const LEAST_HELLO: u64 = 11;
 /// The records of a table that can be cleared, and its slots.
 const COUNTS: RangeInclusive<u16> = 0..=4096;
 const SLOTS: RangeInclusive<u16> = 0..=4095;
+/// The last place of a list of 255.
+const SHORT_PLACE_MAX: u64 = 254;
 const NICKNAMES: RangeInclusive<u16> = 0x0001..=0xFFBF;
 const VLANS: RangeInclusive<u16> = 0x001..=0xFFE;
 
@@ -90,6 +101,59 @@ pub struct Portioned {
     pub next: u16,
     /// The slots examined: the smaller of k and those left.
     pub examined: u16,
+}
+
+/// Why a flush clears the record of a slot, or leaves it: the first reason that applies.
+#[derive(Clone, Copy, Debug, PartialEq, Eq, Hash)]
+pub enum Why {
+    /// The slot is free.
+    Free,
+    /// The record is spoilt.
+    Spoilt,
+    /// The record is configured.
+    Configured,
+    /// The flush does not mean its nickname.
+    NicknameNotMeant,
+    /// The flush does not mean its label.
+    LabelNotMeant,
+    /// The flush does not mean its MAC.
+    MacNotMeant,
+    /// The record is cleared.
+    Cleared {
+        /// What brings its nickname.
+        nickname: NicknameBy,
+        /// What brings its label.
+        label: LabelBy,
+        /// What brings its MAC.
+        mac: MacBy,
+    },
+}
+
+/// What of a payload brings a nickname.
+#[derive(Clone, Copy, Debug, PartialEq, Eq, Hash)]
+pub enum NicknameBy {
+    /// The first listed nickname that matches, counted from 0.
+    Listed(u8),
+    /// K-nicks is 0: the sender's.
+    Sender,
+}
+
+/// What of a payload brings a label: the first, counted from 0.
+#[derive(Clone, Copy, Debug, PartialEq, Eq, Hash)]
+pub enum LabelBy {
+    /// A VLAN block, among those behind K-VLBs.
+    Block(u8),
+    /// A TLV, among all of them; a place over [`PLACE_MAX`] shows as that.
+    Tlv(u32),
+}
+
+/// What of a payload brings a MAC.
+#[derive(Clone, Copy, Debug, PartialEq, Eq, Hash)]
+pub enum MacBy {
+    /// The first TLV that does, counted from 0 among all of them; a place over [`PLACE_MAX`] shows as that.
+    Tlv(u32),
+    /// No MAC was gathered: every one is meant.
+    Every,
 }
 
 /// The result of a compaction starts the output area.
@@ -179,6 +243,27 @@ pub enum Spoilt {
 /// The widened table starts the output area.
 #[derive(Clone, Copy, Debug, PartialEq, Eq, Hash)]
 pub struct Widened {
+    /// The bytes written.
+    pub length: usize,
+}
+
+/// The morning report starts the output area.
+#[derive(Clone, Copy, Debug, PartialEq, Eq, Hash)]
+pub struct Reported {
+    /// The bytes written.
+    pub length: usize,
+}
+
+/// The contents of a Smart-Hello start the contents area.
+#[derive(Clone, Copy, Debug, PartialEq, Eq, Hash)]
+pub struct ReadHello {
+    /// The bytes written, a multiple of 8.
+    pub length: usize,
+}
+
+/// The payload of a Smart-Hello starts the output area.
+#[derive(Clone, Copy, Debug, PartialEq, Eq, Hash)]
+pub struct WrittenHello {
     /// The bytes written.
     pub length: usize,
 }
@@ -476,6 +561,118 @@ impl Answer for Portioned {
     }
 }
 
+/// A place of a nickname or VLAN block: there are at most 255 of each.
+fn short_place(place: u64) -> Option<u8> {
+    (place <= SHORT_PLACE_MAX).then_some(place as u8)
+}
+
+/// Places as they lie in the word, with 0 in the bits of those that have none: [`decode`] sees to that.
+fn cleared(word: u64) -> Option<Why> {
+    let place = |lowest: u32| (word >> lowest) & u64::from(PLACE_MAX);
+    let nickname = match word >> 16 & 1 {
+        0 => NicknameBy::Listed(short_place(word >> 8 & 0xFF)?),
+        _ => NicknameBy::Sender,
+    };
+    let label = match word >> 17 & 1 {
+        0 => LabelBy::Block(short_place(place(18))?),
+        _ => LabelBy::Tlv(place(18) as u32),
+    };
+    let mac = match (word >> 63, label) {
+        (0, LabelBy::Tlv(_)) => MacBy::Tlv(place(40) as u32),
+        // With VLAN blocks every MAC is meant.
+        (0, LabelBy::Block(_)) => return None,
+        _ => MacBy::Every,
+    };
+    Some(Why::Cleared {
+        nickname,
+        label,
+        mac,
+    })
+}
+
+impl Answer for Why {
+    const REFUSALS: &'static [Refusal] =
+        &[Refusal::TableLength, Refusal::Payload, Refusal::Portion];
+
+    fn from_word(word: u64) -> Option<Why> {
+        match kind(word) {
+            64 => Some(Why::Free),
+            65 => Some(Why::Spoilt),
+            66 => Some(Why::Configured),
+            67 => Some(Why::NicknameNotMeant),
+            68 => Some(Why::LabelNotMeant),
+            69 => Some(Why::MacNotMeant),
+            70 => cleared(word),
+            _ => None,
+        }
+    }
+
+    fn word(&self) -> u64 {
+        match *self {
+            Why::Free => 64,
+            Why::Spoilt => 65,
+            Why::Configured => 66,
+            Why::NicknameNotMeant => 67,
+            Why::LabelNotMeant => 68,
+            Why::MacNotMeant => 69,
+            Why::Cleared {
+                nickname,
+                label,
+                mac,
+            } => {
+                let nickname = match nickname {
+                    NicknameBy::Listed(place) => u64::from(place) << 8,
+                    NicknameBy::Sender => 1 << 16,
+                };
+                let label = match label {
+                    LabelBy::Block(place) => u64::from(place) << 18,
+                    LabelBy::Tlv(place) => 1 << 17 | u64::from(place) << 18,
+                };
+                let mac = match mac {
+                    MacBy::Tlv(place) => u64::from(place) << 40,
+                    MacBy::Every => 1 << 63,
+                };
+                70 | nickname | label | mac
+            }
+        }
+    }
+}
+
+impl Answer for ReadHello {
+    const REFUSALS: &'static [Refusal] = &[
+        Refusal::OutputLength,
+        Refusal::Hello,
+        Refusal::ParametersMissing,
+    ];
+
+    fn from_word(word: u64) -> Option<ReadHello> {
+        let length = word >> 8;
+        let whole = length % 8 == 0 && length >= LEAST_CONTENTS;
+        (kind(word) == 64 && whole).then_some(ReadHello {
+            length: usize::try_from(length).ok()?,
+        })
+    }
+
+    fn word(&self) -> u64 {
+        with_length(64, self.length)
+    }
+}
+
+impl Answer for WrittenHello {
+    const REFUSALS: &'static [Refusal] = ReadHello::REFUSALS;
+
+    fn from_word(word: u64) -> Option<WrittenHello> {
+        let length = word >> 8;
+        (kind(word) == 64 && length >= LEAST_HELLO).then_some(WrittenHello {
+            length: usize::try_from(length).ok()?,
+        })
+    }
+
+    fn word(&self) -> u64 {
+        with_length(64, self.length)
+    }
+}
+
 impl Answer for Compacted {
     const REFUSALS: &'static [Refusal] = &[
         Refusal::Settings,
@@ -648,6 +845,20 @@ impl Answer for Widened {
     fn from_word(word: u64) -> Option<Widened> {
         let length = value(word, TABLES).map(usize::from)?;
         (kind(word) == 64 && length.is_multiple_of(RECORD_LENGTH)).then_some(Widened { length })
+    }
+
+    fn word(&self) -> u64 {
+        with_length(64, self.length)
+    }
+}
+
+impl Answer for Reported {
+    const REFUSALS: &'static [Refusal] = &[Refusal::OutputLength];
+
+    fn from_word(word: u64) -> Option<Reported> {
+        let refused = value(word, REFUSED_REPORT..=REFUSED_REPORT);
+        let length = refused.or(value(word, REPORTS)).map(usize::from)?;
+        (kind(word) == 64).then_some(Reported { length })
     }
 
     fn word(&self) -> u64 {

@@ -94,6 +94,15 @@ extern "C" {
         table_len: usize,
     ) -> u64;
 
+    pub fn shinglebar_why(
+        ingress: u32,
+        payload: *const u8,
+        payload_len: usize,
+        slot: u64,
+        table: *const u8,
+        table_len: usize,
+    ) -> u64;
+
     pub fn shinglebar_compact(
         port: u64,
         inner: u64,
@@ -152,6 +161,27 @@ extern "C" {
     pub fn shinglebar_free_slot(table: *const u8, table_len: usize) -> u64;
 
     pub fn shinglebar_widen(old: *const u8, old_len: usize, out: *mut u8, out_len: usize) -> u64;
+
+    pub fn shinglebar_report(
+        table: *const u8,
+        table_len: usize,
+        out: *mut u8,
+        out_len: usize,
+    ) -> u64;
+
+    pub fn shinglebar_hello_read(
+        payload: *const u8,
+        payload_len: usize,
+        contents: *mut u8,
+        contents_len: usize,
+    ) -> u64;
+
+    pub fn shinglebar_hello_write(
+        contents: *const u8,
+        contents_len: usize,
+        out: *mut u8,
+        out_len: usize,
+    ) -> u64;
 
     pub fn shinglebar_write_flush(
         nicknames: *const u8,

@@ -13,10 +13,13 @@
 //! | [`flush`] | carries out the payload of an Address Flush |
 //! | [`flush_portion`] | carries out a portion of it, at most so many slots |
 //! | [`flush_vlan_only`] | carries it out as the VLAN-only model does |
+//! | [`why`] | says why a flush clears the record of a slot, or leaves it |
 //! | [`compact`], [`expand`] | convert between General and Compact Format |
 //! | [`send`] | chooses what to send to a far port |
 //! | [`send_watched`], [`Watch`] | the same at a port that stops compacting when the link looks shared |
 //! | [`lookup`], [`age`], [`spoilt`], [`free_slot`] | the address table |
+//! | [`report`] | writes the morning report of a table |
+//! | [`hello_read`], [`hello_write`] | read the payload of a Smart-Hello into its contents, and write one |
 //! | [`widen`] | makes an older table, of records of 14 bytes, one of 15 |
 //! | [`write_flush`] | writes the payload of an Address Flush |
 //!
@@ -64,6 +67,7 @@
 mod answer;
 #[allow(unsafe_code)]
 pub mod exports;
+mod hello;
 pub mod raw;
 mod refusal;
 mod values;
@@ -72,7 +76,11 @@ mod write;
 
 pub use answer::{
     decode, encode, Aged, Answer, Compacted, Expanded, Flushed, Found, FreeSlot, Ingressed,
-    Learning, Portioned, Received, ReceivedAtPort, Sent, Spoilt, UnknownWord, Widened, Written,
+    LabelBy, Learning, MacBy, NicknameBy, Portioned, ReadHello, Received, ReceivedAtPort, Reported,
+    Sent, Spoilt, UnknownWord, Why, Widened, Written, WrittenHello,
+};
+pub use hello::{
+    hello_read, hello_write, Contents, ContentsWriter, NicknameRecord, Nicknames, SmartMac, Trees,
 };
 pub use refusal::Refusal;
 pub use values::{CampusLabel, Encapsulation, Label, Mac, Outer, Pair, PortVlan, Settings};
@@ -94,6 +102,10 @@ pub const OLD_TABLE_LENGTH_MAX: usize = 57_344;
 pub const FRAME_LENGTH_MAX: usize = 9216;
 /// The bytes of a working area in which every compaction has room.
 pub const COMPACT_LENGTH_MAX: usize = 9204;
+/// The bytes of the longest report: an output area in which every one has room.
+pub const REPORT_LENGTH_MAX: usize = 36_880;
+/// The highest place of a TLV that [`why`] shows: only payloads of over 8 MB have a higher one.
+pub const PLACE_MAX: u32 = 4_194_303;
 /// The bytes of the longest payload that is written: an output area in which every one has room.
 pub const WRITTEN_LENGTH_MAX: usize = 6172;
 
@@ -321,6 +333,43 @@ pub fn flush_portion(
     ))
 }
 
+/// Why an Address Flush clears the record of a slot, or leaves it: the first reason that applies, and of a
+/// record that is cleared what brings its nickname, its label and its MAC. Nothing is changed.
+///
+/// ```
+/// use shinglebar::{LabelBy, MacBy, NicknameBy, Refusal, Why};
+///
+/// // Learned: VLAN 10, 02-00-00-00-00-01, nickname 1234; and a free slot.
+/// let mut table = [0; 2 * shinglebar::RECORD_LENGTH];
+/// table[..14].copy_from_slice(&[
+///     0x40, 0x00, 0x01, 0x40, 0x40, 0x00, 0x00, 0x00, 0x00, 0x22, 0x46, 0x82, 0x81, 0x2C,
+/// ]);
+/// // Two nicknames; two blocks, the VLANs 20 to 29 and 10 to 12.
+/// let payload = [
+///     0x02, 0x56, 0x78, 0x12, 0x34, 0x02, 0x00, 0x14, 0x00, 0x1D, 0x00, 0x0A, 0x00, 0x0C,
+/// ];
+/// let cleared = Why::Cleared {
+///     nickname: NicknameBy::Listed(1),
+///     label: LabelBy::Block(1),
+///     mac: MacBy::Every,
+/// };
+/// assert_eq!(shinglebar::why(0x0102, &payload, 0, &table), Ok(cleared));
+/// assert_eq!(shinglebar::why(0x0102, &payload, 1, &table), Ok(Why::Free));
+/// assert_eq!(shinglebar::why(0x0102, &payload, 2, &table), Err(Refusal::Portion));
+/// // No nickname is listed, and the sender is another.
+/// let other = shinglebar::why(0x0102, &[0x00, 0x00, 0x06, 0x00], 0, &table);
+/// assert_eq!(other, Ok(Why::NicknameNotMeant));
+/// ```
+#[inline]
+pub fn why(ingress: u16, payload: &[u8], slot: u16, table: &[u8]) -> Result<Why, Refusal> {
+    answered(raw::why(
+        u32::from(ingress),
+        payload,
+        u64::from(slot),
+        table,
+    ))
+}
+
 /// Compacts a General frame for a far port with these settings.
 #[inline]
 pub fn compact(far: &Settings, frame: &[u8], out: &mut [u8]) -> Result<Compacted, Refusal> {
@@ -449,6 +498,30 @@ pub fn free_slot(table: &[u8]) -> Result<FreeSlot, Refusal> {
 #[inline]
 pub fn widen(old: &[u8], out: &mut [u8]) -> Result<Widened, Refusal> {
     answered(raw::widen(old, out))
+}
+
+/// Writes the morning report of a table as text: a line for each nickname with learned or configured records, rising, with the two
+/// counts; then the free and the spoilt slots. A table of a bad length is no refusal: its report is the line `refused 2`.
+///
+/// ```
+/// use shinglebar::{Refusal, Reported};
+///
+/// // Learned: VLAN 10, 02-00-00-00-00-01, nickname 1234.
+/// let table = [
+///     0x40, 0x00, 0x01, 0x40, 0x40, 0x00, 0x00, 0x00, 0x00, 0x22, 0x46, 0x82, 0x81, 0x2C, 0x00,
+/// ];
+/// let mut out = [0; shinglebar::REPORT_LENGTH_MAX];
+/// let reported = shinglebar::report(&table, &mut out)?;
+/// assert_eq!(&out[..reported.length], b"1234 1 0\nfree 0\nspoilt 0\n");
+///
+/// let reported = shinglebar::report(&table[1..], &mut out)?;
+/// assert_eq!(&out[..reported.length], b"refused 2\n");
+/// assert_eq!(shinglebar::report(&table, &mut out[..24]), Err(Refusal::OutputLength));
+/// # Ok::<(), Refusal>(())
+/// ```
+#[inline]
+pub fn report(table: &[u8], out: &mut [u8]) -> Result<Reported, Refusal> {
+    answered(raw::report(table, out))
 }
 
 #[cfg(test)]

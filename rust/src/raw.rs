@@ -206,6 +206,22 @@ pub fn flush_portion(ingress: u32, payload: &[u8], slot: u64, k: u64, table: &mu
     }
 }
 
+/// Says why a flush clears the record of a slot, or leaves it.
+#[inline]
+pub fn why(ingress: u32, payload: &[u8], slot: u64, table: &[u8]) -> u64 {
+    // SAFETY: two slices: neither is null, each is as long as said, and both are only read.
+    unsafe {
+        exports::shinglebar_why(
+            ingress,
+            payload.as_ptr(),
+            payload.len(),
+            slot,
+            table.as_ptr(),
+            table.len(),
+        )
+    }
+}
+
 /// Compacts a General frame for a far port.
 #[inline]
 pub fn compact(far: &Settings, frame: &[u8], out: &mut [u8]) -> u64 {
@@ -292,6 +308,44 @@ pub fn widen(old: &[u8], out: &mut [u8]) -> u64 {
     // SAFETY: two slices: neither is null, each is as long as said, and the one that is lent for
     // writing overlaps nothing, being `&mut`.
     unsafe { exports::shinglebar_widen(old.as_ptr(), old.len(), out.as_mut_ptr(), out.len()) }
+}
+
+/// Writes the morning report of a table.
+#[inline]
+pub fn report(table: &[u8], out: &mut [u8]) -> u64 {
+    // SAFETY: two slices: neither is null, each is as long as said, and the one that is lent for
+    // writing overlaps nothing, being `&mut`.
+    unsafe { exports::shinglebar_report(table.as_ptr(), table.len(), out.as_mut_ptr(), out.len()) }
+}
+
+/// Reads the payload of a Smart-Hello into its contents area.
+#[inline]
+pub fn hello_read(payload: &[u8], contents: &mut [u8]) -> u64 {
+    // SAFETY: two slices: neither is null, each is as long as said, and the one that is lent for
+    // writing overlaps nothing, being `&mut`.
+    unsafe {
+        exports::shinglebar_hello_read(
+            payload.as_ptr(),
+            payload.len(),
+            contents.as_mut_ptr(),
+            contents.len(),
+        )
+    }
+}
+
+/// Writes the payload of a Smart-Hello from a contents area.
+#[inline]
+pub fn hello_write(contents: &[u8], out: &mut [u8]) -> u64 {
+    // SAFETY: two slices: neither is null, each is as long as said, and the one that is lent for
+    // writing overlaps nothing, being `&mut`.
+    unsafe {
+        exports::shinglebar_hello_write(
+            contents.as_ptr(),
+            contents.len(),
+            out.as_mut_ptr(),
+            out.len(),
+        )
+    }
 }
 
 /// Names the lowest spoilt slot.

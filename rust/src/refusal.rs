@@ -61,6 +61,8 @@ refusals! {
     NoPair = 22, "no pair found in the map";
     Lists = 23, "lists that cannot be written as a flush";
     Portion = 24, "k is 0, or the slot number is n or more";
+    Hello = 25, "Smart-Hello or its contents corrupt, or a number or list that cannot be written";
+    ParametersMissing = 26, "Smart-Parameters missing";
 }
 
 impl Refusal {

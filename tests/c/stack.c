@@ -202,6 +202,12 @@ static uint64_t call_portion(void)
     return shinglebar_flush_portion(0x1234, payload, payload_length, 0, sizeof table, table, sizeof table);
 }
 
+static uint64_t call_why(void)
+{
+    return shinglebar_why(0x1234, payload, payload_length, SHINGLEBAR_TABLE_LENGTH_MAX / SHINGLEBAR_RECORD_LENGTH - 1, table,
+                          sizeof table);
+}
+
 static uint64_t call_compact(void)
 {
     return shinglebar_compact(SETTINGS, frame, frame_length, out, sizeof out);
@@ -232,6 +238,12 @@ static uint64_t call_watch_event(void)
 static uint64_t call_lookup(void)
 {
     return shinglebar_lookup(SHINGLEBAR_LABEL_VLAN, 10, (uint64_t)1 << 40, table, sizeof table);
+}
+
+static uint64_t call_report(void)
+{
+    static uint8_t text[SHINGLEBAR_REPORT_LENGTH_MAX];
+    return shinglebar_report(table, sizeof table, text, sizeof text);
 }
 
 static uint64_t call_age(void)
@@ -293,6 +305,9 @@ static void measure_apart(struct measured *measured, int to)
     _exit(write(to, measured, sizeof *measured) == (ssize_t)sizeof *measured ? 0 : 1);
 }
 
+/* An answer that is no refusal. */
+#define ANY 0
+
 /* The stack that the call took; it must give an answer of this kind. */
 static size_t taken(const char *name, uint64_t (*call)(void), unsigned kind)
 {
@@ -311,7 +326,7 @@ static size_t taken(const char *name, uint64_t (*call)(void), unsigned kind)
         exit(1);
     }
     close(ends[0]);
-    if (shinglebar_kind(measured.result) != kind) {
+    if (kind == ANY ? shinglebar_is_refusal(measured.result) : shinglebar_kind(measured.result) != kind) {
         printf("%s answered %lx\n", name, (unsigned long)measured.result);
         exit(1);
     }
@@ -336,7 +351,7 @@ static void flushes(void)
                                      1u << 6, 1u << 7, 1u << 7 | 1u << 6, 1u << 8 | 1u << 6, 0x1FE};
     static const size_t ROOMS[] = {40, 144, 160, 768, 800, 3000, 9170, 9290, 9320, PAYLOAD_MAX};
     static const unsigned NICKNAMES[] = {0, 1, 2, 255};
-    size_t flush = 0, portion = 0, vlan_only = 0, receive = 0, took, t, r, n;
+    size_t flush = 0, portion = 0, vlan_only = 0, why = 0, receive = 0, took, t, r, n;
     for (t = 0; t < sizeof TYPES / sizeof TYPES[0]; t++)
         for (r = 0; r < sizeof ROOMS / sizeof ROOMS[0]; r++)
             for (n = 0; n < sizeof NICKNAMES / sizeof NICKNAMES[0]; n++) {
@@ -347,6 +362,10 @@ static void flushes(void)
                 portion = took > portion ? took : portion;
                 took = taken("flush_vlan_only", call_vlan_only, SHINGLEBAR_FLUSH_FLUSHED);
                 vlan_only = took > vlan_only ? took : vlan_only;
+                if (NICKNAMES[n] == 255) {
+                    took = taken("why", call_why, ANY);
+                    why = took > why ? took : why;
+                }
                 if (payload_length > sizeof frame - 46)
                     continue;
                 make_flush_frame();
@@ -356,6 +375,7 @@ static void flushes(void)
     within("flush", flush, SHINGLEBAR_STACK_MAX);
     within("flush_portion", portion, SHINGLEBAR_STACK_MAX);
     within("flush_vlan_only", vlan_only, SHINGLEBAR_STACK_MAX);
+    within("why", why, SHINGLEBAR_STACK_MAX_WITHOUT_FLUSH);
     within("receive with a flush", receive, SHINGLEBAR_STACK_MAX);
 }
 
@@ -375,6 +395,20 @@ static void others(void)
     within("age", taken("age", call_age, SHINGLEBAR_AGE_DONE), most);
     within("spoilt", taken("spoilt", call_spoilt, SHINGLEBAR_SPOILT_NONE), most);
     within("write_flush", taken("write_flush", call_write_flush, SHINGLEBAR_WRITE_FLUSH_WRITTEN), most);
+}
+
+/* With three nicknames, and with as many as there are slots. */
+static void reports(void)
+{
+    size_t at, few = taken("report", call_report, SHINGLEBAR_REPORT_WRITTEN), many;
+    for (at = 0; at < sizeof table; at += SHINGLEBAR_RECORD_LENGTH) {
+        struct shinglebar_record record = shinglebar_unpack_record(table + at);
+        record.nickname = 1 + (unsigned)(at * 97 / SHINGLEBAR_RECORD_LENGTH) % 0xFFBF;
+        if (!shinglebar_pack_record(&record, table + at))
+            exit(2);
+    }
+    many = taken("report", call_report, SHINGLEBAR_REPORT_WRITTEN);
+    within("report", few > many ? few : many, SHINGLEBAR_STACK_MAX);
 }
 
 /* Reading without a flush and ingress, with maps of so many pairs. */
@@ -414,5 +448,6 @@ int main(void)
     flushes();
     others();
     maps();
+    reports();
     return failures == 0 ? 0 : 1;
 }

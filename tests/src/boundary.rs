@@ -5,7 +5,8 @@
 
 use shinglebar::{
     decode, encode, raw, Aged, Answer, Compacted, Expanded, Flushed, Found, FreeSlot, Ingressed,
-    Portioned, Received, ReceivedAtPort, Sent, Spoilt, Widened, Written,
+    Portioned, ReadHello, Received, ReceivedAtPort, Reported, Sent, Spoilt, Why, Widened, Written,
+    WrittenHello,
 };
 
 use crate::lend::Lend;
@@ -120,6 +121,14 @@ pub fn flush_portion(
     ))
 }
 
+pub fn why(lender: &mut impl Lend, ingress: u32, payload: &[u8], slot: u64, table: &[u8]) -> u64 {
+    known::<Why>(lender.lend(
+        [("payload", payload), ("table", table)],
+        [],
+        |[payload, table], []| raw::why(ingress, payload, slot, table),
+    ))
+}
+
 pub fn compact(lender: &mut impl Lend, settings: &Settings, frame: &[u8], out: &mut [u8]) -> u64 {
     known::<Compacted>(lender.lend(
         [("frame", frame)],
@@ -178,6 +187,30 @@ pub fn widen(lender: &mut impl Lend, old: &[u8], out: &mut [u8]) -> u64 {
         [("older table", old)],
         [("output area", out)],
         |[old], [out]| raw::widen(old, out),
+    ))
+}
+
+pub fn report(lender: &mut impl Lend, table: &[u8], out: &mut [u8]) -> u64 {
+    known::<Reported>(lender.lend(
+        [("table", table)],
+        [("output area", out)],
+        |[table], [out]| raw::report(table, out),
+    ))
+}
+
+pub fn hello_read(lender: &mut impl Lend, payload: &[u8], contents: &mut [u8]) -> u64 {
+    known::<ReadHello>(lender.lend(
+        [("payload", payload)],
+        [("contents area", contents)],
+        |[payload], [contents]| raw::hello_read(payload, contents),
+    ))
+}
+
+pub fn hello_write(lender: &mut impl Lend, contents: &[u8], out: &mut [u8]) -> u64 {
+    known::<WrittenHello>(lender.lend(
+        [("contents area", contents)],
+        [("output area", out)],
+        |[contents], [out]| raw::hello_write(contents, out),
     ))
 }
 

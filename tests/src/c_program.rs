@@ -1,5 +1,6 @@
 //! C programs that use the header.
 
+use std::fs;
 use std::io::Write;
 use std::path::Path;
 use std::process::{Command, Stdio};
@@ -65,6 +66,37 @@ pub fn compile_and_run(name: &str) -> [String; 2] {
         );
         run(&program)
     })
+}
+
+/// Compiles a fuzz target of the folder `fuzz` with main.c and runs it on so many inputs; it must end well.
+pub fn fuzz_target(name: &str, inputs: usize, mut input: impl FnMut() -> Vec<u8>) {
+    let root = Path::new(env!("CARGO_MANIFEST_DIR")).join("..");
+    let folder = Path::new(env!("OUT_DIR")).join(format!("fuzz_{name}"));
+    let _ = fs::remove_dir_all(&folder);
+    fs::create_dir_all(&folder).expect("a folder");
+    let program = folder.join("target");
+    let compiled = Command::new("cc")
+        .current_dir(&root)
+        .args(["-std=c99", "-pedantic", "-O2", "-Wall", "-Wextra"])
+        .args(["-Werror", "-I", "include", "fuzz/main.c"])
+        .arg(format!("fuzz/{name}.c"))
+        .args([env!("SHINGLEBAR_ARCHIVE"), "-o"])
+        .arg(&program)
+        .output()
+        .unwrap_or_else(|error| panic!("cc cannot be run: {error}"));
+    let told = String::from_utf8_lossy(&compiled.stderr);
+    assert!(compiled.status.success(), "{told}");
+    let names: Vec<String> = (0..inputs).map(|number| number.to_string()).collect();
+    for name in &names {
+        fs::write(folder.join(name), input()).expect("an input");
+    }
+    let output = Command::new(&program)
+        .current_dir(&folder)
+        .args(&names)
+        .output()
+        .expect("the fuzz target runs");
+    let told = String::from_utf8_lossy(&output.stderr);
+    assert!(output.status.success(), "{}: {told}", output.status);
 }
 
 /// Compiles examples/port.c with these words before and behind its name.

@@ -141,6 +141,19 @@ pub fn flush_portion(
     paper
 }
 
+pub fn why(lender: &mut impl Lend, ingress: u32, payload: &[u8], slot: u64, table: &[u8]) -> u64 {
+    let library = boundary::why(lender, ingress, payload, slot, table);
+    let paper = reference::why(ingress, payload, slot, table);
+    assert!(
+        library == paper,
+        "why: {}ingress {ingress:#x}\nslot {slot}\npayload {}\ntable {}",
+        words(library, paper),
+        hex(payload),
+        hex(table)
+    );
+    paper
+}
+
 pub fn receive(
     lender: &mut impl Lend,
     settings: &Settings,
@@ -300,6 +313,50 @@ pub fn widen(lender: &mut impl Lend, old: &[u8], out: &mut [u8]) -> u64 {
         difference("output area", &after, out),
         hex(old),
         hex(&given)
+    );
+    paper
+}
+
+pub fn report(lender: &mut impl Lend, table: &[u8], out: &mut [u8]) -> u64 {
+    let given = out.to_vec();
+    let mut after = out.to_vec();
+    let library = boundary::report(lender, table, &mut after);
+    let paper = reference::report(table, out);
+    assert!(
+        library == paper && after == out,
+        "report: {}{}table {}\noutput area {}",
+        words(library, paper),
+        difference("output area", &after, out),
+        hex(table),
+        hex(&given)
+    );
+    paper
+}
+
+pub fn hello_read(lender: &mut impl Lend, payload: &[u8], contents: &mut [u8]) -> u64 {
+    let mut after = contents.to_vec();
+    let library = boundary::hello_read(lender, payload, &mut after);
+    let paper = reference::hello_read(payload, contents);
+    assert!(
+        library == paper && after == contents,
+        "hello_read: {}{}payload {}",
+        words(library, paper),
+        difference("contents area", &after, contents),
+        hex(payload)
+    );
+    paper
+}
+
+pub fn hello_write(lender: &mut impl Lend, contents: &[u8], out: &mut [u8]) -> u64 {
+    let mut after = out.to_vec();
+    let library = boundary::hello_write(lender, contents, &mut after);
+    let paper = reference::hello_write(contents, out);
+    assert!(
+        library == paper && after == out,
+        "hello_write: {}{}contents {}",
+        words(library, paper),
+        difference("output area", &after, out),
+        hex(contents)
     );
     paper
 }

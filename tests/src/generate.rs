@@ -447,6 +447,60 @@ pub fn good_length_table(random: &mut Random, pool: &Pool) -> Vec<u8> {
     bytes
 }
 
+/// A table with records of many nicknames or few, learned and configured, among free and spoilt slots; and of any kind.
+pub fn crowd(random: &mut Random) -> Vec<u8> {
+    let pool = Pool::new(random);
+    if random.one_in(4) {
+        return table(random, &pool);
+    }
+    let slots = match random.below(24) {
+        0 => SLOTS,
+        1 => random.length(1, SLOTS),
+        _ => random.length(1, 60),
+    };
+    let first = random.between(0x0001, 0xFFBF - SLOTS as u64) as u16;
+    let most = random.pick(&[1, 2, 12, 200, SLOTS as u64]);
+    let other = random.pick(&[0, 1, 4, 40, 64]);
+    let mut bytes = Vec::with_capacity(slots * RECORD);
+    for _ in 0..slots {
+        let mut record = match random.below(64) {
+            number if number < other && random.one_in(2) => spoilt_record(random, &pool),
+            number if number < other => Raw::of(&[0; RECORD]),
+            _ => good_record(random, &pool),
+        };
+        if (1..=2).contains(&record.state) && (0x0001..=0xFFBF).contains(&record.nickname) {
+            record.nickname = match random.below(12) {
+                0 => random.pick(&[0x0001, 0x00FF, 0x0100, 0xFFBE, 0xFFBF]),
+                _ => first + random.below(most) as u16,
+            };
+        }
+        bytes.extend(record.bytes());
+    }
+    bytes
+}
+
+/// A table of so many learned and configured records, each of another nickname, in any order.
+pub fn all_different(random: &mut Random, slots: usize) -> Vec<u8> {
+    let pool = Pool::new(random);
+    let mut nicknames: Vec<u16> = (0x0001..=0xFFBF).collect();
+    let mut bytes = Vec::with_capacity(slots * RECORD);
+    for slot in 0..slots {
+        let other = random.length(slot, nicknames.len() - 1);
+        nicknames.swap(slot, other);
+        let mut record = good_record(random, &pool);
+        record.nickname = nicknames[slot];
+        bytes.extend(record.bytes());
+    }
+    bytes
+}
+
+/// A table of so many spoilt records.
+pub fn all_spoilt(random: &mut Random, slots: usize) -> Vec<u8> {
+    let pool = Pool::new(random);
+    let records = (0..slots).map(|_| spoilt_record(random, &pool).bytes());
+    records.flatten().collect()
+}
+
 /// An older table, of records of 14 bytes: any bytes, mostly of a length that it may have.
 pub fn older_table(random: &mut Random) -> Vec<u8> {
     let length = match random.below(20) {

@@ -12,6 +12,9 @@
 //! | tests/example.rs | receive, age: examples/port.c |
 //! | tests/install.rs | none: `make install` and the version |
 //! | tests/flush.rs | flush |
+//! | tests/why.rs | why, and flush beside it |
+//! | tests/report.rs | report, and the program `morning_report` |
+//! | tests/hello.rs | hello_read, hello_write |
 //! | tests/write.rs | write_flush, and flush with what it wrote |
 //! | tests/receive.rs | receive |
 //! | tests/convert.rs | compact, expand, send |
@@ -39,6 +42,7 @@ pub mod captures;
 pub mod compare;
 pub mod corpus;
 pub mod generate;
+pub mod hellos;
 pub mod lend;
 pub mod maps;
 pub mod outside;

@@ -23,6 +23,15 @@ pub const WIDEN: Answers = &[
     (64, "written"),
 ];
 
+pub const REPORT: Answers = &[(16, "refusal 16: output area"), (64, "written")];
+
+pub const HELLO: Answers = &[
+    (16, "refusal 16: area"),
+    (25, "refusal 25: corrupt"),
+    (26, "refusal 26: parameters missing"),
+    (64, "written"),
+];
+
 pub const FREE_SLOT: Answers = &[(2, "refusal 2: table length"), (64, "slot"), (65, "none")];
 
 pub const FLUSH: Answers = &[
@@ -36,6 +45,19 @@ pub const PORTION: Answers = &[
     (15, "refusal 15: flush payload corrupt"),
     (24, "refusal 24: k or slot"),
     (64, "portion done"),
+];
+
+pub const WHY: Answers = &[
+    (2, "refusal 2: table length"),
+    (15, "refusal 15: flush payload corrupt"),
+    (24, "refusal 24: slot"),
+    (64, "free"),
+    (65, "spoilt"),
+    (66, "configured"),
+    (67, "nickname not meant"),
+    (68, "label not meant"),
+    (69, "MAC not meant"),
+    (70, "cleared"),
 ];
 
 pub const RECEIVE: Answers = &[

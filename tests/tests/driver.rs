@@ -2143,7 +2143,8 @@ fn each_command_has_help_on_each_of_its_options() {
         "--confidence",
         "--seconds",
     ];
-    let commands: [(&str, &[&str], bool); 13] = [
+    let commands: [(&str, &[&str], bool); 15] = [
+        ("report", &["--table", "--json"], false),
         (
             "receive",
             &[
@@ -2202,6 +2203,24 @@ fn each_command_has_help_on_each_of_its_options() {
             false,
         ),
         ("widen", &["--table", "--dry-run", "--json"], false),
+        (
+            "why",
+            &[
+                "--table",
+                "--slots",
+                "--map",
+                "--multihomed",
+                "--slot",
+                "--mac",
+                "--vlan",
+                "--fgl",
+                "--hex",
+                "--ingress",
+                "--no-ageing",
+                "--json",
+            ],
+            true,
+        ),
         (
             "write",
             &[
@@ -2913,10 +2932,17 @@ fn the_option_smart_takes_frames_with_the_own_ingress_nickname() {
         label: vec![0x81, 0x00, 0x00, 0x0A],
         content: vec![0x08, 0x00, 0x45, 0x00],
     };
-    fs::write(folder.join("in"), captures::capture(USUAL, &[frame.bytes()])).expect("a capture");
+    fs::write(
+        folder.join("in"),
+        captures::capture(USUAL, &[frame.bytes()]),
+    )
+    .expect("a capture");
     let words = |smart| [&receive_words("in")[..], &["--no-ageing"], smart].concat();
     for (smart, said) in [
-        (&["--smart", "on"][..], "delivered 16 bytes of VLAN 10, kept"),
+        (
+            &["--smart", "on"][..],
+            "delivered 16 bytes of VLAN 10, kept",
+        ),
         (&["--smart=off"], "refused 9"),
         (&[], "refused 9"),
     ] {
@@ -3098,4 +3124,439 @@ fn a_configured_record_takes_the_place_of_all_homes() {
         good(&run_in(&folder, &[&["unset"][..], &pair].concat())),
         "slot 1: VLAN 10 02-00-00-00-00-01 behind 1235 -> free\n"
     );
+}
+
+/// The sentence for P1 of a payload, by the driver.
+fn why_words<'a>(ingress: &'a str, hex: &'a str, slot: &'a str) -> Vec<&'a str> {
+    let table = ["why", "--table", "table", "--slot", slot];
+    [&table[..], &["--ingress", ingress, "--hex", hex]].concat()
+}
+
+#[test]
+fn why_tells_the_reason_for_a_slot_and_for_an_address() {
+    let folder = folder("why");
+    let station = 0x0200_0000_0001;
+    let other = Entry {
+        label: vlan(10),
+        mac: station,
+        nickname: 0x5678,
+        confidence: 20,
+        seconds: 300,
+        multihomed: true,
+    };
+    let table = [
+        record(true, vlan(10), station, 20, 300),
+        [0; RECORD],
+        [0xC0; RECORD],
+        record(false, vlan(10), 0x0200_0000_0002, 20, 0),
+        write(true, &other),
+        record(true, Label::Fine(10), station, 20, 300),
+        record(true, vlan(10), 0x0200_0000_0003, 20, 300),
+    ]
+    .concat();
+    fs::write(folder.join("table"), &table).expect("a table");
+    // P2's payload, and one that names a MAC
+    let p2 = "01 12 34 01 00 0A 00 0C";
+    let mac = "00 00 09 00 07 06 020000000001 01 08 0001 0002 000A 000A";
+    for (ingress, hex, slot, sentence) in [
+        ("0102", p2, "0", "cleared: nickname 1234 (listed, place 0), VLAN 10 by block 0, every MAC"),
+        ("1234", p2, "1", "free"),
+        ("1234", p2, "2", "stays: spoilt"),
+        ("1234", p2, "3", "stays: configured"),
+        ("1234", p2, "4", "stays: nickname 5678 is not meant"),
+        ("1234", p2, "5", "stays: FGL 10 is not meant"),
+        (
+            "1234",
+            mac,
+            "0",
+            "cleared: nickname 1234 (the sender's), VLAN 10 by TLV 2 of type 1, 02-00-00-00-00-01 by TLV 1 of type 7",
+        ),
+        ("1234", mac, "6", "stays: 02-00-00-00-00-03 is not meant"),
+        ("5678", "00 00 0600", "4", "cleared: nickname 5678 (the sender's), VLAN 10 by TLV 0 of type 6, every MAC"),
+    ] {
+        let words = why_words(ingress, hex, slot);
+        let printed = good(&run_in(&folder, &words));
+        assert_eq!(printed, format!("slot {slot}: {sentence}\n"));
+        let objects = good(&run_in(&folder, &[&words[..], &["--json"]].concat()));
+        same_facts(&printed, &objects);
+        // and it is what the second implementation answers
+        let kind = reference::why(
+            u32::from_str_radix(ingress, 16).expect("a nickname"),
+            &hex_bytes(hex),
+            slot.parse().expect("a slot"),
+            &table,
+        ) & 0xFF;
+        let reason = WHY[kind as usize - 64];
+        assert!(objects.contains(&format!("\"why\":\"{reason}\"")), "{objects}");
+    }
+    // an address has a sentence for each of its records, or for that with a label
+    let address = [
+        "why",
+        "--table",
+        "table",
+        "--ingress",
+        "1234",
+        "--hex",
+        p2,
+        "--mac",
+        "020000000001",
+    ];
+    let lines = "slot 0: cleared: nickname 1234 (listed, place 0), VLAN 10 by block 0, every MAC\n\
+                 slot 4: stays: nickname 5678 is not meant\n\
+                 slot 5: stays: FGL 10 is not meant\n";
+    assert_eq!(good(&run_in(&folder, &address)), lines);
+    let labelled = |option, number| {
+        let words = [&address[..], &[option, number]].concat();
+        run_in(&folder, &words)
+    };
+    let one = "slot 5: stays: FGL 10 is not meant\n";
+    assert_eq!(good(&labelled("--fgl", "10")), one);
+    assert_eq!(good(&labelled("--vlan", "10")).lines().count(), 2);
+    bad(
+        &labelled("--vlan", "11"),
+        1,
+        "no slot of table has the address",
+    );
+    // what the library refuses is said
+    let corrupt = "refused 15: flush payload corrupt: byte 2 of the payload: a TLV of type 6 has length 1, not 0";
+    bad(
+        &run_in(&folder, &why_words("1234", "0000060100", "0")),
+        1,
+        corrupt,
+    );
+    bad(
+        &run_in(&folder, &why_words("1234", "", "0")),
+        1,
+        "K-nicks is missing",
+    );
+    let past = "refused 24: k is 0, or the slot number is n or more";
+    bad(&run_in(&folder, &why_words("1234", p2, "7")), 1, past);
+    assert!(bytes(&folder.join("table")) == table);
+    assert_eq!(names(&folder), ["table"]);
+}
+
+/// The words of an object for the kinds from 64 on.
+const WHY: [&str; 7] = [
+    "free",
+    "spoilt",
+    "configured",
+    "nickname not meant",
+    "label not meant",
+    "MAC not meant",
+    "cleared",
+];
+
+fn hex_bytes(digits: &str) -> Vec<u8> {
+    let digits: String = digits.split(' ').collect();
+    let byte = |at| u8::from_str_radix(&digits[at..at + 2], 16).expect("digits");
+    (0..digits.len()).step_by(2).map(byte).collect()
+}
+
+/// What the object of a cleared record says of its places, by the word.
+fn places_of(word: u64) -> Vec<String> {
+    let place = |lowest: u32| word >> lowest & 0x3F_FFFF;
+    let nickname = match word >> 16 & 1 {
+        1 => "\"sender\":true,\"label_by\"".to_string(),
+        _ => format!("\"sender\":false,\"nickname_place\":{},", word >> 8 & 0xFF),
+    };
+    let label = match word >> 17 & 1 {
+        1 => format!("\"label_by\":\"TLV\",\"label_place\":{},", place(18)),
+        _ => format!("\"label_by\":\"block\",\"label_place\":{},", place(18)),
+    };
+    let mac = match word >> 63 {
+        1 => "\"every_mac\":true}".to_string(),
+        _ => format!(
+            "\"every_mac\":false,\"mac_by\":\"TLV\",\"mac_place\":{},",
+            place(40)
+        ),
+    };
+    vec![nickname, label, mac]
+}
+
+#[test]
+fn why_tells_the_places_that_the_second_implementation_names() {
+    let folder = folder("why_places");
+    let mut random = Random::new(2608);
+    let mut cleared = 0;
+    for _ in 0..60 {
+        let pool = generate::Pool::new(&mut random);
+        let payload = generate::good_payload(&mut random, &pool);
+        let mut table = generate::good_length_table(&mut random, &pool);
+        table.truncate(13 * RECORD);
+        let ingress = u32::from(pool.nicknames[0]);
+        // a slot that is cleared, where there is one
+        let slots = 0..(table.len() / RECORD) as u64;
+        let word = |slot| reference::why(ingress, &payload, slot, &table);
+        let slot = slots.max_by_key(|slot| word(*slot) & 0xFF).expect("a slot");
+        let word = word(slot);
+        fs::write(folder.join("table"), &table).expect("a table");
+        let hex: String = payload.iter().map(|byte| format!("{byte:02x}")).collect();
+        let (slot, ingress) = (slot.to_string(), format!("{ingress:04X}"));
+        let words = [&why_words(&ingress, &hex, &slot)[..], &["--json"]].concat();
+        let printed = good(&run_in(&folder, &words));
+        let reason = format!(
+            "{{\"slot\":{slot},\"why\":\"{}\",",
+            WHY[(word & 0xFF) as usize - 64]
+        );
+        assert!(printed.starts_with(&reason), "{printed}");
+        if word & 0xFF == 70 {
+            cleared += 1;
+            for part in places_of(word) {
+                assert!(printed.contains(&part), "`{part}` is not in {printed}");
+            }
+        }
+    }
+    assert!(cleared > 10, "only {cleared} cleared");
+}
+
+#[test]
+fn why_tells_the_frame_of_a_capture_that_cleared_an_address() {
+    let folder = folder("why_capture");
+    let capture = data("hall.pcap");
+    let capture = capture.to_str().expect("UTF-8");
+    let files = ["why", capture, "--table", "table", "--slots", "16"];
+    let of = |mac| [&files[..], &SETTINGS, &["--mac", mac]].concat();
+    let words = of("02-00-00-00-00-02");
+    let printed = good(&run_in(&folder, &words));
+    assert_eq!(
+        printed,
+        "frame 11: 2025-11-16T08:00:10.133456Z General, 60 bytes, VLAN 1, 02-00-00-00-00-B2 to 01-80-C2-00-00-42, 1234 to 0B0B (M), \
+         channel 009 | slot 2: cleared: nickname 1234 (listed, place 0), VLAN 12 by TLV 0 of type 1, 02-00-00-00-00-02 by TLV 1 of type 7\n\
+         13 frames, 2 flushes: 1 cleared, last by frame 11\n"
+    );
+    same_facts(
+        &printed,
+        &good(&run_in(&folder, &[&words[..], &["--json"]].concat())),
+    );
+    // the line of `receive` tells the same slot
+    let received = good(&run_in(&folder, &receive_words(capture)));
+    assert!(parts(&received, 11)[2].starts_with("slot 2: VLAN 12 02-00-00-00-00-02"));
+    for name in ["table", "out", "table.aged"] {
+        fs::remove_file(folder.join(name)).expect("a file");
+    }
+    // no flush met it
+    let output = run_in(&folder, &of("02-00-00-00-00-77"));
+    assert_eq!(output.status.code(), Some(1));
+    assert_eq!(text(&output.stdout), "13 frames, 2 flushes: 0 cleared\n");
+    assert_eq!(names(&folder), [] as [&str; 0]);
+}
+
+#[test]
+fn why_over_a_capture_tells_each_flush_and_what_aged() {
+    let folder = folder("why_each");
+    let from = |number: u64| frame_from(0x0200_0000_0000 + number, 10, 0x1234);
+    let frames = [
+        (0, from(1)),
+        (1, from(2)),
+        (2, flush_frame(&hex_bytes("00 01 000B000B"))),
+        (3, flush_frame(&hex_bytes("00 01 000A000A 00"))),
+        (4, from(1)),
+        // a corrupt one changes nothing and is not told of
+        (5, flush_frame(&hex_bytes("00 00 0601"))),
+        (1300, from(2)),
+        (1301, flush_frame(&hex_bytes("00 00 0600"))),
+    ];
+    fs::write(folder.join("in"), capture_at(&frames)).expect("a capture");
+    let files = ["why", "in", "--table", "table", "--slots", "4"];
+    let words = |more: &[&'static str]| [&files[..], &SETTINGS, more].concat();
+    let sentences = |printed: &str| -> Vec<String> {
+        let lines = printed.lines();
+        lines
+            .map(|line| line.split(" | ").last().expect("it").to_string())
+            .collect()
+    };
+    let cleared = "cleared: nickname 1234 (the sender's), VLAN 10 by";
+    let printed = good(&run_in(&folder, &words(&["--mac", "020000000001"])));
+    assert_eq!(
+        sentences(&printed),
+        [
+            "slot 0: stays: VLAN 10 is not meant".to_string(),
+            format!("slot 0: {cleared} block 0, every MAC"),
+            "slot 0: VLAN 10 02-00-00-00-00-01 behind 1234 -> free".to_string(),
+            "8 frames, 3 flushes: 1 cleared, last by frame 4".to_string(),
+        ]
+    );
+    assert!(
+        printed.lines().nth(2).expect("it").starts_with("aged: "),
+        "{printed}"
+    );
+    let printed = good(&run_in(&folder, &words(&["--slot", "1"])));
+    assert_eq!(
+        sentences(&printed),
+        [
+            "slot 1: stays: VLAN 10 is not meant".to_string(),
+            format!("slot 1: {cleared} block 0, every MAC"),
+            "slot 1: free".to_string(),
+            "8 frames, 3 flushes: 1 cleared, last by frame 4".to_string(),
+        ]
+    );
+    let still = good(&run_in(
+        &folder,
+        &words(&["--mac", "020000000001", "--no-ageing"]),
+    ));
+    assert!(
+        still.ends_with("8 frames, 3 flushes: 2 cleared, last by frame 8\n"),
+        "{still}"
+    );
+    assert_eq!(names(&folder), ["in"]);
+}
+
+#[test]
+fn bad_command_lines_of_why_get_a_message_and_status_2() {
+    let folder = folder("why_usage");
+    fs::write(folder.join("table"), [0; RECORD]).expect("a table");
+    let table = ["why", "--table", "table"];
+    let hex = ["--hex", "0000", "--ingress", "1234"];
+    for (words, said) in [
+        (&["--slot", "0"][..], "one of a capture and --hex is needed"),
+        (
+            &["in", "--slot", "0", "--hex", "0000"],
+            "one of a capture and --hex is needed",
+        ),
+        (
+            &["--slot", "0", "--hex", "0000"],
+            "--hex and --ingress go together",
+        ),
+        (
+            &["in", "--slot", "0", "--ingress", "1234"],
+            "--hex and --ingress go together",
+        ),
+        (
+            &["--slot", "0", "--hex", "000", "--ingress", "1"],
+            "two hexadecimal digits for each byte",
+        ),
+        (
+            &["--slot", "0", "--hex", "00 0g", "--ingress", "1"],
+            "two hexadecimal digits for each byte",
+        ),
+        (
+            &["--slot", "4096", "--hex", "00", "--ingress", "1"],
+            "--slot takes a number from 0 to 4095",
+        ),
+        (&["in", "--slot", "0"], "settings outside their ranges"),
+        (
+            &["table", "--slot", "0"],
+            "the capture and --table are different files",
+        ),
+    ] {
+        bad(&run_in(&folder, &[&table[..], words].concat()), 2, said);
+    }
+    for (words, said) in [
+        (&[][..], "one of --slot and --mac is needed"),
+        (
+            &["--slot", "0", "--mac", "020000000001"],
+            "one of --slot and --mac is needed",
+        ),
+        (
+            &["--slot", "0", "--vlan", "1"],
+            "--vlan and --fgl go with --mac",
+        ),
+        (
+            &["--mac", "020000000001", "--vlan", "1", "--fgl", "1"],
+            "--vlan and --fgl are two labels",
+        ),
+    ] {
+        bad(
+            &run_in(&folder, &[&table[..], &hex, words].concat()),
+            2,
+            said,
+        );
+    }
+    bad(
+        &run_in(&folder, &["why", "--slot", "0"]),
+        2,
+        "--table FILE is needed",
+    );
+    let files = ["why", "in", "--table", "table", "--slot", "1"];
+    let past = "table has 1 slots, and --slot says 1";
+    bad(&run_in(&folder, &[&files[..], &SETTINGS].concat()), 1, past);
+}
+
+/// The report that README.md shows is that of the table which the worked example leaves.
+#[test]
+fn the_report_of_the_readme_is_real() {
+    let folder = folder("readme_report");
+    let capture = data("hall.pcap");
+    good(&run_in(
+        &folder,
+        &receive_words(capture.to_str().expect("UTF-8")),
+    ));
+    let printed = good(&run_in(&folder, &["report", "--table", "table"]));
+    let shown: String = printed
+        .lines()
+        .map(|line| format!("    {line}\n"))
+        .collect();
+    let readme = text(&bytes(&package().join("../README.md")));
+    assert!(readme.contains(&format!("\n\n{shown}\n")), "{shown}");
+}
+
+#[test]
+fn report_prints_what_the_program_prints() {
+    let folder = folder("report");
+    let report = ["report", "--table", "table"];
+    let entry = |nickname| Entry {
+        label: vlan(10),
+        mac: 0x0200_0000_0001,
+        nickname,
+        confidence: 20,
+        seconds: 300,
+        multihomed: false,
+    };
+    let table = [
+        write(true, &entry(0xFFBF)),
+        write(true, &entry(0x1234)),
+        write(false, &entry(0x1234)),
+        [0; RECORD],
+        [0xC0; RECORD],
+        write(true, &entry(0x1234)),
+    ]
+    .concat();
+    fs::write(folder.join("table"), &table).expect("a table");
+    let printed = good(&run_in(&folder, &report));
+    assert_eq!(printed, "1234 2 1\nFFBF 1 0\nfree 1\nspoilt 1\n");
+    assert_eq!(printed, reference::reported(&table));
+    let objects = good(&run_in(&folder, &[&report[..], &["--json"]].concat()));
+    same_facts(&printed, &objects);
+    let first = "{\"nickname\":\"1234\",\"learned\":2,\"configured\":1}\n";
+    assert!(objects.starts_with(first), "{objects}");
+    // a table of the most slots and of as many nicknames
+    let table = generate::all_different(&mut Random::new(14), TABLE / RECORD);
+    fs::write(folder.join("table"), &table).expect("a table");
+    assert_eq!(good(&run_in(&folder, &report)), reference::reported(&table));
+    // the line in front says the width, and is no part of the table; without it the width is not guessed
+    let fourteen = write(true, &entry(0x1234)).repeat(14);
+    let wide = [&b"shinglebar table 15\n"[..], &fourteen].concat();
+    fs::write(folder.join("table"), &wide).expect("a table");
+    let lines = "1234 14 0\nfree 0\nspoilt 0\n";
+    assert_eq!(good(&run_in(&folder, &report)), lines);
+    fs::write(folder.join("table"), &fourteen).expect("a table");
+    let output = run_in(&folder, &report);
+    bad(
+        &output,
+        1,
+        "table has 210 bytes and does not say of which width",
+    );
+    assert_eq!(text(&output.stdout), "");
+    // what is no table has the program's line, and the reason beside it
+    for (length, said) in [
+        (0, "table is no address table: it has 0 bytes; refused 2"),
+        (1, "table is no address table: it has 1 bytes; refused 2"),
+        (
+            OLD_RECORD,
+            "table has records of 14 bytes; `widen` makes them 15",
+        ),
+        (
+            TABLE + 1,
+            "table is no address table: it has 61441 or more bytes",
+        ),
+    ] {
+        fs::write(folder.join("table"), vec![0; length]).expect("a table");
+        let output = run_in(&folder, &report);
+        bad(&output, 1, said);
+        assert_eq!(text(&output.stdout), "refused 2\n");
+    }
+    fs::remove_file(folder.join("table")).expect("the table");
+    bad(&run_in(&folder, &report), 1, "table is not there");
+    bad(&run_in(&folder, &["report"]), 2, "--table FILE is needed");
+    assert_eq!(names(&folder), [] as [&str; 0]);
 }

@@ -10,7 +10,7 @@ use shinglebar_tests::generate::{self, Pool};
 use shinglebar_tests::maps;
 use shinglebar_tests::pages::{Access, Pages};
 use shinglebar_tests::random::Random;
-use shinglebar_tests::reference::{Settings, OLD_RECORD, RECORD};
+use shinglebar_tests::reference::{reported, Settings, OLD_RECORD, RECORD};
 use shinglebar_tests::run;
 
 /// Each case makes many calls: one for each side, and for each length at which the frame or payload is
@@ -279,6 +279,29 @@ fn write_flush_touches_only_what_it_is_lent() {
 }
 
 #[test]
+fn why_touches_only_what_it_is_lent() {
+    let mut both = Pages::both();
+    run::cases(
+        "why_touches_only_what_it_is_lent",
+        2 * SHARE,
+        run::WHY,
+        &[],
+        |random, tally| {
+            let pool = Pool::new(random);
+            let ingress = generate::ingress(random, &pool);
+            let table = table(random, &pool);
+            let payload = generate::payload(random, &pool);
+            for payload in variants(random, payload) {
+                let (slot, _) = generate::portion(random, table.len());
+                for pages in &mut both {
+                    tally.word(compare::why(pages, ingress, &payload, slot, &table));
+                }
+            }
+        },
+    );
+}
+
+#[test]
 fn calls_on_the_table_alone_touch_only_what_they_are_lent() {
     let mut both = Pages::both();
     run::cases(
@@ -315,6 +338,28 @@ fn widen_touches_only_what_it_is_lent() {
             let out = random.bytes(length);
             for pages in &mut both {
                 tally.word(compare::widen(pages, &old, &mut out.clone()));
+            }
+        },
+    );
+}
+
+#[test]
+fn report_touches_only_what_it_is_lent() {
+    let mut both = Pages::both();
+    run::cases(
+        "report_touches_only_what_it_is_lent",
+        8,
+        run::REPORT,
+        &[],
+        |random, tally| {
+            let mut table = generate::crowd(random);
+            while table.len() > 60 * RECORD && !random.one_in(50) {
+                table = generate::crowd(random);
+            }
+            let length = generate::area_length(random, reported(&table).len());
+            let out = random.bytes(length);
+            for pages in &mut both {
+                tally.word(compare::report(pages, &table, &mut out.clone()));
             }
         },
     );

@@ -65,6 +65,33 @@ impl Try {
     }
 }
 
+/// The order of the calls of document 02 that have one: of every two faults the earlier gives the number.
+#[test]
+fn why_refuses_in_its_order() {
+    for (length, slot, payload, word) in [
+        (RECORD, 0, &[0, 0][..], 64),
+        (RECORD - 1, 0, &[0, 0], 2),
+        (RECORD - 1, 1, &[0, 0], 2),
+        (RECORD - 1, 0, &[], 2),
+        (RECORD - 1, 1, &[], 2),
+        (RECORD, 1, &[0, 0], 24),
+        (RECORD, 1, &[], 24),
+        (RECORD, u64::MAX, &[], 24),
+        (RECORD, 0, &[], 15),
+        (4096 * RECORD, 4095, &[0, 0], 64),
+        (4096 * RECORD, 4096, &[0, 0], 24),
+        (4097 * RECORD, 4096, &[0, 0], 2),
+        (0, 0, &[], 2),
+    ] {
+        let table = vec![0; length];
+        assert_eq!(
+            raw::why(0x1234, payload, slot, &table),
+            word,
+            "{length}, {slot}, {payload:?}"
+        );
+    }
+}
+
 /// What makes a call fail the test of a step; the number is that of `row`, which is another one where the
 /// step refers to it.
 struct Fault {

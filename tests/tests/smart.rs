@@ -106,8 +106,7 @@ fn a_flush_with_our_own_nickname_and_no_list_is_carried_out_with_smart_endnodes(
         let settings = Settings { smart, ..PORT };
         let table = learned(0x0102, false).to_vec();
         let (mut after, mut out) = (table.clone(), vec![0; 8]);
-        let read =
-            compare::receive_port(&mut random, &settings, &[], &flush, &mut after, &mut out);
+        let read = compare::receive_port(&mut random, &settings, &[], &flush, &mut after, &mut out);
         assert_eq!(read, word);
         assert_eq!(after != table, cleared);
     }
@@ -155,14 +154,25 @@ fn smart_endnodes_bear_on_frames_with_our_own_ingress_nickname_alone() {
             let mut read = |smart| {
                 let settings = Settings { smart, ..settings };
                 let (mut after, mut written) = (table.clone(), out.clone());
-                let word =
-                    compare::receive_port(random, &settings, &map, &frame, &mut after, &mut written);
+                let word = compare::receive_port(
+                    random,
+                    &settings,
+                    &map,
+                    &frame,
+                    &mut after,
+                    &mut written,
+                );
                 (word, after, written)
             };
             let given = read(settings.smart);
             tally.word(given.0);
             let (on, off) = (read(1), read(0));
-            let known = reference::Settings { smart: 0, ..settings }.check().is_ok();
+            let known = reference::Settings {
+                smart: 0,
+                ..settings
+            }
+            .check()
+            .is_ok();
             if !known {
                 assert_eq!((on.0, off.0), (1, 1));
                 return;

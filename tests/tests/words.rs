@@ -4,8 +4,8 @@
 
 use shinglebar::{
     decode, encode, raw, Aged, Answer, CampusLabel, Compacted, Encapsulation, Expanded, Flushed,
-    Found, Ingressed, Label, Learning, Mac, Outer, Pair, PortVlan, Portioned, Received,
-    ReceivedAtPort, Refusal, Sent, Settings, Spoilt, Widened,
+    Found, Ingressed, Label, LabelBy, Learning, Mac, MacBy, NicknameBy, Outer, Pair, PortVlan,
+    Portioned, Received, ReceivedAtPort, Refusal, Reported, Sent, Settings, Spoilt, Why, Widened,
 };
 use shinglebar_tests::generate::{self, Pool};
 use shinglebar_tests::maps;
@@ -76,6 +76,38 @@ impl Packed for Portioned {
     }
 }
 
+impl Packed for Why {
+    fn packed(&self) -> u64 {
+        match self {
+            Why::Free => 64,
+            Why::Spoilt => 65,
+            Why::Configured => 66,
+            Why::NicknameNotMeant => 67,
+            Why::LabelNotMeant => 68,
+            Why::MacNotMeant => 69,
+            Why::Cleared {
+                nickname,
+                label,
+                mac,
+            } => {
+                let nickname = match nickname {
+                    NicknameBy::Listed(place) => 0x100 * u64::from(*place),
+                    NicknameBy::Sender => 0x1_0000,
+                };
+                let label = match label {
+                    LabelBy::Block(place) => 0x4_0000 * u64::from(*place),
+                    LabelBy::Tlv(place) => 0x2_0000 + 0x4_0000 * u64::from(*place),
+                };
+                let mac = match mac {
+                    MacBy::Tlv(place) => 0x100_0000_0000 * u64::from(*place),
+                    MacBy::Every => 0x8000_0000_0000_0000,
+                };
+                70 + nickname + label + mac
+            }
+        }
+    }
+}
+
 impl Packed for Compacted {
     fn packed(&self) -> u64 {
         value(64, self.length)
@@ -122,6 +154,12 @@ impl Packed for Spoilt {
 }
 
 impl Packed for Widened {
+    fn packed(&self) -> u64 {
+        value(64, self.length)
+    }
+}
+
+impl Packed for Reported {
     fn packed(&self) -> u64 {
         value(64, self.length)
     }
@@ -316,6 +354,28 @@ fn typed_portions_give_what_the_paper_says() {
 }
 
 #[test]
+fn typed_why_gives_what_the_paper_says() {
+    run::cases(
+        "typed_why_gives_what_the_paper_says",
+        2,
+        run::WHY,
+        &[],
+        |random, tally| {
+            let pool = Pool::new(random);
+            let ingress = generate::ingress(random, &pool) as u16;
+            let payload = generate::payload(random, &pool);
+            let table = generate::table(random, &pool);
+            let (slot, _) = generate::portion(random, table.len());
+            let outcome = shinglebar::why(ingress, &payload, slot as u16, &table);
+            let slot = u64::from(slot as u16);
+            let paper = reference::why(u32::from(ingress), &payload, slot, &table);
+            assert_eq!(packed(outcome), paper, "{outcome:?}");
+            tally.word(paper);
+        },
+    );
+}
+
+#[test]
 fn typed_conversions_give_what_the_paper_says() {
     run::cases(
         "typed_conversions_give_what_the_paper_says",
@@ -436,6 +496,27 @@ fn typed_widen_gives_what_the_paper_says() {
     );
 }
 
+#[test]
+fn typed_report_gives_what_the_paper_says() {
+    run::cases(
+        "typed_report_gives_what_the_paper_says",
+        8,
+        run::REPORT,
+        &[],
+        |random, tally| {
+            let table = generate::crowd(random);
+            let length = generate::area_length(random, reference::reported(&table).len());
+            let mut out = random.bytes(length);
+            let mut paper_out = out.clone();
+            let outcome = shinglebar::report(&table, &mut out);
+            let paper = reference::report(&table, &mut paper_out);
+            assert_eq!(packed(outcome), paper, "{outcome:?}");
+            assert!(out == paper_out);
+            tally.word(paper);
+        },
+    );
+}
+
 /// The bits of a word by their use: the low byte, those of values, and all others, which are 0.
 struct Bits {
     kind: u8,
@@ -528,6 +609,21 @@ fn a_word_that_is_no_answer_is_not_taken_for_one() {
         run::PORTION,
         &[bits(64, 0x001F_FF1F_FF1F_FF00, 0x0000_0100_0100_0040)],
     );
+    let cleared = 0xBFFF_FFFF_FFFF_FF00;
+    check_words::<Why>(
+        "why",
+        run::WHY,
+        &[
+            bits(64, NO_VALUE, 64),
+            bits(65, NO_VALUE, 65),
+            bits(66, NO_VALUE, 66),
+            bits(67, NO_VALUE, 67),
+            bits(68, NO_VALUE, 68),
+            bits(69, NO_VALUE, 69),
+            bits(70, cleared, 0x8000_0000_0000_0046),
+            bits(70, cleared, 0x0000_0000_000B_0046),
+        ],
+    );
     check_words::<Compacted>("compact", run::COMPACT, &[bits(64, ONE_VALUE, 0x1040)]);
     check_words::<Ingressed>("ingress", run::INGRESS, &[bits(64, ONE_VALUE, 0x1040)]);
     check_words::<Expanded>("expand", run::EXPAND, &[bits(64, ONE_VALUE, 0x1040)]);
@@ -548,6 +644,7 @@ fn a_word_that_is_no_answer_is_not_taken_for_one() {
         &[bits(64, ONE_VALUE, 64), bits(65, NO_VALUE, 65)],
     );
     check_words::<Widened>("widen", run::WIDEN, &[bits(64, ONE_VALUE, 0x0F40)]);
+    check_words::<Reported>("report", run::REPORT, &[bits(64, ONE_VALUE, 0x1940)]);
 }
 
 #[test]
@@ -565,11 +662,23 @@ fn values_that_no_answer_has_are_not_taken_for_one() {
     assert!(!nickname(0) && nickname(1) && nickname(0xFFBF) && !nickname(0xFFC0));
     let count = |count: u64| decode::<Flushed>(67 | count << 8).is_ok();
     assert!(count(0) && count(4096) && !count(4097));
+    let why = |places: u64| decode::<Why>(70 | places).is_ok();
+    let (sender, tlv, every_mac) = (1 << 16, 1 << 17, 1 << 63);
+    assert!(why(every_mac | 254 << 8) && !why(every_mac | 255 << 8));
+    assert!(why(every_mac | sender) && !why(every_mac | sender | 1 << 8));
+    assert!(why(every_mac | 254 << 18) && !why(every_mac | 255 << 18));
+    assert!(why(every_mac | tlv | 255 << 18) && why(every_mac | tlv | 0x3F_FFFF << 18));
+    assert!(!why(every_mac | tlv | 1 << 40) && why(tlv | 1 << 40));
+    // with blocks every MAC is meant
+    assert!(!why(0) && !why(1 << 40) && why(tlv) && why(every_mac));
     let slot = |slot: u64| decode::<Spoilt>(64 | slot << 8).is_ok();
     assert!(slot(0) && slot(4095) && !slot(4096));
     let table = |length: u64| decode::<Widened>(64 | length << 8).is_ok();
     assert!(!table(0) && !table(14) && table(15) && table(210));
     assert!(!table(57_344) && table(61_440) && !table(61_455));
+    let report = |length: u64| decode::<Reported>(64 | length << 8).is_ok();
+    assert!(!report(0) && !report(9) && report(10) && !report(11) && !report(15));
+    assert!(report(16) && report(25) && report(36_880) && !report(36_881));
 }
 
 /// The words of the table of document 01, which the second implementation has as comments.
@@ -625,9 +734,13 @@ fn empty_slices_are_areas_too() {
     assert_eq!(raw::flush(1, &[], &mut []), 2);
     assert_eq!(raw::flush(1, &[], &mut [0; RECORD]), 15);
     assert_eq!(raw::flush_portion(1, &[], 0, 1, &mut []), 2);
+    assert_eq!(raw::why(1, &[], 0, &[]), 2);
+    assert_eq!(raw::why(1, &[], 0, &[0; RECORD]), 15);
     assert_eq!(raw::lookup(0, 1, 0, &[]), 2);
     assert_eq!(raw::age(0, &mut []), 2);
     assert_eq!(raw::spoilt(&[]), 2);
     assert_eq!(raw::widen(&[], &mut []), 2);
     assert_eq!(raw::widen(&[0; OLD_RECORD], &mut []), 16);
+    assert_eq!(raw::report(&[], &mut []), 16);
+    assert_eq!(raw::report(&[], &mut [0; 10]), 64 | 10 << 8);
 }

@@ -13,6 +13,8 @@ mod map;
 #[cfg(feature = "receive")]
 mod receive;
 #[cfg(feature = "table")]
+mod report;
+#[cfg(feature = "table")]
 mod table;
 #[cfg(feature = "convert")]
 mod watch;
@@ -36,6 +38,8 @@ const STAGES: &[fn(&Report)] = &[
     map::run,
     #[cfg(feature = "homes")]
     homes::run,
+    #[cfg(feature = "table")]
+    report::run,
 ];
 
 pub fn run(report: &Report) {

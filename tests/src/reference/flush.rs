@@ -23,16 +23,27 @@ pub(super) struct Meant {
 impl Meant {
     pub(super) fn has(&self, entry: &Entry) -> bool {
         let nickname = self.nicknames.contains(&u32::from(entry.nickname));
-        // "With type 6 every label is meant." "No label gathered and no type 6: nothing is
-        // cleared." "Overlaps unite."
-        let label = self.every_label
-            || match entry.label {
+        // "If no MAC was gathered, every MAC is meant."
+        let mac = !self.gathers_mac() || self.names_mac(entry.mac);
+        nickname && self.has_label(entry.label) && mac
+    }
+
+    /// "With type 6 every label is meant." "No label gathered and no type 6: nothing is cleared."
+    /// "Overlaps unite."
+    pub(super) fn has_label(&self, label: Label) -> bool {
+        self.every_label
+            || match label {
                 Label::Vlan(vlan) => is_in(&self.vlans, u32::from(vlan)),
                 Label::Fine(fine) => is_in(&self.fine, fine),
-            };
-        // "If no MAC was gathered, every MAC is meant."
-        let mac = self.macs.is_empty() || is_in(&self.macs, entry.mac);
-        nickname && label && mac
+            }
+    }
+
+    pub(super) fn gathers_mac(&self) -> bool {
+        !self.macs.is_empty()
+    }
+
+    pub(super) fn names_mac(&self, mac: u64) -> bool {
+        is_in(&self.macs, mac)
     }
 }
 
@@ -52,7 +63,7 @@ fn gather<N: PartialOrd>(parts: &mut Vec<(N, N)>, start: N, end: N) {
 
 /// Takes so many bytes off the front. "a missing K byte, or a cut list or block is 15", and so are
 /// "a TLV past the end" and "a lone last byte".
-fn take<'a>(rest: &mut &'a [u8], count: usize) -> Result<&'a [u8], Refusal> {
+pub(super) fn take<'a>(rest: &mut &'a [u8], count: usize) -> Result<&'a [u8], Refusal> {
     if count > rest.len() {
         return Err(Refusal::Payload);
     }
@@ -61,7 +72,7 @@ fn take<'a>(rest: &mut &'a [u8], count: usize) -> Result<&'a [u8], Refusal> {
     Ok(taken)
 }
 
-fn take_byte(rest: &mut &[u8]) -> Result<u8, Refusal> {
+pub(super) fn take_byte(rest: &mut &[u8]) -> Result<u8, Refusal> {
     Ok(number(take(rest, 1)?) as u8)
 }
 
@@ -94,18 +105,41 @@ pub(super) fn read_payload_of(
         // meant."
         vlan_blocks(&mut meant, take(&mut rest, 4 * blocks)?);
     } else {
-        // "K-VLBs 0: TLVs to the end, type 1 byte, length 1 byte." Document 02, 2026-02: "a lone
-        // last byte of zero is padding; any other stays 15".
-        while !rest.is_empty() && rest != [0] {
-            let kind = take_byte(&mut rest)?;
-            let length = usize::from(take_byte(&mut rest)?);
-            let value = take(&mut rest, length)?;
+        // "K-VLBs 0: TLVs to the end, type 1 byte, length 1 byte."
+        while !is_done(rest) {
+            let (kind, value) = take_tlv(&mut rest)?;
             if implements(kind) {
                 read_value(&mut meant, kind, value)?;
             }
         }
     }
     Ok(meant)
+}
+
+/// Document 02, 2026-02: "a lone last byte of zero is padding; any other stays 15".
+pub(super) fn is_done(rest: &[u8]) -> bool {
+    rest.is_empty() || rest == [0]
+}
+
+/// "type 1 byte, length 1 byte", and the value.
+pub(super) fn take_tlv<'a>(rest: &mut &'a [u8]) -> Result<(u8, &'a [u8]), Refusal> {
+    let kind = take_byte(rest)?;
+    let length = usize::from(take_byte(rest)?);
+    Ok((kind, take(rest, length)?))
+}
+
+/// What one TLV alone means.
+pub(super) fn tlv_alone(kind: u8, value: &[u8]) -> Result<Meant, Refusal> {
+    let mut meant = Meant::default();
+    read_value(&mut meant, kind, value)?;
+    Ok(meant)
+}
+
+/// What one VLAN block alone means.
+pub(super) fn vlan_block(block: &[u8]) -> Meant {
+    let mut meant = Meant::default();
+    vlan_blocks(&mut meant, block);
+    meant
 }
 
 /// "4 reserved bits, start VLAN 12, 4 reserved, end VLAN 12". "Start 0 reads as 1, end FFF as FFE;

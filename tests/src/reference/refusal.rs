@@ -45,6 +45,10 @@ pub enum Refusal {
     Portion = 24,
     /// lists that cannot be written as a flush (document 02, 2026-03)
     Lists = 23,
+    /// a Smart-Hello or its contents corrupt, or a number or list that cannot be written (document 02, 2026-13)
+    Hello = 25,
+    /// Smart-Parameters missing
+    ParametersMissing = 26,
     /// map has a VLAN or label twice, a VLAN outside 1 to FFE or a label over FFFFFF
     Map = 21,
     /// no pair found

@@ -15,7 +15,7 @@ pub fn keep(payload: &Payload, slots: &[Slot], left: &mut Left) {
 }
 
 /// Whether a block names a MAC: an end below its start empties it.
-fn names_in_blocks(payload: &Payload) -> bool {
+pub fn names_in_blocks(payload: &Payload) -> bool {
     let has_one = |value: &[u8]| {
         let blocks = value.as_chunks::<6>().0.as_chunks().0;
         blocks.iter().any(|[start, end]| start <= end)
@@ -68,7 +68,7 @@ impl Numbers for Macs<'_> {
 
 /// Six bytes as a number.
 #[inline(always)]
-fn six(bytes: &[u8; 6]) -> u64 {
+pub fn six(bytes: &[u8; 6]) -> u64 {
     let [a, b, c, d, e, f] = *bytes;
     u64::from(u32::from_be_bytes([a, b, c, d])) << 16 | u64::from(u16::from_be_bytes([e, f]))
 }

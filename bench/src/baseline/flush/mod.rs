@@ -11,6 +11,7 @@ mod payload;
 mod portion;
 mod sorted;
 mod vlans;
+mod why;
 
 use std::slice;
 
@@ -21,6 +22,7 @@ use nicknames::{Nicknames, One, Several};
 use payload::{Payload, ALL_LABELS, FINE_BLOCKS, FINE_LIST, FINE_MAP};
 pub use portion::flush_portion;
 use vlans::Vlans;
+pub use why::why;
 
 const FLUSHED: u64 = 67;
 /// For so many records nothing is prepared.

@@ -61,6 +61,29 @@ impl<'a> Payload<'a> {
         self.types & ((1 << MAC_LIST) - 2) != 0
     }
 
+    /// The place among all TLVs of the first one whose type and value are such; one of type 6 counts where `all_labels` says so, and
+    /// empty ones of other types are none.
+    #[inline(always)]
+    pub fn place(&self, all_labels: bool, such: impl Fn(u8, &[u8]) -> bool) -> Option<usize> {
+        let (mut rest, mut place) = (self.tlvs, 0);
+        loop {
+            while let [kind, 0, after @ ..] = rest {
+                if *kind == ALL_LABELS && all_labels {
+                    return Some(place);
+                }
+                place += 1;
+                rest = after;
+            }
+            let ([kind, length], after) = rest.split_first_chunk()?;
+            let (value, after) = after.split_at_checked(usize::from(*length))?;
+            if such(*kind, value) {
+                return Some(place);
+            }
+            place += 1;
+            rest = after;
+        }
+    }
+
     /// The types and values of the TLVs.
     #[inline(always)]
     pub fn tlvs(&self) -> impl Iterator<Item = (u8, &'a [u8])> {

@@ -3,6 +3,7 @@
 
 mod portions;
 mod small;
+mod why;
 mod worst;
 
 use crate::baseline;
@@ -38,6 +39,7 @@ pub fn run(report: &Report) {
     worst::rows(report);
     portions::rows(report);
     small::rows(report);
+    why::rows(report);
     growth_with_table(report);
     worst::growth(report);
     worst::unknown_nicknames(report);

@@ -48,6 +48,16 @@ const TYPE_4_LABELS: Worst = Worst {
     set: set_fine,
 };
 
+const TYPE_7_MACS: Worst = Worst {
+    name: "flush, worst: 9,000 bytes of type 7 MACs with type 6",
+    kind: 7,
+    number: mac,
+    element: |number| address(number).to_vec(),
+    elements: 42,
+    record: |random, numbers| one_in_eight(random, numbers, mac),
+    set: set_mac,
+};
+
 /// VLANs of the upper half; most records are of the lower.
 const TYPE_1_BLOCKS: Worst = Worst {
     name: "flush, worst: 9,000 bytes of type 1 blocks",
@@ -82,15 +92,7 @@ const WORST: [Worst; 8] = [
         record: |random, numbers| one_in_eight(random, numbers, low_fine),
         set: set_fine,
     },
-    Worst {
-        name: "flush, worst: 9,000 bytes of type 7 MACs with type 6",
-        kind: 7,
-        number: mac,
-        element: |number| address(number).to_vec(),
-        elements: 42,
-        record: |random, numbers| one_in_eight(random, numbers, mac),
-        set: set_mac,
-    },
+    TYPE_7_MACS,
     Worst {
         name: "flush, worst: 9,000 bytes of type 8 blocks with type 6",
         kind: 8,
@@ -241,6 +243,27 @@ fn empty_tlvs() -> (Vec<Tlv>, Vec<Entry>) {
 /// The longest message of labels, and its records.
 pub fn labels() -> (Vec<Tlv>, Vec<Entry>) {
     TYPE_4_LABELS.message(LENGTH)
+}
+
+/// The longest messages about one record, with what brings it in their last TLV: labels, MACs with type 6, and a type 6 after
+/// empty unknown TLVs.
+pub fn for_one() -> [(&'static str, Vec<Tlv>, Entry); 3] {
+    let with_last = |worst: &Worst| {
+        let mut random = Random::new(6);
+        let (tlvs, numbers) = worst.tlvs(&mut random, LENGTH);
+        let mut entry = Entry::any(&mut random);
+        entry.nickname = INGRESS;
+        (worst.set)(&mut entry, *numbers.last().expect("a number"));
+        (tlvs, entry)
+    };
+    let (labels, first) = with_last(&TYPE_4_LABELS);
+    let (macs, second) = with_last(&TYPE_7_MACS);
+    let (empty, third) = empty_tlvs();
+    [
+        ("9,000 bytes of type 4 labels", labels, first),
+        ("9,000 bytes of type 7 MACs with type 6", macs, second),
+        ("9,000 bytes of empty unknown TLVs, type 6", empty, third[0]),
+    ]
 }
 
 /// The longest messages of labels, which the small model skips, of VLAN blocks, and of empty unknown TLVs.
