@@ -13,6 +13,8 @@ ghost use Rattle.flush.specs.Words.{flushWord};
 ghost use Rattle.models.specs.Models.{flushedVlanOnly};
 ghost use Rattle.portions.specs.Portion.{portioned};
 ghost use Rattle.portions.specs.Words.{portionWord};
+ghost use Rattle.why.specs.Why.{why};
+ghost use Rattle.why.specs.Words.{whyWord};
 ghost use Rattle.flush_write.specs.Areas.{flushWritten};
 ghost use Rattle.flush_write.specs.Words.{writeWord};
 ghost use Rattle.hello.specs.Calls.{readCall};
@@ -179,6 +181,14 @@ pub extern "C" fn shinglebar_flush_portion(
     ensures { λ r. ⌜ onTable r (now (table .exit)) ≡ tableAs portionWord (portioned ingress (now (payload .entry)) slot k (now (table .entry))) ⌝ }
 {
     portion_word(portions_call::portion(ingress, payload, slot as usize, k as usize, table))
+}
+
+// Why did this address go?
+#[no_mangle]
+pub extern "C" fn shinglebar_why(ingress: u32, payload: &[u8], slot: u64, table: &[u8]) -> u64
+    ensures { λ r. ⌜ r ≡ whyWord (why ingress (now (payload .entry)) slot (now (table .entry))) ⌝ }
+{
+    why_word::why_word(why_call::explain(ingress, payload, slot as usize, table))
 }
 
 // The settings of a port, from the eight numbers.
