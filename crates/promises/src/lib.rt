@@ -22,6 +22,7 @@ ghost use Rattle.receive.specs.Order.{ReadsExactly};
 ghost use Rattle.ingress.specs.Cases.{MapCases};
 ghost use Rattle.ingress.specs.Claims.{IngressRefusal, MapRoundTrip};
 ghost use Rattle.watch.specs.Claims.{StopNeverShortened, StopRunsOut, SendingWhileStopped, RefusedWatchStays, WatchCases};
+ghost use Rattle.report.specs.Claims.{ReportAddsUp, ReportRising, ReportCase, DigitsReadBack, ReportFits};
 ghost use Rattle.promises.specs.Cases.{Cases, ControlCases};
 ghost use Rattle.promises.specs.Claims.{RefusalChangesNothing, HomesStayApart, SpoiltStays, ConfiguredStays};
 ghost use Rattle.promises.specs.Example.{InterchangeExample};
@@ -36,5 +37,6 @@ pub fn claims()
     ensures models { λ _. ⌜ FullModel × VlanOnly × NotPromised ⌝ }
     ensures laws { λ _. ⌜ Blocks × Maps × UnpackPacked × PackUnpacked × KeptWritesNothing × HeaderLocal × LabelLocal × LabelsGood × ReadsSame × ReadsParsed ⌝ }
     ensures writing { λ _. ⌜ WriterExact × WriterClears × WriterLength × WriterCalls × WriterCases ⌝ }
+    ensures reporting { λ _. ⌜ ReportAddsUp × ReportRising × ReportCase × DigitsReadBack × ReportFits ⌝ }
     ensures watching { λ _. ⌜ StopNeverShortened × StopRunsOut × SendingWhileStopped × RefusedWatchStays × WatchCases ⌝ }
 {}
