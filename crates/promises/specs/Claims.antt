@@ -2,6 +2,7 @@
 -- Assumes nothing.
 use Prim.Native.Nat.{ℕ}
 use mathlib.Core.List.{List}
+use mathlib.Core.Path.{_≡_}
 use Rattle.table.specs.Table.{aged}
 use Rattle.table.specs.Claims.{AgeingRefusal, WideningRefusal, AgeingKeepsApart, Stays, IsSpoilt, IsConfigured}
 use Rattle.table.specs.declared.Slot.{Slot}
@@ -14,9 +15,15 @@ use Rattle.flush.specs.Claims.{FlushRefusal, FlushingKeepsApart}
 use Rattle.convert.specs.Claims.{ConvertRefusals}
 use Rattle.receive.specs.Claims.{ReadRefusal, ReadingKeepsApart}
 use Rattle.ingress.specs.Claims.{IngressRefusal}
+use Rattle.report.specs.Report.{reportedTo}
+use Rattle.report.specs.declared.ReportAnswer.the-variants as report
+
+-- a report that is refused
+abbrev pub ReportRefusal : Type 0
+ReportRefusal = (t area : List ℕ) (n : ℕ) → reportedTo t area .answer ≡ report.Refused n → reportedTo t area .area ≡ area
 
 -- Demand 1: "A refusal returns its number and changes nothing: every lent area keeps its bytes." For every public call that is lent
--- an area to change: reading (with every map), flushing, whole or a portion, ageing, widening, compacting, expanding, sending, ingress. Lookup and the naming of the lowest spoilt slot are
+-- an area to change: reading (with every map), flushing, whole or a portion, ageing, widening, compacting, expanding, sending, ingress, the report. Lookup and the naming of the lowest spoilt slot are
 -- lent the table for reading only.
 pub record RefusalChangesNothing : Type 0 where
   pub reading : ReadRefusal
@@ -26,6 +33,7 @@ pub record RefusalChangesNothing : Type 0 where
   pub widening : WideningRefusal
   pub converting : ConvertRefusals
   pub ingress : IngressRefusal
+  pub reporting : ReportRefusal
 
 -- "A table with, among its learned and configured records, no two equal (label, MAC, nickname) triples, and no unmarked learned record
 -- beside another of its label and MAC, stays so" (2026-12), under every call that is lent the table to change and for all settings

@@ -24,6 +24,7 @@ ghost use Rattle.receive.specs.Order.{ReadsExactly};
 ghost use Rattle.ingress.specs.Cases.{MapCases};
 ghost use Rattle.ingress.specs.Claims.{IngressRefusal, MapRoundTrip};
 ghost use Rattle.watch.specs.Claims.{StopNeverShortened, StopRunsOut, SendingWhileStopped, RefusedWatchStays, WatchCases};
+ghost use Rattle.report.specs.Claims.{ReportAddsUp, ReportRising, ReportCase, DigitsReadBack, ReportFits};
 ghost use Rattle.hello.specs.Cases.{CasesHold};
 ghost use Rattle.hello.specs.Claims.{WrittenHelloReads, ReadIsWritable, ReadHelloWrites, WrittenAreBytes, WrittenIsPlain, AreaIs};
 ghost use Rattle.hello.specs.Calls.{CallsUndo, HelloRefusal};
@@ -42,6 +43,7 @@ pub fn claims()
     ensures reasons { λ _. ⌜ WhyExact × WhyFirst × WhyPlaces × WhyRefusals × WhyCases ⌝ }
     ensures laws { λ _. ⌜ Blocks × Maps × UnpackPacked × PackUnpacked × KeptWritesNothing × HeaderLocal × LabelLocal × LabelsGood × ReadsSame × ReadsParsed ⌝ }
     ensures writing { λ _. ⌜ WriterExact × WriterClears × WriterLength × WriterCalls × WriterCases ⌝ }
+    ensures reporting { λ _. ⌜ ReportAddsUp × ReportRising × ReportCase × DigitsReadBack × ReportFits ⌝ }
     ensures watching { λ _. ⌜ StopNeverShortened × StopRunsOut × SendingWhileStopped × RefusedWatchStays × WatchCases ⌝ }
     ensures hellos { λ _. ⌜ WrittenHelloReads × ReadHelloWrites × ReadIsWritable × WrittenAreBytes × WrittenIsPlain × AreaIs × CallsUndo × HelloRefusal × CasesHold ⌝ }
 {}

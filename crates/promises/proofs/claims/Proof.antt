@@ -44,6 +44,10 @@ use Rattle.watch.proofs.Stops.{stop-never-shortened, stop-runs-out, watch-cases
 use Rattle.watch.proofs.Sends.{sending-while-stopped, refused-watch-stays}
 use Rattle.ingress.proofs.Worked.{map-cases, ingress-refusal}
 use Rattle.ingress.proofs.Trip.{map-round-trip}
+use Rattle.report.proofs.Sums.{report-adds-up, report-fits}
+use Rattle.report.proofs.Lines.{report-rising}
+use Rattle.report.proofs.Case.{report-case}
+use Rattle.report.proofs.Digits.{digits-read-back}
 use Rattle.promises.specs.Claims.{RefusalChangesNothing, HomesStayApart, SpoiltStays, ConfiguredStays}
 use Rattle.hello.proofs.Worked as worked
 use Rattle.hello.proofs.RoundTrip.{written-hello-reads}
@@ -58,11 +62,12 @@ use Rattle.promises.proofs.Example.{example-holds}
 use Rattle.promises.proofs.Homes.{none-as-before, marked-read}
 use Rattle.promises.proofs.Interchange.{interchange}
 use Rattle.promises.proofs.Lives.{life-as-before, other-lives-stay}
+use Rattle.promises.proofs.Reports.{report-refusal}
 use Rattle.promises.proofs.claims.Statement.{statement}
 use Rattle.promises.proofs.claims.Tie as tie
 
 refusals : RefusalChangesNothing
-refusals = record { reading = read-refusal; flushing = flush-refusal; portion = portion-refusal; ageing = ageing-refusal; widening = widening-refusal; converting = convert-refusals; ingress = ingress-refusal }
+refusals = record { reading = read-refusal; flushing = flush-refusal; portion = portion-refusal; ageing = ageing-refusal; widening = widening-refusal; converting = convert-refusals; ingress = ingress-refusal; reporting = report-refusal }
 
 homes : HomesStayApart
 homes = record { reading = reading-apart; flushing = flushing-keeps-apart; portion = portion-keeps-apart; ageing = ageing-apart }
@@ -99,8 +104,11 @@ returns c = (
             (
               (writer-exact, writer-clears, writer-length, writer-calls, writer-cases),
               (
-                (stop-never-shortened, stop-runs-out, sending-while-stopped, refused-watch-stays, watch-cases),
-                (written-hello-reads, read-hello-writes, read-is-writable, written-are-bytes, written-is-plain, area-is, calls-undo, hello-refusal, worked.cases-hold),
+                (report-adds-up, report-rising, report-case, digits-read-back, report-fits),
+                (
+                  (stop-never-shortened, stop-runs-out, sending-while-stopped, refused-watch-stays, watch-cases),
+                  (written-hello-reads, read-hello-writes, read-is-writable, written-are-bytes, written-is-plain, area-is, calls-undo, hello-refusal, worked.cases-hold),
+                ),
               ),
             ),
           ),
