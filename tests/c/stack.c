@@ -351,8 +351,10 @@ static void flushes(void)
                 portion = took > portion ? took : portion;
                 took = taken("flush_vlan_only", call_vlan_only, SHINGLEBAR_FLUSH_FLUSHED);
                 vlan_only = took > vlan_only ? took : vlan_only;
-                took = taken("why", call_why, ANY);
-                why = took > why ? took : why;
+                if (NICKNAMES[n] == 255) {
+                    took = taken("why", call_why, ANY);
+                    why = took > why ? took : why;
+                }
                 if (payload_length > sizeof frame - 46)
                     continue;
                 make_flush_frame();

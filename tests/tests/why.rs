@@ -140,6 +140,7 @@ fn an_ingress_number_that_no_record_has_is_no_sender() {
 /// "a place over 4,194,303 shows as that": only a payload of over 8 MB has one.
 #[test]
 fn a_place_beyond_the_word_shows_as_the_highest() {
+    let why = |payload: &[u8]| raw::why(0x1234, payload, 0, &P1);
     for (skipped, shown) in [
         (PLACE_MAX - 1, PLACE_MAX - 1),
         (PLACE_MAX, PLACE_MAX),
@@ -149,10 +150,14 @@ fn a_place_beyond_the_word_shows_as_the_highest() {
         payload.resize(payload.len() + 2 * skipped as usize, 0);
         payload.extend(bytes("06 00"));
         let labels = CLEARED | SENDER | BY_TLV | shown << 18;
-        assert_eq!(of_p1(0x1234, &payload), labels | EVERY_MAC);
+        assert_eq!(why(&payload), labels | EVERY_MAC);
         payload.extend(bytes("07 06 020000000001"));
         let next = (skipped + 1).min(PLACE_MAX);
-        assert_eq!(of_p1(0x1234, &payload), labels | next << 40);
+        assert_eq!(why(&payload), labels | next << 40);
+        // The second implementation is slow on so long a payload, and asked once.
+        if skipped > PLACE_MAX {
+            assert_eq!(reference::why(0x1234, &payload, 0, &P1), why(&payload));
+        }
     }
 }
 
