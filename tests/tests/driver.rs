@@ -3207,6 +3207,63 @@ fn hex_bytes(digits: &str) -> Vec<u8> {
     (0..digits.len()).step_by(2).map(byte).collect()
 }
 
+/// What the object of a cleared record says of its places, by the word.
+fn places_of(word: u64) -> Vec<String> {
+    let place = |lowest: u32| word >> lowest & 0x3F_FFFF;
+    let nickname = match word >> 16 & 1 {
+        1 => "\"sender\":true,\"label_by\"".to_string(),
+        _ => format!("\"sender\":false,\"nickname_place\":{},", word >> 8 & 0xFF),
+    };
+    let label = match word >> 17 & 1 {
+        1 => format!("\"label_by\":\"TLV\",\"label_place\":{},", place(18)),
+        _ => format!("\"label_by\":\"block\",\"label_place\":{},", place(18)),
+    };
+    let mac = match word >> 63 {
+        1 => "\"every_mac\":true}".to_string(),
+        _ => format!(
+            "\"every_mac\":false,\"mac_by\":\"TLV\",\"mac_place\":{},",
+            place(40)
+        ),
+    };
+    vec![nickname, label, mac]
+}
+
+#[test]
+fn why_tells_the_places_that_the_second_implementation_names() {
+    let folder = folder("why_places");
+    let mut random = Random::new(2608);
+    let mut cleared = 0;
+    for _ in 0..60 {
+        let pool = generate::Pool::new(&mut random);
+        let payload = generate::good_payload(&mut random, &pool);
+        let mut table = generate::good_length_table(&mut random, &pool);
+        table.truncate(13 * RECORD);
+        let ingress = u32::from(pool.nicknames[0]);
+        // a slot that is cleared, where there is one
+        let slots = 0..(table.len() / RECORD) as u64;
+        let word = |slot| reference::why(ingress, &payload, slot, &table);
+        let slot = slots.max_by_key(|slot| word(*slot) & 0xFF).expect("a slot");
+        let word = word(slot);
+        fs::write(folder.join("table"), &table).expect("a table");
+        let hex: String = payload.iter().map(|byte| format!("{byte:02x}")).collect();
+        let (slot, ingress) = (slot.to_string(), format!("{ingress:04X}"));
+        let words = [&why_words(&ingress, &hex, &slot)[..], &["--json"]].concat();
+        let printed = good(&run_in(&folder, &words));
+        let reason = format!(
+            "{{\"slot\":{slot},\"why\":\"{}\",",
+            WHY[(word & 0xFF) as usize - 64]
+        );
+        assert!(printed.starts_with(&reason), "{printed}");
+        if word & 0xFF == 70 {
+            cleared += 1;
+            for part in places_of(word) {
+                assert!(printed.contains(&part), "`{part}` is not in {printed}");
+            }
+        }
+    }
+    assert!(cleared > 10, "only {cleared} cleared");
+}
+
 #[test]
 fn why_tells_the_frame_of_a_capture_that_cleared_an_address() {
     let folder = folder("why_capture");
