@@ -8,6 +8,7 @@ ghost use Rattle.table.specs.Record.{labelNumber};
 ghost use Rattle.table.specs.Table.{lookedUp, aged, lowestSpoilt};
 ghost use Rattle.table.specs.Widening.{widened};
 ghost use Rattle.table.specs.Words.{lookupWord, ageWord, spoiltWord, freeWord, widenWord, learningNumber};
+ghost use Rattle.report.specs.Report.{reportWord, reportedTo};
 ghost use Rattle.flush.specs.Flush.{flushed};
 ghost use Rattle.flush.specs.Words.{flushWord};
 ghost use Rattle.models.specs.Models.{flushedVlanOnly};
@@ -38,6 +39,7 @@ use hello::HelloAnswer;
 use ingress::Given;
 use portions::PortionAnswer;
 use receive::ReadAnswer;
+use report::ReportAnswer;
 use table::AgeAnswer;
 use table::FreeAnswer;
 use table::Label;
@@ -131,6 +133,22 @@ pub extern "C" fn shinglebar_widen(old: &[u8], out: &mut [u8]) -> u64
     ensures { λ r. ⌜ onArea r (now (out .exit)) ≡ areaAs widenWord (widened (now (old .entry)) (now (out .entry))) ⌝ }
 {
     widen_word(table_widening::widen(old, out))
+}
+
+fn report_word(a: ReportAnswer) -> u64
+    ensures { λ r. ⌜ r ≡ reportWord a ⌝ }
+{
+    match a {
+        ReportAnswer::Refused(n) => n as u64,
+        ReportAnswer::Written(k) => 64 + k as u64 * 0x100,
+    }
+}
+
+#[no_mangle]
+pub extern "C" fn shinglebar_report(table: &[u8], out: &mut [u8]) -> u64
+    ensures { λ r. ⌜ onArea r (now (out .exit)) ≡ areaAs reportWord (reportedTo (now (table .entry)) (now (out .entry))) ⌝ }
+{
+    report_word(report_call::write_report(table, out))
 }
 
 fn flush_word(a: FlushAnswer) -> u64
