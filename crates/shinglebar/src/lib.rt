@@ -282,7 +282,7 @@ fn delivered_word(learning: Learning, length: u16, label: Label) -> u64
         + table_records::label_number(label) * 0x100_0000_0000
 }
 
-fn read_word(a: ReadAnswer) -> u64
+pub fn read_word(a: ReadAnswer) -> u64
     requires { ⌜ LabelFits a ⌝ }
     ensures { λ r. ⌜ r ≡ readWord a ⌝ }
 {
@@ -348,7 +348,7 @@ pub extern "C" fn shinglebar_receive_port(
     read_word(receive_call::receive_port(s, map, frame, table, out))
 }
 
-fn convert_word(a: ConvertAnswer) -> u64
+pub fn convert_word(a: ConvertAnswer) -> u64
     ensures { λ r. ⌜ r ≡ convertWord a ⌝ }
 {
     match a {
