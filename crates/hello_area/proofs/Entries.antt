@@ -31,7 +31,7 @@ unfolding andThen check
 map-pass true y h r = refl
 map-pass false y h r = refl
 
-via-map : {A B C : Type 0} (p : Taker A) (g : A → Bool) (f : A → B) (h : B → C) (l : List ℕ) → andThen (via p g f l) (λ t. taken (h (t .value)) (t .rest)) ≡ via p g (λ x. h (f x)) l
+pub via-map : {A B C : Type 0} (p : Taker A) (g : A → Bool) (f : A → B) (h : B → C) (l : List ℕ) → andThen (via p g f l) (λ t. taken (h (t .value)) (t .rest)) ≡ via p g (λ x. h (f x)) l
 unfolding via
 via-map p g f h l = then-then (p l) _ _ ∙ then-same (p l) _ _ (λ t. map-pass (g (t .value)) (f (t .value)) h (t .rest))
 
@@ -61,15 +61,17 @@ module _ {A B C D E : Type 0} (g : A → Bool) (f : A → C) (p : Taker B) (o : 
   pair-front x l (got t) only = pair-got (g x) (g′ (t .value)) x (t .value) l (t .rest)
 
   -- of takers that are tested, and joined
+  pub pair-at : (q : Taker A) (l : List ℕ) (k : Result (Taken E)) → k ≡ andThen (q l) (λ t. Pair (t .value) (p (t .rest)))
+      → andThen (via q g f l) (λ s. andThen (via p g′ f′ (s .rest)) λ u. taken (h (s .value) (u .value)) (u .rest)) ≡ k
+  unfolding via
+  pair-at q l k e =
+      then-then (q l) _ _
+      ∙ then-same (q l) _ _ (λ t. after-check (g (t .value)) _ _ _ refl ∙ pair-front (t .value) (t .rest) (p (t .rest)) (λ m e. o (t .rest) m e))
+      ∙ sym e
+
   pub pair-via : (q : Taker A) (k : Taker E) → ((l : List ℕ) → k l ≡ andThen (q l) λ t. Pair (t .value) (p (t .rest))) → (l : List ℕ)
       → andThen (via q g f l) (λ s. andThen (via p g′ f′ (s .rest)) λ u. taken (h (s .value) (u .value)) (u .rest)) ≡ k l
-  unfolding via
-  pair-via q k e l = then-then (q l) _ _ ∙ then-same (q l) _ _ (λ t. rest-same t ∙ pair-front (t .value) (t .rest) (p (t .rest)) (λ m e. o (t .rest) m e)) ∙ sym (e l)
-    where
-      rest-same : (t : Taken A)
-          → andThen (check (g (t .value)) 25 (taken (f (t .value)) (t .rest))) (λ s. andThen (andThen (p (s .rest)) λ t. check (g′ (t .value)) 25 (taken (f′ (t .value)) (t .rest))) λ u. taken (h (s .value) (u .value)) (u .rest))
-          ≡ andThen (check (g (t .value)) 25 (taken (f (t .value)) (t .rest))) (λ s. andThen (andThen (p (t .rest)) λ t. check (g′ (t .value)) 25 (taken (f′ (t .value)) (t .rest))) λ u. taken (h (s .value) (u .value)) (u .rest))
-      rest-same t = after-check (g (t .value)) _ _ _ refl
+  pair-via q k e l = pair-at q l (k l) (e l)
 
 -- ---- a list behind its count
 

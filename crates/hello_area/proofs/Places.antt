@@ -9,13 +9,13 @@ use native.Mathlib.Numerals.{add-one}
 use lib.Dec.{leb, ltb, eqb}
 use lib.ListN.{length, take, drop, getD, length-drop}
 use lib.Seq.{drop-drop, drop-cons}
-use borrow.Author.Tests.{le-leb, lt-leb}
+use borrow.Author.Tests.{le-leb, lt-leb, leb-true, leb-false}
 use Rattle.numbers.specs.Tests.{pick, both}
 use Rattle.numbers.specs.Result.{Result, refused, got, check, andThen}
 use Rattle.numbers.proofs.Answers.{refused-got, got-got, then-got, check-got}
 use Rattle.hello.specs.Pieces.{Sub}
 use Rattle.hello.specs.Area.{Taken, Taker, taken, takeOne, then, takeMany, takeCounted, takeParameters, takeNickname}
-use Rattle.hello_area.specs.Entries.{via, Label, takeLabel, takeHead, takeItem, takeList, takeSub, takeBoth, takeSubs, endIn, endFrom}
+use Rattle.hello_area.specs.Entries.{via, Label, takeLabel, takeHead, takeItem, takeList, takeSub, takeBoth, takeSubs, endIn, endFrom, reach}
 
 -- ---- what is left is the end of what there was
 
@@ -97,3 +97,60 @@ module _ {A B C : Type 0} (ns : List ℕ) (i : ℕ) (inside : i ≤ length ns) (
       last : (y : Result (Taken B)) → endIn ns (andThen y λ u. taken (h (t .value) (u .value)) (u .rest)) ≡ endIn ns y
       last (refused m) = refl
       last (got u) = refl
+
+as-reach : {A : Type 0} (q : Taker A) (ns : List ℕ) (k : ℕ) → pick (leb k (length ns)) (endFrom q ns k) (1 + length ns) ≡ reach q ns k
+unfolding reach
+as-reach q ns k = refl
+
+pub value-lost : {A B : Type 0} (ns : List ℕ) (z : Result (Taken A)) (h : A → B) → endIn ns (andThen z λ t. taken (h (t .value)) (t .rest)) ≡ endIn ns z
+unfolding andThen
+value-lost ns (refused m) h = refl
+value-lost ns (got t) h = refl
+
+-- past the end it stays so
+pub reach-over : {A : Type 0} (p : Taker A) (ns : List ℕ) (i : ℕ) → length ns < i → reach p ns i ≡ 1 + length ns
+unfolding reach pick
+reach-over p ns i h = rw (lt-leb i (length ns) h)
+
+pub reach-in : {A : Type 0} (p : Taker A) (ns : List ℕ) (i : ℕ) → i ≤ length ns → reach p ns i ≡ endIn ns (p (drop i ns))
+unfolding reach pick endFrom
+reach-in p ns i h = rw (le-leb i (length ns) h)
+
+inside-or : (ns : List ℕ) (i : ℕ) (P : Type 0) → (i ≤ length ns → P) → (length ns < i → P) → P
+inside-or ns i P a b = go (leb i (length ns)) refl
+  where
+    go : (c : Bool) → leb i (length ns) ≡ c → P
+    go true e = a (leb-true i (length ns) e)
+    go false e = b (leb-false i (length ns) e)
+
+-- two takers, one behind the other
+module _ {A B C : Type 0} (ns : List ℕ) (i : ℕ) (p : Taker A) (s : Suffix p) (q : Taker B) (h : A → B → C) (r : Taker C)
+         (shape : r (drop i ns) ≡ andThen (p (drop i ns)) λ t. andThen (q (t .rest)) λ u. taken (h (t .value) (u .value)) (u .rest)) where
+  chain-in : i ≤ length ns → reach r ns i ≡ reach q ns (reach p ns i)
+  chain-in inside =
+      reach-in r ns i inside
+      ∙ ap (endIn ns) shape
+      ∙ both-end ns i inside p s q h (p (drop i ns)) refl
+      ∙ ap (λ (k : ℕ). pick (leb k (length ns)) (endFrom q ns k) (1 + length ns)) (sym (reach-in p ns i inside))
+      ∙ unfold-reach (reach p ns i)
+    where
+      unfold-reach : (k : ℕ) → pick (leb k (length ns)) (endFrom q ns k) (1 + length ns) ≡ reach q ns k
+      unfold-reach k = as-reach q ns k
+
+  pub chain : reach r ns i ≡ reach q ns (reach p ns i)
+  chain = inside-or ns i (reach r ns i ≡ reach q ns (reach p ns i)) chain-in (λ g. reach-over r ns i g ∙ sym (ap (reach q ns) (reach-over p ns i g) ∙ reach-over q ns (1 + length ns) (omega arith)))
+
+-- a value in another form does not matter
+pub reach-as : {A B : Type 0} (ns : List ℕ) (i : ℕ) (p : Taker A) (r : Taker B) (h : A → B) → r (drop i ns) ≡ andThen (p (drop i ns)) (λ t. taken (h (t .value)) (t .rest)) → reach r ns i ≡ reach p ns i
+unfolding reach endFrom
+reach-as ns i p r h e = ap (λ (n : ℕ). pick (leb i (length ns)) n (1 + length ns)) (ap (endIn ns) e ∙ value-lost ns (p (drop i ns)) h)
+
+-- many of one
+module _ {A : Type 0} (p : Taker A) (s : Suffix p) (ns : List ℕ) where
+  pub reach-none : (i : ℕ) → i ≤ length ns → reach (takeMany p 0) ns i ≡ i
+  unfolding takeMany
+  reach-none i h = let d = length-drop i ns in reach-in (takeMany p 0) ns i h ∙ omega arith
+
+  pub reach-next : (n i : ℕ) → reach (takeMany p (suc n)) ns i ≡ reach (takeMany p n) ns (reach p ns i)
+  unfolding takeMany then
+  reach-next n i = chain ns i p s (takeMany p n) (λ x xs. x ∷ xs) (takeMany p (suc n)) refl

@@ -101,3 +101,7 @@ endIn ns (got t) = length ns - length (t .rest)
 
 unfoldable pub endFrom : {A : Type 0} → Taker A → List ℕ → ℕ → ℕ
 endFrom p ns i = endIn ns (p (drop i ns))
+
+-- the same from any place: past the end it stays so
+unfoldable pub reach : {A : Type 0} → Taker A → List ℕ → ℕ → ℕ
+reach p ns i = pick (leb i (length ns)) (endFrom p ns i) (1 + length ns)

@@ -441,6 +441,26 @@ fn replay_ingress(b: &[u8], table: &[u8], area: &mut [u8]) -> bool {
     true
 }
 
+// 2d: the contents area's length, the payload.
+fn read_hello(b: &[u8], table: &[u8], contents: &mut [u8])
+    requires { ⌜ 2 ≤ length (now b) ⌝ }
+{
+    let word = shinglebar::shinglebar_hello_read(&b[2..], contents);
+    print_call(word, table, contents);
+}
+
+fn replay_hello(b: &[u8], table: &[u8], area: &mut [u8]) -> bool {
+    if b.len() < 2 {
+        return false;
+    }
+    let n = numbers::be2(b, 0) as usize;
+    if area.len() < n {
+        return false;
+    }
+    read_hello(b, table, &mut area[0..n]);
+    true
+}
+
 // The calls of document 02.
 fn replay_later(kind: u64, b: &[u8], table: &mut [u8], area: &mut [u8]) -> bool {
     if kind == 0x09 {
@@ -463,6 +483,9 @@ fn replay_later(kind: u64, b: &[u8], table: &mut [u8], area: &mut [u8]) -> bool 
     }
     if kind == 0x27 {
         return replay_vlan_only(b, table);
+    }
+    if kind == 0x2d {
+        return replay_hello(b, table, area);
     }
     if kind == 0x60 {
         return watched::replay_watch(b, table);
