@@ -5,9 +5,9 @@
 #include "message.h"
 #include "process.h"
 
-/* The most contents of a payload as long as a frame: three numbers for a record of five bytes, and one for each sub-TLV, are at most
- * eight bytes for two of the payload; then the counts in front. */
-#define CONTENTS_ROOM (4 * SHINGLEBAR_FRAME_LENGTH_MAX + 64)
+/* More than the contents of a payload as long as a frame: a Smart-MAC without addresses, six bytes, has four numbers, and everything else
+ * has fewer for its bytes; then the counts in front. */
+#define CONTENTS_ROOM (6 * SHINGLEBAR_FRAME_LENGTH_MAX + 64)
 
 static struct text line;
 
