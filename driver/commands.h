@@ -17,5 +17,6 @@ int widen_command(const struct options *options);
 int write_command(const struct options *options);
 int why_command(const struct options *options);
 int report_command(const struct options *options);
+int hello_command(const struct options *options);
 
 #endif

@@ -50,6 +50,8 @@ int main(int count, char **words)
         return why_command(&options);
     case REPORT:
         return report_command(&options);
+    case HELLO:
+        return hello_command(&options);
     }
     return 2;
 }

@@ -15,7 +15,7 @@
 /* A capture, with the settings of its port, may be named or left out. */
 #define MAY_HAVE_CAPTURE WHY
 #define WITH_PAIR (LOOKUP | SET | UNSET)
-#define WITH_ANY (WITH_SETTINGS | WITH_TABLE | WRITE)
+#define WITH_ANY (WITH_SETTINGS | WITH_TABLE | WRITE | HELLO)
 #define RFC6325_CONFIDENCE 32
 /* A configured record is not displaced by a learned one whatever its confidence; the highest says so. */
 #define SET_CONFIDENCE 255
@@ -93,6 +93,7 @@ static const struct option OPTIONS[] = {
     {"--vlan", "N", "of the address only the record with this VLAN", NUMBER, WHY, 0, AT(label), 0, 0xFFFF},
     {"--fgl", "N", "of the address only the record with this fine-grained label", NUMBER, WHY, 0, AT(label), 0, 0xFFFFFF},
     {"--hex", "DIGITS", "the payload of a flush in hexadecimal digits, in place of a capture", BYTES, WHY, 0, AT(digits), 0, 0},
+    {"--hex", "DIGITS", "the payload of a Smart-Hello in hexadecimal digits", BYTES, HELLO, HELLO, AT(digits), 0, 0},
     {"--ingress", "HEX", "the ingress nickname of the flush of --hex", NICKNAME, WHY, 0, AT(ingress), 0, 0xFFFF},
     {"--by", "SECONDS", "the seconds that have passed, 0 to 65535", NUMBER, AGE, AGE, AT(by), 0, 65535},
     {"--no-ageing", NULL, "no time passes for the table", FLAG, RECEIVE | WHY, 0, AT(no_ageing), 0, 0},
@@ -161,6 +162,9 @@ static const struct {
      "A line for each nickname with learned or configured records, rising: four hexadecimal digits, learned count, configured\n"
      "count; then the free and the spoilt slots. It is what the program `morning_report` prints of the records. Exit status 1\n"
      "if the file is no table: its report is `refused 2`.\n"},
+    {HELLO, "hello", "tells what the payload of a Smart-Hello says",
+     "A line for the holding time and flags, one for each nickname, each list of trees and each list of addresses, in the\n"
+     "order of the payload for each kind. Exit status 1 if it is refused.\n"},
     {SEND, "send", "sends the General frames of a capture out of a Linux interface",
      "Needs CAP_NET_RAW. The settings are the far port's: a frame is compacted where it may be, if --compact is on.\n"
      "While the watch of --watch has seconds left, which `live` on the same machine writes, no frame is compacted.\n"},

@@ -23,10 +23,11 @@ enum command {
     WRITE = 2048,
     INGRESS = 4096,
     WHY = 8192,
-    REPORT = 16384
+    REPORT = 16384,
+    HELLO = 32768
 };
 
-/* The payload of a flush, at most as long as a frame has room for. */
+/* The payload of a flush or a Smart-Hello, at most as long as a frame has room for. */
 struct payload {
     size_t length;
     uint8_t bytes[SHINGLEBAR_FRAME_LENGTH_MAX];

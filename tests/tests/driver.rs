@@ -2909,6 +2909,29 @@ fn a_map_file_that_is_no_map_is_refused_by_its_line() {
     good(&run_in(&folder, &receive));
 }
 
+/// Document 02, 2026-13: the request's Smart-Hello in words and as objects.
+#[test]
+fn hello_tells_what_a_smart_hello_says() {
+    let folder = folder("hello");
+    let digits = "FB0900000116 04001E0000 F2140000000000 060540 80001234 0806000112341235 FB0F000001170A4000000A020000000001";
+    let digits: String = digits.split_whitespace().collect();
+    let words = ["hello", "--hex", &digits];
+    let printed = good(&run_in(&folder, &words));
+    assert_eq!(
+        printed,
+        "holding time 30 s, flags 0000\n\
+         nickname 1234, priority 64, tree root priority 32768\n\
+         trees from 1: 1234 1235\n\
+         VLAN 10, multihomed: 02-00-00-00-00-01\n"
+    );
+    same_facts(&printed, &good(&run_in(&folder, &[&words[..], &["--json"]].concat())));
+    for (digits, refused) in [("FB", "refused 25: "), ("", "refused 26: ")] {
+        let output = run_in(&folder, &["hello", "--hex", digits]);
+        assert!(text(&output.stderr).contains(refused));
+        assert_eq!(output.status.code(), Some(1));
+    }
+}
+
 /// Document 02, 2026-13: with `--smart on` a frame with the port's own ingress nickname is delivered and teaches nothing.
 #[test]
 fn the_option_smart_takes_frames_with_the_own_ingress_nickname() {
