@@ -5,8 +5,8 @@ use std::collections::BTreeMap;
 
 use crate::vectors::{FREE_SLOT, INGRESS, RECEIVE_PORT, TABLE, WIDEN, WRITE};
 
-/// The name of a call by its number in docs/REPLAY.md. None for the calls that other targets make: portions, the VLAN-only model and the
-/// watch.
+/// The name of a call by its number in docs/REPLAY.md. None for the calls that other targets make: portions, the VLAN-only model, the
+/// watch, why and the report.
 fn name(call: u8) -> Option<&'static str> {
     let name = match call {
         1 => "receive",

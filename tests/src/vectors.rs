@@ -75,6 +75,11 @@ enum Call {
         ingress: u32,
         payload: Vec<u8>,
     },
+    Why {
+        ingress: u32,
+        slot: u64,
+        payload: Vec<u8>,
+    },
     Write {
         nicknames: Vec<u8>,
         vlans: Vec<u8>,
@@ -105,6 +110,7 @@ pub const WRITE: u8 = 0x13;
 pub const FREE_SLOT: u8 = 0x24;
 const PORTION: u8 = 0x25;
 const VLAN_ONLY: u8 = 0x27;
+const WHY: u8 = 0x28;
 
 /// The calls' numbers, and the answers that each must give in some vector.
 pub const ANSWERS: &[(u8, Answers)] = &[
@@ -123,6 +129,7 @@ pub const ANSWERS: &[(u8, Answers)] = &[
     (WRITE, run::WRITE),
     (RECEIVE_PORT, run::RECEIVE_PORT),
     (INGRESS, run::INGRESS),
+    (WHY, run::WHY),
 ];
 pub(crate) fn settings_bytes(settings: &Settings) -> Vec<u8> {
     let mut bytes = Vec::new();
@@ -259,6 +266,7 @@ impl Call {
             Call::Widen { .. } => WIDEN,
             Call::Portion { .. } => PORTION,
             Call::VlanOnly { .. } => VLAN_ONLY,
+            Call::Why { .. } => WHY,
             Call::Write { .. } => WRITE,
             Call::ReceivePort { .. } => RECEIVE_PORT,
             Call::Ingress { .. } => INGRESS,
@@ -282,6 +290,7 @@ impl Call {
             | Call::Spoilt
             | Call::FreeSlot
             | Call::Portion { .. }
+            | Call::Why { .. }
             | Call::VlanOnly { .. } => 0,
         }
     }
@@ -361,6 +370,11 @@ impl Call {
             .concat(),
             Call::Spoilt | Call::FreeSlot => Vec::new(),
             Call::Widen { room, old } => [&length(*room)[..], old].concat(),
+            Call::Why {
+                ingress,
+                slot,
+                payload,
+            } => [&ingress.to_be_bytes()[..], &slot.to_be_bytes(), payload].concat(),
             Call::Portion {
                 ingress,
                 payload,
@@ -447,6 +461,11 @@ impl Call {
                 frame,
             } => reference::send(settings, frame, &mut area[..*room]),
             Call::Widen { room, old } => reference::widen(old, &mut area[..*room]),
+            Call::Why {
+                ingress,
+                slot,
+                payload,
+            } => reference::why(*ingress, payload, *slot, table),
             Call::Write {
                 nicknames,
                 vlans,
@@ -665,6 +684,51 @@ fn offer_vlan_only(replay: &mut Replay) {
     }
 }
 
+/// P1 of document 01, widened.
+fn p1() -> Vec<u8> {
+    let entry = Entry {
+        label: Label::Vlan(10),
+        mac: 0x0200_0000_0001,
+        nickname: 0x1234,
+        confidence: 20,
+        seconds: 300,
+        multihomed: false,
+    };
+    write(true, &entry).to_vec()
+}
+
+/// Why an address went (2026-08): the vectors of the request on P1, and any.
+fn offer_why(replay: &mut Replay) {
+    let p2 = [0x01, 0x12, 0x34, 0x01, 0x00, 0x0A, 0x00, 0x0C].to_vec();
+    let p3 = [0x00, 0x01, 0x00, 0x0A, 0x00, 0x0A].to_vec();
+    let tlvs = |last| [&[0, 0, 7, 6, 2, 0, 0, 0, 0, last][..], &[9, 0, 6, 0]].concat();
+    for (ingress, payload) in [
+        (0x0102, p2),
+        (0x1235, p3),
+        (0x1234, tlvs(2)),
+        (0x1234, tlvs(1)),
+    ] {
+        let call = Call::Why {
+            ingress,
+            slot: 0,
+            payload,
+        };
+        replay.offer(p1(), &call);
+    }
+    for case in 0..2000 {
+        let random = &mut Random::for_case(2608, case);
+        let pool = Pool::new(random);
+        let table = small_table(random, &pool);
+        let (slot, _) = generate::portion(random, table.len());
+        let call = Call::Why {
+            ingress: generate::ingress(random, &pool),
+            slot,
+            payload: generate::payload(random, &pool),
+        };
+        replay.offer(table, &call);
+    }
+}
+
 /// Flushes to write (2026-03): the two of the request; both sides of a full TLV of each kind; one short area; what is refused.
 fn write_calls() -> Vec<Call> {
     let many = |count: u64, width: usize| -> Vec<u8> {
@@ -833,7 +897,7 @@ pub fn files() -> (String, String) {
     offer_portions(&mut replay);
     offer_vlan_only(&mut replay);
     let mut case = 0;
-    while !replay.is_whole(&[WRITE, RECEIVE_PORT, INGRESS]) {
+    while !replay.is_whole(&[WRITE, RECEIVE_PORT, INGRESS, WHY]) {
         assert!(
             case < 1_000_000,
             "an answer is missing: {:?}",
@@ -875,7 +939,7 @@ pub fn files() -> (String, String) {
         replay.offer(table, call);
     }
     let mut case = 0;
-    while !replay.is_whole(&[]) {
+    while !replay.is_whole(&[WHY]) {
         assert!(
             case < 1_000_000,
             "an answer is missing: {:?}",
@@ -887,5 +951,11 @@ pub fn files() -> (String, String) {
         replay.offer(small_table(random, &pool), &call);
         case += 1;
     }
+    offer_why(&mut replay);
+    assert!(
+        replay.is_whole(&[]),
+        "an answer is missing: {:?}",
+        replay.answers
+    );
     (replay.input, replay.output)
 }
