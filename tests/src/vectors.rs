@@ -80,6 +80,9 @@ enum Call {
         slot: u64,
         payload: Vec<u8>,
     },
+    Report {
+        room: usize,
+    },
     Write {
         nicknames: Vec<u8>,
         vlans: Vec<u8>,
@@ -111,6 +114,7 @@ pub const FREE_SLOT: u8 = 0x24;
 const PORTION: u8 = 0x25;
 const VLAN_ONLY: u8 = 0x27;
 const WHY: u8 = 0x28;
+const REPORT: u8 = 0x2E;
 
 /// The calls' numbers, and the answers that each must give in some vector.
 pub const ANSWERS: &[(u8, Answers)] = &[
@@ -130,6 +134,7 @@ pub const ANSWERS: &[(u8, Answers)] = &[
     (RECEIVE_PORT, run::RECEIVE_PORT),
     (INGRESS, run::INGRESS),
     (WHY, run::WHY),
+    (REPORT, run::REPORT),
 ];
 pub(crate) fn settings_bytes(settings: &Settings) -> Vec<u8> {
     let mut bytes = Vec::new();
@@ -267,6 +272,7 @@ impl Call {
             Call::Portion { .. } => PORTION,
             Call::VlanOnly { .. } => VLAN_ONLY,
             Call::Why { .. } => WHY,
+            Call::Report { .. } => REPORT,
             Call::Write { .. } => WRITE,
             Call::ReceivePort { .. } => RECEIVE_PORT,
             Call::Ingress { .. } => INGRESS,
@@ -282,6 +288,7 @@ impl Call {
             | Call::Send { room, .. }
             | Call::Widen { room, .. }
             | Call::Write { room, .. }
+            | Call::Report { room }
             | Call::ReceivePort { room, .. }
             | Call::Ingress { room, .. } => *room,
             Call::Flush { .. }
@@ -375,6 +382,7 @@ impl Call {
                 slot,
                 payload,
             } => [&ingress.to_be_bytes()[..], &slot.to_be_bytes(), payload].concat(),
+            Call::Report { room } => length(*room).to_vec(),
             Call::Portion {
                 ingress,
                 payload,
@@ -466,6 +474,7 @@ impl Call {
                 slot,
                 payload,
             } => reference::why(*ingress, payload, *slot, table),
+            Call::Report { room } => reference::report(table, &mut area[..*room]),
             Call::Write {
                 nicknames,
                 vlans,
@@ -729,6 +738,27 @@ fn offer_why(replay: &mut Replay) {
     }
 }
 
+/// The morning report (2026-14): P1, a table of a bad length, areas with and without room, and any tables.
+fn offer_report(replay: &mut Replay) {
+    for (table, room) in [
+        (p1(), 25),
+        (p1(), 24),
+        (p1(), 40),
+        (p1()[1..].to_vec(), 10),
+        (p1()[1..].to_vec(), 9),
+        (Vec::new(), 64),
+    ] {
+        replay.offer(table, &Call::Report { room });
+    }
+    for case in 0..200 {
+        let random = &mut Random::for_case(2614, case);
+        let mut table = generate::crowd(random);
+        table.truncate(RECORD * random.length(1, 30));
+        let room = generate::area_length(random, reference::reported(&table).len());
+        replay.offer(table, &Call::Report { room });
+    }
+}
+
 /// Flushes to write (2026-03): the two of the request; both sides of a full TLV of each kind; one short area; what is refused.
 fn write_calls() -> Vec<Call> {
     let many = |count: u64, width: usize| -> Vec<u8> {
@@ -897,7 +927,7 @@ pub fn files() -> (String, String) {
     offer_portions(&mut replay);
     offer_vlan_only(&mut replay);
     let mut case = 0;
-    while !replay.is_whole(&[WRITE, RECEIVE_PORT, INGRESS, WHY]) {
+    while !replay.is_whole(&[WRITE, RECEIVE_PORT, INGRESS, WHY, REPORT]) {
         assert!(
             case < 1_000_000,
             "an answer is missing: {:?}",
@@ -939,7 +969,7 @@ pub fn files() -> (String, String) {
         replay.offer(table, call);
     }
     let mut case = 0;
-    while !replay.is_whole(&[WHY]) {
+    while !replay.is_whole(&[WHY, REPORT]) {
         assert!(
             case < 1_000_000,
             "an answer is missing: {:?}",
@@ -952,6 +982,7 @@ pub fn files() -> (String, String) {
         case += 1;
     }
     offer_why(&mut replay);
+    offer_report(&mut replay);
     assert!(
         replay.is_whole(&[]),
         "an answer is missing: {:?}",
