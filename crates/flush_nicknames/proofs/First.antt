@@ -141,6 +141,19 @@ module _ (every : Bool) (vlans : List ℕ) (told : EveryMeant every vlans) (bits
   pub part-bits : every ≡ false → (k : ℕ) → k ≡ kindOf (recordOf r) → (x : ℕ) → x ≡ labelOf (recordOf r) → (h : Bool) → h ≡ bitAt (x % 4096) vlans → (g : Bool) → g ≡ nearBit bits x → (eqb k 0 && h) || (not (eqb k 0) && g) ≡ labelPart vlans (mayPass every bits) r
   part-bits e k a x b h c g d = part-told vlans (mayPass every bits) r k a x b h c g (d ∙ sym (by-near every e bits x))
 
+-- and where no fine-grained label is named
+or-none : (a h g : Bool) → g ≡ false → a && h ≡ (a && h) || (not a && g)
+or-none true true g e = refl
+or-none true false g e = refl
+or-none false h g e = sym e
+
+module _ (every : Bool) (vlans : List ℕ) (told : EveryMeant every vlans) (r : List ℕ) where
+  pub plain-every : every ≡ true → true ≡ labelPart vlans (λ x. every) r
+  plain-every e = part-all vlans (λ x. every) r (told .all e) (λ x. e)
+
+  pub plain-vlans : every ≡ false → (k : ℕ) → k ≡ kindOf (recordOf r) → (x : ℕ) → x ≡ labelOf (recordOf r) → (h : Bool) → h ≡ bitAt (x % 4096) vlans → eqb k 0 && h ≡ labelPart vlans (λ x. every) r
+  plain-vlans e k a x b h c = or-none (eqb k 0) h every e ∙ part-told vlans (λ x. every) r k a x b h c every refl
+
 -- ---- the search for the first nickname
 
 module _ (r : List ℕ) where
@@ -323,18 +336,26 @@ module _ (n : ℕ) (l : List ℕ) (f : Kinds) (noted : VlansNoted (piecesOf n l)
               }
 
       -- or every label is meant, or none is noted
-      pub flag-first : not (f .every) && (f .lists || f .maps) ≡ false → (bits : List ℕ) → (length bits ≡ bucketBytes → ⊥) → Chosen (slotMarked p vlans (mayPass (f .every) bits)) k (from + count - k) t m → FirstPass q (piecesOf n l) (fineNoted f) from count t m
+      flagged : not (f .every) && (f .lists || f .maps) ≡ false → (b : Bool) → f .every ≡ b → fineNoted f ≡ true → f .every ≡ true
       unfolding either
+      flagged e true g a = g
+      flagged e false g a = false-true (sym (rw g at e) ∙ or-either (f .lists) (f .maps) ∙ rw g at a)
+
+      pub flag-first : not (f .every) && (f .lists || f .maps) ≡ false → (bits : List ℕ) → (length bits ≡ bucketBytes → ⊥) → Chosen (slotMarked p vlans (mayPass (f .every) bits)) k (from + count - k) t m → FirstPass q (piecesOf n l) (fineNoted f) from count t m
       flag-first e bits gone c = record {
         near = mayPass (f .every) bits;
         chosen = first-chosen p q same (piecesOf n l) (mayPass (f .every) bits) t from count k first vlans told m c;
-        all = λ a x b. by-every (f .every) (flagged (f .every) refl a) bits x;
+        all = λ a x b. by-every (f .every) (flagged e (f .every) refl a) bits x;
         none = λ a x. by-near (f .every) (neither (f .every) (either (f .lists) (f .maps)) a .0) bits x ∙ sym (no-bits bits x gone);
       }
-        where
-          flagged : (b : Bool) → f .every ≡ b → fineNoted f ≡ true → f .every ≡ true
-          flagged true g a = g
-          flagged false g a = false-true (sym (rw g at e) ∙ or-either (f .lists) (f .maps) ∙ rw g at a)
+
+      pub plain-first : not (f .every) && (f .lists || f .maps) ≡ false → Chosen (slotMarked p vlans (λ x. f .every)) k (from + count - k) t m → FirstPass q (piecesOf n l) (fineNoted f) from count t m
+      plain-first e c = record {
+        near = λ x. f .every;
+        chosen = first-chosen p q same (piecesOf n l) (λ x. f .every) t from count k first vlans told m c;
+        all = λ a x b. flagged e (f .every) refl a;
+        none = λ a x. neither (f .every) (either (f .lists) (f .maps)) a .0;
+      }
 
 -- the set of VLANs of a message that means every label
 pub every-passes : (ps : List Piece) (f : Kinds) → VlansNoted ps f → (vlans : List ℕ) → VlansMeant ps vlans → EveryMeant (f .every) vlans

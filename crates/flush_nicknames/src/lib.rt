@@ -139,6 +139,20 @@ fn label_passes(t: &[u8], at: usize, vlans: &[u8], near: &[u8], every: bool) -> 
     (vlan & meant) | (!vlan & maybe)
 }
 
+// The same where no fine-grained label is named.
+fn vlan_passes(t: &[u8], at: usize, vlans: &[u8], every: bool) -> bool
+    requires { ⌜ (at + recordBytes ≤ length (now t)) × EveryMeant every (now vlans) ⌝ }
+    ensures { λ b. ⌜ b ≡ labelPart (now (vlans .entry)) (λ x. every) (drop at (now (t .entry))) ⌝ }
+{
+    if every {
+        return true;
+    }
+    let vlan = table_fields::kind_at(t, at) == 0;
+    let x = table_fields::label_at(t, at);
+    let meant = flush_bits::has(vlans, x % 0x1000);
+    vlan & meant
+}
+
 // Whether the slot at an offset is to be marked, by one nickname. One byte of it decides most slots, and then the label.
 fn single_at(t: &[u8], at: usize, one: u64, vlans: &[u8], near: &[u8], every: bool) -> bool
     requires { ⌜ (at + slotBytes ≤ length (now t)) × EveryMeant every (now vlans) ⌝ }
@@ -156,7 +170,24 @@ fn single_at(t: &[u8], at: usize, one: u64, vlans: &[u8], near: &[u8], every: bo
     table_states::learned_at(t, at)
 }
 
-// The same, by a set of nicknames. One byte of the set decides most slots.
+// The same where no fine-grained label is named.
+fn plain_at(t: &[u8], at: usize, one: u64, vlans: &[u8], every: bool) -> bool
+    requires { ⌜ (at + slotBytes ≤ length (now t)) × EveryMeant every (now vlans) ⌝ }
+    ensures { λ b. ⌜ b ≡ slotMarked (λ x. eqb x one) (now (vlans .entry)) (λ x. every) (drop at (now (t .entry))) ⌝ }
+{
+    if table_fields::nickname_middle_at(t, at) != one / 8 % 0x100 {
+        return false;
+    }
+    if !vlan_passes(t, at, vlans, every) {
+        return false;
+    }
+    if table_fields::nickname_at(t, at) != one {
+        return false;
+    }
+    table_states::learned_at(t, at)
+}
+
+// By a set of nicknames. One byte of the set decides most slots.
 fn listed_at(t: &[u8], at: usize, names: &[u8], vlans: &[u8], near: &[u8], every: bool) -> bool
     requires { ⌜ (at + slotBytes ≤ length (now t)) × ((length (now names) ≡ nameBytes) × EveryMeant every (now vlans)) ⌝ }
     ensures { λ b. ⌜ b ≡ slotMarked (λ x. bitAt x (now (names .entry))) (now (vlans .entry)) (mayPass every (now (near .entry))) (drop at (now (t .entry))) ⌝ }
@@ -214,7 +245,31 @@ fn mark_single(
     }
 }
 
-// The same, by a set of nicknames.
+// The same where no fine-grained label is named.
+fn mark_plain(
+    table: &[u8],
+    from: usize,
+    e: usize,
+    one: u64,
+    vlans: &[u8],
+    every: bool,
+    marks: &mut [u8],
+)
+    requires { ⌜ ((from ≤ e) × Marking from (e - from) (now table) (now marks)) × EveryMeant every (now vlans) ⌝ }
+    ensures { λ _. ⌜ Chosen (slotMarked (λ x. eqb x one) (now (vlans .entry)) (λ x. every)) from (e - from) (now (table .entry)) (now (marks .exit)) ⌝ }
+{
+    let mut k = from;
+    while k < e {
+        if plain_at(table, SLOT_BYTES * k, one, vlans, every) {
+            add_mark(marks, k);
+            k += 1;
+        } else {
+            k += 1;
+        }
+    }
+}
+
+// By a set of nicknames.
 fn mark_listed(
     table: &[u8],
     from: usize,
@@ -273,8 +328,7 @@ fn mark_one(
         mark_single(table, k, e, one, &vlans, &near, false, marks);
         return;
     }
-    let none = [0u8; 1];
-    mark_single(table, k, e, one, &vlans, &none, f.every, marks);
+    mark_plain(table, k, e, one, &vlans, f.every, marks);
 }
 
 // The same, by a list of nicknames.

@@ -7,7 +7,7 @@ use lib.ListN.{length-replicate}
 use Rattle.flush_buckets.specs.Buckets.{bucketBytes}
 use Rattle.flush_marks.proofs.Bits.{zeros-none}
 use Rattle.flush_vlans.specs.Vlans.{vlanBytes}
-use Rattle.flush_nicknames.proofs.First.{none-first, near-first, flag-first, every-passes, bits-pass, one-byte}
+use Rattle.flush_nicknames.proofs.First.{none-first, near-first, plain-first, every-passes, bits-pass}
 use borrow.Author.Needs.{needs}
 use Rattle.flush_nicknames.proofs.mark_one.Statement.{statement}
 use Rattle.flush_nicknames.proofs.mark_one.Tie as tie
@@ -36,18 +36,18 @@ returns-2 c =
     let start = c .before .before .before .before .before .before .before .before .before .before .before .before .before .before .before .before .before .before .before .before in
     near-first _ _ (start .args .f) (start .pre .1 .1) _ _ (λ x few. refl) _ _ _ _ (c .before .before .before .before .before .before .before .before .before .before .before .before .before .before .before .before .first-single .ensures) _ (c .before .before .before .before .before .before .before .before .before .before .before .before .before .vlan-set .ensures) _ (c .before .before .before .before .before .before .before .before .before .if2 .taken) _ (c .before .before .before .before .before .before .before .add-fine .ensures) (c .before .before .mark-single .ensures)
 
-mark-single-requires-2 : tie.Need-mark-single-requires-2
-mark-single-requires-2 c κs =
-    let start = c .before .before .before .before .before .before .before .before .before .before .before .before .before .before in
-    let first = c .before .before .before .before .before .before .before .before .before .before .first-single .ensures in
+mark-plain-requires : tie.Need-mark-plain-requires
+mark-plain-requires c κs =
+    let start = c .before .before .before .before .before .before .before .before .before .before .before .before .before in
+    let first = c .before .before .before .before .before .before .before .before .before .first-single .ensures in
     let inside = first .within in
     let room = start .pre .0 .within .room in
-    ((inside, record { within = record { few = start .pre .0 .within .few; room = omega arith }; empty = start .pre .0 .empty }), every-passes _ (start .args .f) (start .pre .1 .1) _ (c .before .before .before .before .before .before .before .vlan-set .ensures))
+    ((inside, record { within = record { few = start .pre .0 .within .few; room = omega arith }; empty = start .pre .0 .empty }), every-passes _ (start .args .f) (start .pre .1 .1) _ (c .before .before .before .before .before .before .vlan-set .ensures))
 
 returns-3 : tie.Need-returns-3
 returns-3 c =
-    let start = c .before .before .before .before .before .before .before .before .before .before .before .before .before .before .before .before .before in
-    flag-first _ _ (start .args .f) (start .pre .1 .1) _ _ (λ x few. refl) _ _ _ _ (c .before .before .before .before .before .before .before .before .before .before .before .before .before .first-single .ensures) _ (c .before .before .before .before .before .before .before .before .before .before .vlan-set .ensures) _ (c .before .before .before .before .before .before .if2 .left) _ one-byte (c .before .before .mark-single2 .ensures)
+    let start = c .before .before .before .before .before .before .before .before .before .before .before .before .before .before .before .before in
+    plain-first _ _ (start .args .f) (start .pre .1 .1) _ _ (λ x few. refl) _ _ _ _ (c .before .before .before .before .before .before .before .before .before .before .before .before .first-single .ensures) _ (c .before .before .before .before .before .before .before .before .before .vlan-set .ensures) _ (c .before .before .before .before .before .if2 .left) (c .before .before .mark-plain .ensures)
 
 pub mark-one-spec : {M : Type 1} → statement M
 mark-one-spec =
@@ -66,7 +66,6 @@ mark-one-spec =
     (λ c. search needs)
     returns-2
     (λ c. search needs)
-    (λ c. search needs)
-    mark-single-requires-2
+    mark-plain-requires
     (λ c. search needs)
     returns-3)
