@@ -325,6 +325,21 @@ fn replay_portion(b: &[u8], table: &mut [u8]) -> bool {
     true
 }
 
+// 28: the ingress nickname, the slot, the payload.
+fn replay_why(b: &[u8], table: &[u8]) -> bool {
+    if b.len() < 12 {
+        return false;
+    }
+    let word = shinglebar::shinglebar_why(
+        numbers::be4(b, 0) as u32,
+        &b[12..],
+        numbers::be8(b, 4),
+        table,
+    );
+    print_call(word, table, &b[..0]);
+    true
+}
+
 // 13: the lengths of the lists of nicknames, VLAN blocks and fine-grained blocks, the output area's length, the four lists.
 fn write_lists(b: &[u8], n: usize, v: usize, f: usize, table: &[u8], out: &mut [u8])
     requires { ⌜ ((8 ≤ n) × (n ≤ v)) × ((v ≤ f) × (f ≤ length (now b))) ⌝ }
@@ -463,6 +478,9 @@ fn replay_later(kind: u64, b: &[u8], table: &mut [u8], area: &mut [u8]) -> bool 
     }
     if kind == 0x27 {
         return replay_vlan_only(b, table);
+    }
+    if kind == 0x28 {
+        return replay_why(b, table);
     }
     if kind == 0x60 {
         return watched::replay_watch(b, table);
