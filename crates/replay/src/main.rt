@@ -325,6 +325,21 @@ fn replay_portion(b: &[u8], table: &mut [u8]) -> bool {
     true
 }
 
+// 28: the ingress nickname, the slot, the payload.
+fn replay_why(b: &[u8], table: &[u8]) -> bool {
+    if b.len() < 12 {
+        return false;
+    }
+    let word = shinglebar::shinglebar_why(
+        numbers::be4(b, 0) as u32,
+        &b[12..],
+        numbers::be8(b, 4),
+        table,
+    );
+    print_call(word, table, &b[..0]);
+    true
+}
+
 // 13: the lengths of the lists of nicknames, VLAN blocks and fine-grained blocks, the output area's length, the four lists.
 fn write_lists(b: &[u8], n: usize, v: usize, f: usize, table: &[u8], out: &mut [u8])
     requires { ⌜ ((8 ≤ n) × (n ≤ v)) × ((v ≤ f) × (f ≤ length (now b))) ⌝ }
@@ -461,6 +476,24 @@ fn replay_hello(b: &[u8], table: &[u8], area: &mut [u8]) -> bool {
     true
 }
 
+// 2e: the output area's length.
+fn write_report(table: &[u8], out: &mut [u8]) {
+    let word = shinglebar::shinglebar_report(table, out);
+    print_call(word, table, out);
+}
+
+fn replay_report(b: &[u8], table: &[u8], area: &mut [u8]) -> bool {
+    if b.len() < 2 {
+        return false;
+    }
+    let n = numbers::be2(b, 0) as usize;
+    if area.len() < n {
+        return false;
+    }
+    write_report(table, &mut area[0..n]);
+    true
+}
+
 // The calls of document 02.
 fn replay_later(kind: u64, b: &[u8], table: &mut [u8], area: &mut [u8]) -> bool {
     if kind == 0x09 {
@@ -484,8 +517,14 @@ fn replay_later(kind: u64, b: &[u8], table: &mut [u8], area: &mut [u8]) -> bool 
     if kind == 0x27 {
         return replay_vlan_only(b, table);
     }
+    if kind == 0x28 {
+        return replay_why(b, table);
+    }
     if kind == 0x2d {
         return replay_hello(b, table, area);
+    }
+    if kind == 0x2e {
+        return replay_report(b, table, area);
     }
     if kind == 0x60 {
         return watched::replay_watch(b, table);
