@@ -494,17 +494,8 @@ fn replay_report(b: &[u8], table: &[u8], area: &mut [u8]) -> bool {
     true
 }
 
-// The calls of document 02.
-fn replay_later(kind: u64, b: &[u8], table: &mut [u8], area: &mut [u8]) -> bool {
-    if kind == 0x09 {
-        return replay_port(b, table, area);
-    }
-    if kind == 0x0a {
-        return replay_ingress(b, table, area);
-    }
-    if kind == 0x12 {
-        return replay_widen(b, table, area);
-    }
+// The calls of document 02 that are numbered 20 and the request.
+fn replay_numbered(kind: u64, b: &[u8], table: &mut [u8], area: &mut [u8]) -> bool {
     if kind == WRITE {
         return replay_write(b, table, area);
     }
@@ -526,13 +517,27 @@ fn replay_later(kind: u64, b: &[u8], table: &mut [u8], area: &mut [u8]) -> bool 
     if kind == 0x2e {
         return replay_report(b, table, area);
     }
+    false
+}
+
+// The calls of document 02.
+fn replay_later(kind: u64, b: &[u8], table: &mut [u8], area: &mut [u8]) -> bool {
+    if kind == 0x09 {
+        return replay_port(b, table, area);
+    }
+    if kind == 0x0a {
+        return replay_ingress(b, table, area);
+    }
+    if kind == 0x12 {
+        return replay_widen(b, table, area);
+    }
     if kind == 0x60 {
         return watched::replay_watch(b, table);
     }
     if kind == 0x61 {
         return watched::replay_send(b, table, area);
     }
-    false
+    replay_numbered(kind, b, table, area)
 }
 
 // Makes a call and writes what it gave; false where there is no such call.
