@@ -2,7 +2,7 @@
 -- Assumes nothing.
 use Prim.Native.Nat.{ℕ, _+_, _-_, _<_, _≤_}
 use mathlib.Core.Bool.{Bool, true, false}
-use mathlib.Core.List.{List, _∷_}
+use mathlib.Core.List.{List}
 use mathlib.Core.Path.{_≡_, refl, sym, ap, _∙_}
 use native.Mathlib.Nat.{add-zero}
 use native.Mathlib.Omega.{arith}
@@ -36,15 +36,7 @@ module _ (l : List ℕ) (at : ℕ) where
   pub end-told : (n : ℕ) → n ≡ getD l (at + 1) 0 → at + 2 + n ≡ at + tlvEnd (drop at l)
   end-told n e = let g : getD (drop at l) 1 0 ≡ getD l (at + 1) 0 = getD-drop at l 1 0 in omega arith
 
-  -- a whole TLV, and those that follow it
-  pub tlv-more : (e : ℕ) → e ≡ at + tlvEnd (drop at l) → e ≤ length l → tlvs (drop at l) ≡ tlv (getD l at 0) (take (e - (at + 2)) (drop (at + 2) l)) ∷ tlvs (drop e l)
-  tlv-more e end fits =
-      let d : length (drop at l) ≡ length l - at = length-drop at l in
-      let f : getD (drop at l) 0 0 ≡ getD l at 0 = getD-drop at l 0 0 ∙ rw (add-zero at) in
-      let n : e - (at + 2) ≡ getD (drop at l) 1 0 = omega arith in
-      tlvs-more (drop at l) (omega arith) ∙ rw (n, f, drop-drop 2 at l, drop-drop (tlvEnd (drop at l)) at l, end)
-
-pub either-false : (b : Bool) → either b false ≡ b
+either-false : (b : Bool) → either b false ≡ b
 unfolding either
 either-false true = refl
 either-false false = refl
@@ -78,7 +70,13 @@ module _ (ask : Piece → Bool) (l : List ℕ) (at : ℕ) (x : Bool) (inv : x �
     module _ (fits : e ≤ length l) (h : Bool) (here : h ≡ ask (tlv (getD l at 0) (take (e - (at + 2)) (drop (at + 2) l)))) where
       pub tlv-here : x ≡ either h (anyOf ask (tlvs (drop e l)))
       unfolding anyOf
-      tlv-here = inv ∙ ap (anyOf ask) (tlv-more l at e end fits) ∙ rw here
+      tlv-here =
+          let d : length (drop at l) ≡ length l - at = length-drop at l in
+          let f : getD (drop at l) 0 0 ≡ getD l at 0 = getD-drop at l 0 0 ∙ rw (add-zero at) in
+          let n : e - (at + 2) ≡ getD (drop at l) 1 0 = omega arith in
+          inv
+          ∙ ap (anyOf ask) (tlvs-more (drop at l) (omega arith))
+          ∙ rw (here, n, f, drop-drop 2 at l, drop-drop (tlvEnd (drop at l)) at l, end)
 
       pub tlv-hit : h ≡ true → true ≡ x
       unfolding either

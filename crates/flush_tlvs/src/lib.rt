@@ -43,7 +43,7 @@ fn fine_in(x: u64, k: u8, v: &[u8]) -> bool
 }
 
 // Whether a TLV brings a label, which is given by its kind and its number.
-pub fn brings_label(kind: u64, x: u64, k: u8, v: &[u8]) -> bool
+fn brings_label(kind: u64, x: u64, k: u8, v: &[u8]) -> bool
     ensures { λ r. ⌜ r ≡ bringsLabel everyType (labelFrom kind x) (tlv k (now (v .entry))) ⌝ }
 {
     if kind == 0 {
@@ -53,7 +53,7 @@ pub fn brings_label(kind: u64, x: u64, k: u8, v: &[u8]) -> bool
 }
 
 // Whether a TLV brings a MAC: type 7 MACs, type 8 MAC blocks.
-pub fn brings_mac(m: u64, k: u8, v: &[u8]) -> bool
+fn brings_mac(m: u64, k: u8, v: &[u8]) -> bool
     ensures { λ r. ⌜ r ≡ bringsMac everyType m (tlv k (now (v .entry))) ⌝ }
 {
     if k == 7 {

@@ -9,15 +9,14 @@ use native.Mathlib.Nat.{add-zero}
 use native.Mathlib.Numerals.{add-one}
 use native.Mathlib.Omega.{arith}
 use lib.ListN.{length, take, drop, getD, length-take, length-drop}
-use lib.Seq.{take-all, drop-drop}
+use lib.Seq.{take-all, drop-drop, getD-drop}
 use Rattle.numbers.specs.Tests.{pick, either, anyOf}
 use Rattle.numbers.specs.Bytes.{parts}
 use Rattle.table.specs.declared.Place.{Place}
 use Rattle.table.specs.declared.Place.the-variants.{At, Nowhere}
 use Rattle.flush.specs.Payload.{Piece, tlv, stump, tlvEnd, tlvs}
 use Rattle.flush.proofs.Lists.{parts-end, parts-more}
-use Rattle.flush.proofs.Validity.{tlvs-end, tlvs-rest}
-use Rattle.flush_tlvs.proofs.Laws.{tlv-more, either-false}
+use Rattle.flush.proofs.Validity.{tlvs-end, tlvs-rest, tlvs-more}
 use Rattle.why.specs.Why.{placeOf}
 use Rattle.why_places.specs.Found.{firstFrom}
 
@@ -59,6 +58,14 @@ module _ {A : Type 0} (p : A → Bool) where
 
 -- ---- a walk over TLVs
 
+-- a whole TLV, and those that follow it
+tlv-more : (l : List ℕ) (at e : ℕ) → e ≡ at + tlvEnd (drop at l) → e ≤ length l → tlvs (drop at l) ≡ tlv (getD l at 0) (take (e - (at + 2)) (drop (at + 2) l)) ∷ tlvs (drop e l)
+tlv-more l at e end fits =
+    let d : length (drop at l) ≡ length l - at = length-drop at l in
+    let f : getD (drop at l) 0 0 ≡ getD l at 0 = getD-drop at l 0 0 ∙ rw (add-zero at) in
+    let n : e - (at + 2) ≡ getD (drop at l) 1 0 = omega arith in
+    tlvs-more (drop at l) (omega arith) ∙ rw (n, f, drop-drop 2 at l, drop-drop (tlvEnd (drop at l)) at l, end)
+
 module _ (ask : Piece → Bool) (l : List ℕ) (at i : ℕ) (x : Place) (inv : x ≡ firstFrom ask i (tlvs (drop at l))) where
   pub walk-done : length l ≤ at → Nowhere ≡ x
   unfolding firstFrom
@@ -87,6 +94,11 @@ module _ (ask : Piece → Bool) (l : List ℕ) (at i : ℕ) (x : Place) (inv : x
       walk-next t = rw (add-one i) (rw t at walk-here)
 
 -- ---- a walk over parts of k bytes
+
+either-false : (b : Bool) → either b false ≡ b
+unfolding either
+either-false true = refl
+either-false false = refl
 
 -- the one part of a list of k bytes
 one-part : (p : List ℕ → Bool) (k : ℕ) → 0 < k → (b : List ℕ) → length b ≡ k → anyOf p (parts k b) ≡ p b

@@ -6,8 +6,8 @@ ghost use lib.ListN.{length};
 ghost use Rattle.numbers.specs.Bytes.{parts};
 ghost use Rattle.numbers.specs.Numberings.{vlans, inBlock};
 ghost use Rattle.table.specs.Record.{labelFrom};
-ghost use Rattle.flush.specs.Payload.{everyType, tlvs, blockBytes, piecesOf};
-ghost use Rattle.flush.specs.Meaning.{bringsLabel, bringsMac};
+ghost use Rattle.flush.specs.Payload.{everyType, tlv, tlvs, blockBytes, piecesOf};
+ghost use Rattle.flush.specs.Meaning.{vlanIn, fineIn, bringsLabel, bringsMac};
 ghost use Rattle.why.specs.Why.{nicknameIs, listed};
 ghost use Rattle.why_places.specs.Found.{firstFrom, nicknameFound, labelFound, macFound};
 use table::Place;
@@ -36,6 +36,68 @@ pub enum MacFound {
     By(MacMatch),
     NotMeant,
 }
+
+// ---- what one TLV says: the text of flush_tlvs, so that there it stays a part of the flush's loop
+
+// Whether a TLV brings a VLAN: type 1 VLAN blocks, type 2 a VLAN bit map, type 6 all labels.
+fn vlan_in(x: u64, k: u8, v: &[u8]) -> bool
+    ensures { λ r. ⌜ r ≡ vlanIn x k (now (v .entry)) ⌝ }
+{
+    if k == 6 {
+        return true;
+    }
+    if k == 1 {
+        return flush_members::in_vlan_blocks(v, x);
+    }
+    if k == 2 {
+        return flush_members::in_vlan_map(v, x);
+    }
+    false
+}
+
+// Whether a TLV brings a fine-grained label: type 3 blocks, type 4 labels, type 5 a bit map, type 6 all labels.
+fn fine_in(x: u64, k: u8, v: &[u8]) -> bool
+    ensures { λ r. ⌜ r ≡ fineIn x k (now (v .entry)) ⌝ }
+{
+    if k == 6 {
+        return true;
+    }
+    if k == 3 {
+        return flush_members::in_fine_blocks(v, x);
+    }
+    if k == 4 {
+        return flush_members::in_fines(v, x);
+    }
+    if k == 5 {
+        return flush_members::in_fine_map(v, x);
+    }
+    false
+}
+
+// Whether a TLV brings a label, which is given by its kind and its number.
+fn brings_label(kind: u64, x: u64, k: u8, v: &[u8]) -> bool
+    ensures { λ r. ⌜ r ≡ bringsLabel everyType (labelFrom kind x) (tlv k (now (v .entry))) ⌝ }
+{
+    if kind == 0 {
+        return vlan_in(x, k, v);
+    }
+    fine_in(x, k, v)
+}
+
+// Whether a TLV brings a MAC: type 7 MACs, type 8 MAC blocks.
+fn brings_mac(m: u64, k: u8, v: &[u8]) -> bool
+    ensures { λ r. ⌜ r ≡ bringsMac everyType m (tlv k (now (v .entry))) ⌝ }
+{
+    if k == 7 {
+        return flush_members::in_macs(v, m);
+    }
+    if k == 8 {
+        return flush_members::in_mac_blocks(v, m);
+    }
+    false
+}
+
+// ---- the walks
 
 // The first listed nickname that is x.
 fn listed_place(nicks: &[u8], x: u64) -> Place
@@ -83,7 +145,7 @@ fn label_place(l: &[u8], kind: u64, x: u64) -> Place
             return Place::Nowhere;
         }
         let s = at + 2;
-        if flush_tlvs::brings_label(kind, x, l[at], &l[s..e]) {
+        if brings_label(kind, x, l[at], &l[s..e]) {
             return Place::At(tlv);
         }
         at = e;
@@ -104,7 +166,7 @@ fn mac_place(l: &[u8], m: u64) -> Place
             return Place::Nowhere;
         }
         let s = at + 2;
-        if flush_tlvs::brings_mac(m, l[at], &l[s..e]) {
+        if brings_mac(m, l[at], &l[s..e]) {
             return Place::At(k);
         }
         at = e;
