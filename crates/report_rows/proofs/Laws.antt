@@ -10,13 +10,13 @@ use native.Mathlib.Numerals.{add-one}
 use native.Mathlib.Omega.{arith}
 use lib.Dec.{eqb, ltb}
 use lib.ListN.{length, take, drop, getD, set, replicate, length-append, length-set, length-take}
-use lib.Seq.{take-suc-set, take-set-le, take-all, getD-set-same, getD-set-other, length-take-le}
+use lib.Seq.{take-suc, take-suc-set, take-set-le, take-all, getD-set-same, getD-set-other, length-take-le}
 use borrow.Author.Tests.{eq-eqb, ne-eqb, eqb-true, eqb-false, lt-ltb, le-ltb}
 use Rattle.numbers.specs.Tests.{pick}
 use Rattle.table.specs.Slots.{mostSlots}
 use Rattle.report_keys.specs.Keys.{timesIn}
 use Rattle.report_keys.proofs.Laws.{pick-one, times-none, times-next, times-few, times-all}
-use Rattle.report_rows.specs.Rows.{rowOf, rowIf, rowsBelow, blockNicknames, blockKeys, blocks, Counted, blockRows}
+use Rattle.report_rows.specs.Rows.{rowOf, rowIf, rowsBelow, blockNicknames, blockKeys, blocks, inBlock, Counted, blockRows}
 
 -- ---- counting a block
 
@@ -224,3 +224,61 @@ module _ (b : ℕ) (keys counts : List ℕ) (counted : Counted b keys counts) (n
       → take r rows ≡ take n rows₀ ++ blockRows (b * blockNicknames) blockNicknames counts
       → (r ≡ length (rowsBelow ((b + 1) * blockNicknames) keys)) × (take r rows ≡ rowsBelow ((b + 1) * blockNicknames) keys)
   block-done r rows₀ rows before er rest = (er ∙ then-many, rest ∙ rw before then-block)
+
+-- ---- a block without keys
+
+in-append : (b : ℕ) (x y : List ℕ) → inBlock b (x ++ y) ≡ inBlock b x + inBlock b y
+unfolding inBlock
+in-append b [] y = omega arith
+in-append b (k ∷ x) y = let r = in-append b x y in omega arith
+
+in-last : (b k : ℕ) → inBlock b (k ∷ []) ≡ pick (eqb (k / blockKeys) b) 1 0
+unfolding inBlock
+in-last b k = omega arith
+
+pub in-none : (b : ℕ) (keys : List ℕ) → 0 ≡ inBlock b (take 0 keys)
+unfolding inBlock
+in-none b keys = refl
+
+pub in-next : (b : ℕ) (keys : List ℕ) (i k : ℕ) → i < length keys → k ≡ getD keys i 0 → inBlock b (take (i + 1) keys) ≡ inBlock b (take i keys) + pick (eqb (k / blockKeys) b) 1 0
+in-next b keys i k h e = rw (add-one i, take-suc keys i 0 h, in-append b (take i keys) (getD keys i 0 ∷ []), in-last b (getD keys i 0), e)
+
+pub in-all : (b : ℕ) (keys : List ℕ) (i : ℕ) → length keys ≤ i → inBlock b (take i keys) ≡ inBlock b keys
+in-all b keys i g = ap (inBlock b) (take-all i keys g)
+
+one-in : (b r x : ℕ) → r < blockKeys → pick (eqb x (b * blockKeys + r)) 1 0 ≤ pick (eqb (x / blockKeys) b) 1 0
+unfolding pick
+one-in b r x h = go (ℕ-discrete x (b * blockKeys + r))
+  where
+    go : Dec (x ≡ b * blockKeys + r) → pick (eqb x (b * blockKeys + r)) 1 0 ≤ pick (eqb (x / blockKeys) b) 1 0
+    go (yes e) = rw (eq-eqb x (b * blockKeys + r) e, eq-eqb (x / blockKeys) b (omega arith)) (omega arith)
+    go (no e) = rw (ne-eqb x (b * blockKeys + r) e) (omega arith)
+
+times-in : (b r : ℕ) → r < blockKeys → (keys : List ℕ) → timesIn (b * blockKeys + r) keys ≤ inBlock b keys
+unfolding timesIn inBlock
+times-in b r h [] = omega arith
+times-in b r h (x ∷ keys) = let i = times-in b r h keys in let o = one-in b r x h in omega arith
+
+no-row : (x l c : ℕ) → l ≡ 0 → c ≡ 0 → rowIf x l c ≡ []
+unfolding rowIf pick
+no-row x l c el ec = rw (el, ec)
+
+same-rows : (b : ℕ) (keys : List ℕ) → inBlock b keys ≡ 0 → (m : ℕ) → m ≤ blockNicknames → rowsBelow (b * blockNicknames + m) keys ≡ rowsBelow (b * blockNicknames) keys
+unfolding rowsBelow
+same-rows b keys none zero h = let same : b * blockNicknames + 0 ≡ b * blockNicknames = omega arith in rw same
+same-rows b keys none (suc m) h =
+    let same : b * blockNicknames + suc m ≡ suc (b * blockNicknames + m) = omega arith in
+    let first : (b * blockNicknames + m) * 2 ≡ b * blockKeys + m * 2 = omega arith in
+    let second : (b * blockNicknames + m) * 2 + 1 ≡ b * blockKeys + (m * 2 + 1) = omega arith in
+    let f = times-in b (m * 2) (omega arith) keys in
+    let s = times-in b (m * 2 + 1) (omega arith) keys in
+    let row : rowIf (b * blockNicknames + m) (timesIn ((b * blockNicknames + m) * 2) keys) (timesIn ((b * blockNicknames + m) * 2 + 1) keys) ≡ [] =
+    no-row (b * blockNicknames + m) _ _ (rw first (omega arith)) (rw second (omega arith)) in
+    rw (same, row) (append-nil (rowsBelow (b * blockNicknames + m) keys) ∙ same-rows b keys none m (omega arith))
+
+pub unused-done : (b : ℕ) (keys : List ℕ) → inBlock b keys ≡ 0 → (n : ℕ) (rows : List ℕ) → n ≡ length (rowsBelow (b * blockNicknames) keys) → take n rows ≡ rowsBelow (b * blockNicknames) keys
+    → (n ≡ length (rowsBelow ((b + 1) * blockNicknames) keys)) × (take n rows ≡ rowsBelow ((b + 1) * blockNicknames) keys)
+unused-done b keys none n rows many is =
+    let next : (b + 1) * blockNicknames ≡ b * blockNicknames + blockNicknames = omega arith in
+    let same : rowsBelow ((b + 1) * blockNicknames) keys ≡ rowsBelow (b * blockNicknames) keys = ap (λ (x : ℕ). rowsBelow x keys) next ∙ same-rows b keys none blockNicknames (omega arith) in
+    (many ∙ sym (ap length same), is ∙ sym same)

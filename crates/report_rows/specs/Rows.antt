@@ -1,6 +1,6 @@
 -- Lines as rows, one number for each; and the counts of a block of nicknames.
 -- Assumes nothing.
-use Prim.Native.Nat.{ℕ, zero, suc, _+_, _*_, _^_, _<_}
+use Prim.Native.Nat.{ℕ, zero, suc, _+_, _*_, _/_, _^_, _<_}
 use mathlib.Core.List.{List, [], _∷_, _++_}
 use mathlib.Core.Path.{_≡_}
 use lib.Dec.{eqb}
@@ -29,6 +29,11 @@ blockKeys = 2 * blockNicknames
 
 abbrev pub blocks : ℕ
 blocks = 8
+
+-- how many keys are of block b
+unfoldable pub inBlock : ℕ → List ℕ → ℕ
+inBlock b [] = 0
+inBlock b (k ∷ keys) = pick (eqb (k / blockKeys) b) 1 0 + inBlock b keys
 
 -- the counts are those of the keys of block b
 pub record Counted (b : ℕ) (keys counts : List ℕ) : Type 0 where

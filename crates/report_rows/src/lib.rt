@@ -6,7 +6,7 @@ ghost use mathlib.Core.Path.{_≡_};
 ghost use lib.ListN.{length, take, getD};
 ghost use Rattle.table.specs.Slots.{mostSlots};
 ghost use Rattle.report.specs.Report.{nicknameEnd};
-ghost use Rattle.report_rows.specs.Rows.{rowsBelow, blockNicknames, blockKeys, blocks, Counted, blockRows};
+ghost use Rattle.report_rows.specs.Rows.{rowsBelow, blockNicknames, blockKeys, blocks, inBlock, Counted, blockRows};
 
 // The nicknames of a block, and their keys; how many blocks there are.
 const BLOCK_NICKNAMES: usize = 8192;
@@ -30,6 +30,19 @@ fn count_of(n: u16) -> usize
     ensures { λ r. ⌜ (r ≡ n) × (r < 2 ^ 16) ⌝ }
 {
     n as usize
+}
+
+// How many keys are of block b.
+fn keys_in(keys: &[u32], b: usize) -> usize
+    ensures { λ r. ⌜ (r ≡ inBlock b (now (keys .entry))) × (r ≤ length (now (keys .entry))) ⌝ }
+{
+    let mut n = 0;
+    let mut i = 0;
+    while i < keys.len() {
+        n += flush_sort::one(wide(keys[i]) / BLOCK_KEYS == b);
+        i += 1;
+    }
+    n
 }
 
 // Counts the keys of block b; there is no branch on a key.
@@ -74,6 +87,17 @@ fn list_block(keys: &[u32], b: usize, rows: &mut [u64], n: usize) -> usize
     rows_of_block(&counts, b * BLOCK_NICKNAMES, rows, n)
 }
 
+// The same; a block without keys has no rows.
+fn list_used(keys: &[u32], b: usize, rows: &mut [u64], n: usize) -> usize
+    requires { ⌜ ((length (now keys) ≤ mostSlots) × ((mostSlots < length (now rows)) × (b < blocks))) × ((n ≡ length (rowsBelow (b * blockNicknames) (now keys))) × (take n (now rows) ≡ rowsBelow (b * blockNicknames) (now keys))) ⌝ }
+    ensures { λ r. ⌜ (r ≡ length (rowsBelow ((b + 1) * blockNicknames) (now (keys .entry)))) × (take r (now (rows .exit)) ≡ rowsBelow ((b + 1) * blockNicknames) (now (keys .entry))) ⌝ }
+{
+    if keys_in(keys, b) == 0 {
+        return n;
+    }
+    list_block(keys, b, rows, n)
+}
+
 // All rows, and how many.
 pub fn list(keys: &[u32], rows: &mut [u64]) -> usize
     requires { ⌜ (length (now keys) ≤ mostSlots) × (mostSlots < length (now rows)) ⌝ }
@@ -82,7 +106,7 @@ pub fn list(keys: &[u32], rows: &mut [u64]) -> usize
     let mut n = 0;
     let mut b = 0;
     while b < BLOCKS {
-        n = list_block(keys, b, rows, n);
+        n = list_used(keys, b, rows, n);
         b += 1;
     }
     n

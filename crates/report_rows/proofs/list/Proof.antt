@@ -24,7 +24,7 @@ loop-holds c =
 
 loop-again : tie.Need-loop-again Inv-loop μ-loop
 loop-again c =
-    let block = c .before .before .list-block in
+    let block = c .before .before .list-used in
     (search needs, (search needs, (block .ensures .0, block .ensures .1)))
 
 returns : tie.Need-returns Inv-loop μ-loop
