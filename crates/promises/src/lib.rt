@@ -18,6 +18,7 @@ ghost use Rattle.convert.specs.Claims.{ReadsSame, ExpandCompacted, CompactExpan
 ghost use Rattle.convert.specs.Chosen.{ChosenSent};
 ghost use Rattle.receive.specs.Claims.{ReadRefusal, ReadingKeepsApart, ReadsParsed, ReadingLeavesAlone, ReadFlushExact, PaddedRead, NoMapNoChange};
 ghost use Rattle.port_map.specs.Claims.{SearchInverse};
+ghost use Rattle.port_map_pairs.specs.Pairs.{PairBytes};
 ghost use Rattle.receive.specs.Order.{ReadsExactly};
 ghost use Rattle.ingress.specs.Cases.{MapCases};
 ghost use Rattle.ingress.specs.Claims.{IngressRefusal, MapRoundTrip};
@@ -37,4 +38,5 @@ pub fn claims()
     ensures laws { λ _. ⌜ Blocks × Maps × UnpackPacked × PackUnpacked × KeptWritesNothing × HeaderLocal × LabelLocal × LabelsGood × ReadsSame × ReadsParsed ⌝ }
     ensures writing { λ _. ⌜ WriterExact × WriterClears × WriterLength × WriterCalls × WriterCases ⌝ }
     ensures watching { λ _. ⌜ StopNeverShortened × StopRunsOut × SendingWhileStopped × RefusedWatchStays × WatchCases ⌝ }
+    ensures pairs { λ _. ⌜ PairBytes ⌝ }
 {}

@@ -34,6 +34,7 @@ use Rattle.convert.proofs.Sending.{sends-exactly}
 use Rattle.convert.proofs.Shown.{chosen-sent}
 use Rattle.receive.proofs.Outcomes.{read-refusal, reading-apart, reads-parsed, reading-leaves-alone, read-flush-exact}
 use Rattle.port_map.proofs.Searches.{search-inverse}
+use Rattle.port_map_pairs.proofs.Bytes.{holds as pair-bytes}
 use Rattle.receive.proofs.NoMap.{no-map-no-change}
 use Rattle.receive.proofs.Padded.{padded-read}
 use Rattle.receive.proofs.Order.{reads-exactly}
@@ -85,7 +86,10 @@ returns c = (
           (blocks-hold, maps-hold, unpack-packed, pack-unpacked, kept-writes-nothing, header-local, label-local, labels-good, reads-same, reads-parsed),
           (
             (writer-exact, writer-clears, writer-length, writer-calls, writer-cases),
-            (stop-never-shortened, stop-runs-out, sending-while-stopped, refused-watch-stays, watch-cases),
+            (
+              (stop-never-shortened, stop-runs-out, sending-while-stopped, refused-watch-stays, watch-cases),
+              pair-bytes,
+            ),
           ),
         ),
       ),
