@@ -20,6 +20,7 @@ ghost use Rattle.convert.specs.Claims.{ReadsSame, ExpandCompacted, CompactExpan
 ghost use Rattle.convert.specs.Chosen.{ChosenSent};
 ghost use Rattle.receive.specs.Claims.{ReadRefusal, ReadingKeepsApart, ReadsParsed, ReadingLeavesAlone, ReadFlushExact, PaddedRead, NoMapNoChange, SmartPort};
 ghost use Rattle.port_map.specs.Claims.{SearchInverse};
+ghost use Rattle.port_map_pairs.specs.Pairs.{PairBytes};
 ghost use Rattle.receive.specs.Order.{ReadsExactly};
 ghost use Rattle.ingress.specs.Cases.{MapCases};
 ghost use Rattle.ingress.specs.Claims.{IngressRefusal, MapRoundTrip};
@@ -46,4 +47,5 @@ pub fn claims()
     ensures reporting { λ _. ⌜ ReportAddsUp × ReportRising × ReportCase × DigitsReadBack × ReportFits ⌝ }
     ensures watching { λ _. ⌜ StopNeverShortened × StopRunsOut × SendingWhileStopped × RefusedWatchStays × WatchCases ⌝ }
     ensures hellos { λ _. ⌜ WrittenHelloReads × ReadHelloWrites × ReadIsWritable × WrittenAreBytes × WrittenIsPlain × AreaIs × CallsUndo × HelloRefusal × CasesHold ⌝ }
+    ensures pairs { λ _. ⌜ PairBytes ⌝ }
 {}

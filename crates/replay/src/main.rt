@@ -1,6 +1,10 @@
-ghost use Prim.Native.Nat.{_≤_};
+ghost use Prim.Native.Nat.{_/_, _≤_};
+ghost use mathlib.Core.Bool.{true};
+ghost use mathlib.Core.Path.{_≡_};
 ghost use lib.ListN.{length};
 use frame::Settings;
+use ingress::Given;
+use port_map::PAIR_BYTES;
 
 mod watched;
 
@@ -376,11 +380,47 @@ fn replay_vlan_only(b: &[u8], table: &mut [u8]) -> bool {
     true
 }
 
+// The settings of a call with a map of whole pairs, and what it gives of the outer part.
+fn port_settings_in(b: &[u8]) -> Settings
+    requires { ⌜ 40 ≤ length (now b) ⌝ }
+{
+    shinglebar::port_settings(
+        numbers::be8(b, 0),
+        numbers::be8(b, 8),
+        numbers::be4(b, 16) as u32,
+        numbers::be4(b, 20) as u32,
+        numbers::be4(b, 24) as u32,
+        numbers::be4(b, 28) as u32,
+        numbers::be4(b, 32) as u32,
+        numbers::be4(b, 36) as u32,
+    )
+}
+
+fn given_in(b: &[u8]) -> Given
+    requires { ⌜ 64 ≤ length (now b) ⌝ }
+{
+    Given {
+        destination: numbers::be8(b, 32),
+        source: numbers::be8(b, 40),
+        multicast: numbers::be4(b, 48) as u32,
+        hops: numbers::be4(b, 52) as u32,
+        egress: numbers::be4(b, 56) as u32,
+        ingress: numbers::be4(b, 60) as u32,
+    }
+}
+
+// Whether a map is of whole pairs, and of no more than are lent as a slice.
+fn whole_pairs(map: &[u8]) -> bool
+    ensures { λ r. ⌜ (r ≡ true → length (now (map .entry)) / 6 ≤ 164) ⌝ }
+{
+    (map.len() % PAIR_BYTES == 0) & (map.len() / PAIR_BYTES <= replay_pairs::MOST_PAIRS)
+}
+
 // 09: settings, multihomed, smart, the lengths of the output area and of the map, the map, the frame; the map ends at e.
-fn read_mapped(b: &[u8], e: usize, table: &mut [u8], out: &mut [u8])
+fn read_bytes(b: &[u8], e: usize, table: &mut [u8], out: &mut [u8])
     requires { ⌜ (44 ≤ e) × (e ≤ length (now b)) ⌝ }
 {
-    let s = settings_in(b);
+    let s = port_settings_in(b);
     let word = shinglebar::shinglebar_receive_port(
         s.port,
         s.inner,
@@ -388,14 +428,29 @@ fn read_mapped(b: &[u8], e: usize, table: &mut [u8], out: &mut [u8])
         s.compact,
         s.confidence,
         s.seconds,
-        numbers::be4(b, 32) as u32,
-        numbers::be4(b, 36) as u32,
+        s.multihomed,
+        s.smart,
         &b[44..e],
         &b[e..],
         table,
         out,
     );
     print_call(word, table, out);
+}
+
+// The same with the map as a slice of pairs, where it is of whole ones.
+fn read_mapped(b: &[u8], e: usize, table: &mut [u8], out: &mut [u8])
+    requires { ⌜ (44 ≤ e) × (e ≤ length (now b)) ⌝ }
+{
+    let map = &b[44..e];
+    if !whole_pairs(map) {
+        read_bytes(b, e, table, out);
+        return;
+    }
+    let s = port_settings_in(b);
+    let pairs = replay_pairs::pairs_in(map);
+    let a = replay_pairs::read_pairs(s, pairs, map.len() / PAIR_BYTES, &b[e..], table, out);
+    print_call(shinglebar::read_word(a), table, out);
 }
 
 fn replay_port(b: &[u8], table: &mut [u8], area: &mut [u8]) -> bool {
@@ -416,10 +471,11 @@ fn replay_port(b: &[u8], table: &mut [u8], area: &mut [u8]) -> bool {
 
 // 0a: settings, outer destination and source, M, hop count, egress and ingress nickname, the lengths of the output area and of the map,
 // the map, the frame; the map ends at e.
-fn take_in(b: &[u8], e: usize, table: &[u8], out: &mut [u8])
+fn take_bytes(b: &[u8], e: usize, table: &[u8], out: &mut [u8])
     requires { ⌜ (68 ≤ e) × (e ≤ length (now b)) ⌝ }
 {
     let s = settings_in(b);
+    let u = given_in(b);
     let word = shinglebar::shinglebar_ingress(
         s.port,
         s.inner,
@@ -428,16 +484,32 @@ fn take_in(b: &[u8], e: usize, table: &[u8], out: &mut [u8])
         s.confidence,
         s.seconds,
         &b[68..e],
-        numbers::be8(b, 32),
-        numbers::be8(b, 40),
-        numbers::be4(b, 48) as u32,
-        numbers::be4(b, 52) as u32,
-        numbers::be4(b, 56) as u32,
-        numbers::be4(b, 60) as u32,
+        u.destination,
+        u.source,
+        u.multicast,
+        u.hops,
+        u.egress,
+        u.ingress,
         &b[e..],
         out,
     );
     print_call(word, table, out);
+}
+
+// The same with the map as a slice of pairs, where it is of whole ones.
+fn take_in(b: &[u8], e: usize, table: &[u8], out: &mut [u8])
+    requires { ⌜ (68 ≤ e) × (e ≤ length (now b)) ⌝ }
+{
+    let map = &b[68..e];
+    if !whole_pairs(map) {
+        take_bytes(b, e, table, out);
+        return;
+    }
+    let s = settings_in(b);
+    let u = given_in(b);
+    let pairs = replay_pairs::pairs_in(map);
+    let a = replay_pairs::take_pairs(s, pairs, map.len() / PAIR_BYTES, u, &b[e..], out);
+    print_call(shinglebar::convert_word(a), table, out);
 }
 
 fn replay_ingress(b: &[u8], table: &[u8], area: &mut [u8]) -> bool {

@@ -36,6 +36,7 @@ use Rattle.convert.proofs.Sending.{sends-exactly}
 use Rattle.convert.proofs.Shown.{chosen-sent}
 use Rattle.receive.proofs.Outcomes.{read-refusal, reading-apart, reads-parsed, reading-leaves-alone, read-flush-exact}
 use Rattle.port_map.proofs.Searches.{search-inverse}
+use Rattle.port_map_pairs.proofs.Bytes.{holds as pair-bytes}
 use Rattle.receive.proofs.NoMap.{no-map-no-change}
 use Rattle.receive.proofs.Smart.{smart-port}
 use Rattle.receive.proofs.Padded.{padded-read}
@@ -107,7 +108,10 @@ returns c = (
                 (report-adds-up, report-rising, report-case, digits-read-back, report-fits),
                 (
                   (stop-never-shortened, stop-runs-out, sending-while-stopped, refused-watch-stays, watch-cases),
-                  (written-hello-reads, read-hello-writes, read-is-writable, written-are-bytes, written-is-plain, area-is, calls-undo, hello-refusal, worked.cases-hold),
+                  (
+                    (written-hello-reads, read-hello-writes, read-is-writable, written-are-bytes, written-is-plain, area-is, calls-undo, hello-refusal, worked.cases-hold),
+                    pair-bytes,
+                  ),
                 ),
               ),
             ),
