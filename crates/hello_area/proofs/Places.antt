@@ -125,7 +125,7 @@ inside-or ns i P a b = go (leb i (length ns)) refl
 
 -- two takers, one behind the other
 module _ {A B C : Type 0} (ns : List ℕ) (i : ℕ) (p : Taker A) (s : Suffix p) (q : Taker B) (h : A → B → C) (r : Taker C)
-         (shape : r (drop i ns) ≡ andThen (p (drop i ns)) λ t. andThen (q (t .rest)) λ u. taken (h (t .value) (u .value)) (u .rest)) where
+    (shape : r (drop i ns) ≡ andThen (p (drop i ns)) λ t. andThen (q (t .rest)) λ u. taken (h (t .value) (u .value)) (u .rest)) where
   chain-in : i ≤ length ns → reach r ns i ≡ reach q ns (reach p ns i)
   chain-in inside =
       reach-in r ns i inside
