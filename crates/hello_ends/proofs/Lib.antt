@@ -1,0 +1,4 @@
+-- Laws of ends, for this crate.
+pub mod Numbers
+pub mod Shapes
+pub mod Judged

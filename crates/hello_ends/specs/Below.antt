@@ -1,0 +1,32 @@
+-- One number below a limit, and two of them.
+-- Assumes nothing.
+use Prim.Native.Nat.{ℕ}
+use mathlib.Core.Bool.{Bool}
+use mathlib.Core.List.{List}
+use lib.Dec.{ltb}
+use Rattle.numbers.specs.Tests.{both}
+use Rattle.numbers.specs.Result.{Result, refused, got}
+use Rattle.hello.specs.Area.{Taken, Taker, taken, takeOne, then}
+use Rattle.hello_area.specs.Entries.{via}
+
+unfoldable pub takeBelow : ℕ → Taker ℕ
+takeBelow top = via takeOne (λ n. ltb n top) (λ n. n)
+
+pub record TwoNumbers : Type 0 where
+  pub left : ℕ
+  pub right : ℕ
+
+unfoldable pub takePair : Taker TwoNumbers
+takePair = then takeOne λ x. then takeOne λ y. taken (record { left = x; right = y })
+
+unfoldable pub pairBelow : ℕ → ℕ → TwoNumbers → Bool
+pairBelow a b x = both (ltb (x .left) a) (ltb (x .right) b)
+
+-- two numbers below their limits
+unfoldable pub takeTwo : ℕ → ℕ → Taker TwoNumbers
+takeTwo a b = via takePair (pairBelow a b) (λ x. x)
+
+-- the number of a refusal, or 0
+abbrev pub refusalOf : {A : Type 0} → Result A → ℕ
+refusalOf (refused n) = n
+refusalOf (got x) = 0

@@ -1,0 +1,242 @@
+// Where the entries of a contents area end; past its end where one is malformed. Places are counted in numbers of 8 bytes.
+ghost use Prim.Native.Nat.{_*_, _<_, _≤_};
+ghost use mathlib.Core.Path.{_≡_};
+ghost use lib.ListN.{length, getD};
+ghost use Rattle.hello.specs.Writing.{labelTop};
+ghost use Rattle.hello.specs.Area.{takeMany, takeCounted};
+ghost use Rattle.hello.specs.Calls.{areaWritten};
+ghost use Rattle.hello_area.specs.Entries.{numbersIn, takeHead, takeItem, mostOf, takeList, takeSub, takeSubs, reach};
+ghost use Rattle.hello_ends.specs.Below.{takeBelow, refusalOf};
+use hello::HELLO_MALFORMED;
+use hello::PARAMETERS_MISSING;
+
+// The types of the sections.
+const PARAMETERS: u8 = 22;
+
+const SMART_MAC: u8 = 23;
+
+const NICKNAME: u8 = 6;
+
+const TREES: u8 = 8;
+
+// How many numbers an area has.
+fn size(area: &[u8]) -> usize
+    ensures { λ r. ⌜ (r ≡ length (numbersIn (now (area .entry)))) × (8 * r ≤ length (now (area .entry))) ⌝ }
+{
+    area.len() / 8
+}
+
+// The number at a place.
+fn number(area: &[u8], i: usize) -> u64
+    requires { ⌜ i < length (numbersIn (now area)) ⌝ }
+    ensures { λ r. ⌜ r ≡ getD (numbersIn (now (area .entry))) i 0 ⌝ }
+{
+    numbers::be8(area, 8 * i)
+}
+
+// One number below a limit.
+fn number_end(area: &[u8], i: usize, top: u64) -> usize
+    ensures { λ r. ⌜ r ≡ reach (takeBelow top) (numbersIn (now (area .entry))) i ⌝ }
+{
+    let n = size(area);
+    if n <= i {
+        return n + 1;
+    }
+    if number(area, i) < top {
+        return i + 1;
+    }
+    n + 1
+}
+
+// The record of a nickname.
+fn nickname_end(area: &[u8], i: usize) -> usize
+    ensures { λ r. ⌜ r ≡ reach (takeItem 6) (numbersIn (now (area .entry))) i ⌝ }
+{
+    let a = number_end(area, i, 0x100);
+    let b = number_end(area, a, 0x1_0000);
+    number_end(area, b, 0x1_0000)
+}
+
+// An element of the list of an entry.
+fn item_end(kind: u8, area: &[u8], i: usize) -> usize
+    ensures { λ r. ⌜ r ≡ reach (takeItem kind) (numbersIn (now (area .entry))) i ⌝ }
+{
+    if kind == NICKNAME {
+        return nickname_end(area, i);
+    }
+    if kind == TREES {
+        return number_end(area, i, 0x1_0000);
+    }
+    number_end(area, i, 0x1_0000_0000_0000)
+}
+
+// So many elements of the list of an entry.
+fn items_end(kind: u8, area: &[u8], i: usize, m: usize) -> usize
+    ensures { λ r. ⌜ r ≡ reach (takeMany (takeItem kind) m) (numbersIn (now (area .entry))) i ⌝ }
+{
+    let n = size(area);
+    let mut at = i;
+    let mut j = 0;
+    while j < m {
+        if n < at {
+            return n + 1;
+        }
+        at = item_end(kind, area, at);
+        j += 1;
+    }
+    if n < at {
+        return n + 1;
+    }
+    at
+}
+
+// The most elements of a list.
+fn most(kind: u8) -> u64
+    ensures { λ r. ⌜ r ≡ mostOf kind ⌝ }
+{
+    if kind == NICKNAME {
+        return 49;
+    }
+    if kind == TREES {
+        return 123;
+    }
+    41
+}
+
+// The list of an entry, behind its count.
+fn list_end(kind: u8, area: &[u8], i: usize) -> usize
+    ensures { λ r. ⌜ r ≡ reach (takeList kind) (numbersIn (now (area .entry))) i ⌝ }
+{
+    let n = size(area);
+    if n <= i {
+        return n + 1;
+    }
+    let m = number(area, i);
+    if most(kind) < m {
+        return n + 1;
+    }
+    items_end(kind, area, i + 1, m as usize)
+}
+
+fn parameters_end(area: &[u8], i: usize) -> usize
+    ensures { λ r. ⌜ r ≡ reach (takeHead 22) (numbersIn (now (area .entry))) i ⌝ }
+{
+    let a = number_end(area, i, 0x1_0000);
+    number_end(area, a, 0x1_0000)
+}
+
+fn label_top(f: u64) -> u64
+    ensures { λ r. ⌜ r ≡ labelTop f ⌝ }
+{
+    if f == 1 {
+        return 0x100_0000;
+    }
+    0x1000
+}
+
+// F, M and the label of a Smart-MAC.
+fn label_end(area: &[u8], i: usize) -> usize
+    ensures { λ r. ⌜ r ≡ reach (takeHead 23) (numbersIn (now (area .entry))) i ⌝ }
+{
+    let n = size(area);
+    if n <= i {
+        return n + 1;
+    }
+    let top = label_top(number(area, i));
+    let a = number_end(area, i, 2);
+    let b = number_end(area, a, 2);
+    number_end(area, b, top)
+}
+
+// What stands in front of the list of an entry.
+fn head_end(kind: u8, area: &[u8], i: usize) -> usize
+    ensures { λ r. ⌜ r ≡ reach (takeHead kind) (numbersIn (now (area .entry))) i ⌝ }
+{
+    if kind == PARAMETERS {
+        return parameters_end(area, i);
+    }
+    if kind == NICKNAME {
+        let n = size(area);
+        if n < i {
+            return n + 1;
+        }
+        return i;
+    }
+    if kind == TREES {
+        return number_end(area, i, 0x1_0000);
+    }
+    label_end(area, i)
+}
+
+// An entry of a section.
+pub fn entry_end(kind: u8, area: &[u8], i: usize) -> usize
+    ensures { λ r. ⌜ r ≡ reach (takeSub kind) (numbersIn (now (area .entry))) i ⌝ }
+{
+    let h = head_end(kind, area, i);
+    if kind == PARAMETERS {
+        return h;
+    }
+    list_end(kind, area, h)
+}
+
+// So many entries of a section.
+fn entries_end(kind: u8, area: &[u8], i: usize, m: usize) -> usize
+    ensures { λ r. ⌜ r ≡ reach (takeMany (takeSub kind) m) (numbersIn (now (area .entry))) i ⌝ }
+{
+    let n = size(area);
+    let mut at = i;
+    let mut j = 0;
+    while j < m {
+        if n < at {
+            return n + 1;
+        }
+        at = entry_end(kind, area, at);
+        j += 1;
+    }
+    if n < at {
+        return n + 1;
+    }
+    at
+}
+
+// A section, behind its count.
+fn section_end(kind: u8, area: &[u8], i: usize) -> usize
+    ensures { λ r. ⌜ r ≡ reach (takeCounted (takeSub kind)) (numbersIn (now (area .entry))) i ⌝ }
+{
+    let n = size(area);
+    if n <= i {
+        return n + 1;
+    }
+    entries_end(kind, area, i + 1, number(area, i) as usize)
+}
+
+// The four sections.
+pub fn area_end(area: &[u8]) -> usize
+    ensures { λ r. ⌜ r ≡ reach takeSubs (numbersIn (now (area .entry))) 0 ⌝ }
+{
+    let a = section_end(PARAMETERS, area, 0);
+    let b = section_end(NICKNAME, area, a);
+    let c = section_end(TREES, area, b);
+    section_end(SMART_MAC, area, c)
+}
+
+// The number that writing a contents area is refused with before its room is judged, or 0.
+pub fn judge(area: &[u8]) -> u8
+    ensures { λ r. ⌜ r ≡ refusalOf (areaWritten (now (area .entry))) ⌝ }
+{
+    if area.len() % 8 != 0 {
+        return HELLO_MALFORMED;
+    }
+    let n = size(area);
+    if area_end(area) != n {
+        return HELLO_MALFORMED;
+    }
+    let p = number(area, 0);
+    if 1 < p {
+        return HELLO_MALFORMED;
+    }
+    if p < 1 {
+        return PARAMETERS_MISSING;
+    }
+    0
+}
