@@ -1,5 +1,6 @@
 //! Smart-Hellos (document 02, 2026-13): payloads read into contents, compared through the C boundary.
 
+use shinglebar_tests::c_program;
 use shinglebar_tests::compare;
 use shinglebar_tests::generate;
 use shinglebar_tests::hellos;
@@ -260,4 +261,9 @@ fn a_payload_as_long_as_a_frame_is_read() {
         }
         assert_eq!(read(&mut random, &payload).0 & 0xFF, 64);
     }
+}
+
+#[test]
+fn the_header_passes_null_areas_and_walks_through_contents() {
+    c_program::compile_and_run("null_hello.c");
 }
