@@ -246,6 +246,12 @@ static uint64_t call_report(void)
     return shinglebar_report(table, sizeof table, text, sizeof text);
 }
 
+static uint64_t call_hello_read(void)
+{
+    static uint8_t contents[16 * PAYLOAD_MAX];
+    return shinglebar_hello_read(payload, payload_length, contents, sizeof contents);
+}
+
 static uint64_t call_age(void)
 {
     return shinglebar_age(299, table, sizeof table);
@@ -411,6 +417,33 @@ static void reports(void)
     within("report", few > many ? few : many, SHINGLEBAR_STACK_MAX);
 }
 
+/* A Smart-Hello of so many bytes with each kind in a TLV of its own, Smart-Parameters last. */
+static void make_hello(size_t room)
+{
+    static const uint8_t PARAMETERS[] = {0xFB, 9, 0, 0, 1, 22, 4, 0, 30, 0, 0};
+    static const uint8_t PIECES[] = {0xF2, 12, 0, 0, 0, 0, 0, 6, 5, 1, 2, 3, 4, 5, 0xF2, 11, 0, 0, 0, 0, 0, 8, 4, 0, 1, 2, 3,
+                                     0xFB, 15, 0, 0, 1, 23, 10, 0x80, 0, 0, 1, 2, 3, 4, 5, 6, 7};
+    size_t at = 0, i;
+    while (at + sizeof PIECES + sizeof PARAMETERS <= room)
+        for (i = 0; i < sizeof PIECES; i++)
+            payload[at++] = PIECES[i];
+    for (i = 0; i < sizeof PARAMETERS; i++)
+        payload[at++] = PARAMETERS[i];
+    payload_length = at;
+}
+
+static void hellos(void)
+{
+    static const size_t ROOMS[] = {11, 100, 300, 1000, 9000, PAYLOAD_MAX};
+    size_t read = 0, took, r;
+    for (r = 0; r < sizeof ROOMS / sizeof ROOMS[0]; r++) {
+        make_hello(ROOMS[r]);
+        took = taken("hello_read", call_hello_read, SHINGLEBAR_HELLO_READ_WRITTEN);
+        read = took > read ? took : read;
+    }
+    within("hello_read", read, SHINGLEBAR_STACK_MAX_WITHOUT_FLUSH);
+}
+
 /* Reading without a flush and ingress, with maps of so many pairs. */
 static void mapped(const unsigned *pairs, size_t count, unsigned (*label)(unsigned), size_t most)
 {
@@ -449,5 +482,6 @@ int main(void)
     others();
     maps();
     reports();
+    hellos();
     return failures == 0 ? 0 : 1;
 }

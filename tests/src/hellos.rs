@@ -76,101 +76,6 @@ pub fn contents(random: &mut Random) -> Contents {
     }
 }
 
-/// One of the contents' numbers over its field, or a list over what a TLV holds; what it is.
-pub fn spoil(random: &mut Random, contents: &mut Contents) -> &'static str {
-    let wide = |random: &mut Random, bits: u32| 1 << random.between(bits.into(), 63);
-    let parameters = contents.parameters.as_mut().expect("contents have them");
-    match random.below(12) {
-        0 => {
-            parameters.holding |= wide(random, 16);
-            "holding time"
-        }
-        1 => {
-            parameters.flags |= wide(random, 16);
-            "flags"
-        }
-        at @ 2..=4 => {
-            let mut record = Nickname {
-                priority: 0,
-                root_priority: 0,
-                nickname: 0,
-            };
-            match at {
-                2 => record.priority = wide(random, 8),
-                3 => record.root_priority = wide(random, 16),
-                _ => record.nickname = wide(random, 16),
-            }
-            let mut list = nicknames(random);
-            list.truncate(48);
-            let place = random.length(0, list.len());
-            list.insert(place, record);
-            contents.nicknames.push(list);
-            ["priority", "root priority", "nickname"][at as usize - 2]
-        }
-        5 => {
-            contents.nicknames.push(vec![
-                Nickname {
-                    priority: 0,
-                    root_priority: 0,
-                    nickname: 0,
-                };
-                50
-            ]);
-            "50 records"
-        }
-        6 => {
-            let mut tree = trees(random);
-            tree.nicknames.truncate(122);
-            let number = wide(random, 16);
-            match random.below(2) {
-                0 => tree.start = number,
-                _ => tree.nicknames.push(number),
-            }
-            contents.trees.push(tree);
-            "a number of a tree"
-        }
-        7 => {
-            contents.trees.push(Trees {
-                start: 1,
-                nicknames: vec![1; 124],
-            });
-            "124 nicknames of trees"
-        }
-        8 => {
-            let mut mac = smart_mac(random);
-            match random.below(2) {
-                0 => mac.fine = random.pick(&[2, 3, 1 << 32, u64::MAX]),
-                _ => mac.multihomed = random.pick(&[2, 3, 1 << 32, u64::MAX]),
-            }
-            contents.macs.push(mac);
-            "F or M"
-        }
-        9 => {
-            let mut mac = smart_mac(random);
-            mac.fine = 0;
-            mac.label = 1 << random.between(12, 23);
-            contents.macs.push(mac);
-            "a label of more than 12 bits with F 0"
-        }
-        10 => {
-            let mut mac = smart_mac(random);
-            mac.label = wide(random, 24);
-            contents.macs.push(mac);
-            "a label of more than 24 bits"
-        }
-        _ => {
-            let mut mac = smart_mac(random);
-            mac.macs.truncate(40);
-            match random.below(2) {
-                0 => mac.macs.push(wide(random, 48)),
-                _ => mac.macs = vec![1; 42],
-            }
-            contents.macs.push(mac);
-            "a MAC, or 42 of them"
-        }
-    }
-}
-
 /// A piece: type, length, value.
 fn piece(kind: u8, value: &[u8]) -> Vec<u8> {
     let mut bytes = vec![kind, value.len() as u8];
@@ -238,8 +143,12 @@ fn tlv(random: &mut Random) -> Vec<u8> {
     }
 }
 
-/// A payload with Smart-Parameters somewhere, mostly once.
-pub fn payload(random: &mut Random) -> Vec<u8> {
+/// A payload with Smart-Parameters somewhere, mostly once, and whether they are there twice. Now and then one that the writer makes, so
+/// or with its TLVs in another order.
+pub fn payload(random: &mut Random) -> (Vec<u8>, bool) {
+    if random.one_in(4) {
+        return (grouped(random), false);
+    }
     let mut tlvs = Vec::new();
     for _ in 0..random.length(0, 6) {
         tlvs.push(tlv(random));
@@ -263,5 +172,57 @@ pub fn payload(random: &mut Random) -> Vec<u8> {
         let place = random.length(0, tlvs.len());
         tlvs.insert(place, piece(GENINFO, &value));
     }
-    tlvs.concat()
+    (tlvs.concat(), times == 2)
+}
+
+/// Contents as the writer makes them; or their sub-TLVs in any order and grouping, each TLV as full as it gets or not.
+fn grouped(random: &mut Random) -> Vec<u8> {
+    let written = contents(random)
+        .write()
+        .expect("contents that can be written");
+    if random.one_in(2) {
+        return written;
+    }
+    let mut subs = subs_of(&written);
+    for at in (1..subs.len()).rev() {
+        subs.swap(at, random.length(0, at));
+    }
+    let mut tlvs: Vec<(u8, Vec<u8>)> = Vec::new();
+    let apart = random.one_in(2);
+    for (holder, sub) in subs {
+        let head: &[u8] = if holder == GENINFO {
+            &[0, 0, 1]
+        } else {
+            &[0; 5]
+        };
+        let split = apart && random.one_in(3);
+        // the first TLV of this kind that has room, whatever stands between
+        let room = tlvs
+            .iter_mut()
+            .find(|(kind, value)| *kind == holder && value.len() + sub.len() <= 255 && !split);
+        match room {
+            Some((_, value)) => value.extend(sub),
+            None => tlvs.push((holder, [head, &sub].concat())),
+        }
+    }
+    tlvs.iter()
+        .flat_map(|(kind, value)| piece(*kind, value))
+        .collect()
+}
+
+/// The sub-TLVs of a written payload with the type of their TLV.
+fn subs_of(written: &[u8]) -> Vec<(u8, Vec<u8>)> {
+    let mut found = Vec::new();
+    let mut rest = written;
+    while let [holder, length, after @ ..] = rest {
+        let (value, next) = after.split_at(usize::from(*length));
+        let mut subs = &value[if *holder == GENINFO { 3 } else { 5 }..];
+        while !subs.is_empty() {
+            let (sub, left) = subs.split_at(2 + usize::from(subs[1]));
+            found.push((*holder, sub.to_vec()));
+            subs = left;
+        }
+        rest = next;
+    }
+    found
 }

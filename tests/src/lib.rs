@@ -14,7 +14,7 @@
 //! | tests/flush.rs | flush |
 //! | tests/why.rs | why, and flush beside it |
 //! | tests/report.rs | report, and the program `morning_report` |
-//! | tests/hello.rs | hello_read, hello_write |
+//! | tests/hello.rs | hello_read |
 //! | tests/write.rs | write_flush, and flush with what it wrote |
 //! | tests/receive.rs | receive |
 //! | tests/convert.rs | compact, expand, send |

@@ -2924,7 +2924,10 @@ fn hello_tells_what_a_smart_hello_says() {
          trees from 1: 1234 1235\n\
          VLAN 10, multihomed: 02-00-00-00-00-01\n"
     );
-    same_facts(&printed, &good(&run_in(&folder, &[&words[..], &["--json"]].concat())));
+    same_facts(
+        &printed,
+        &good(&run_in(&folder, &[&words[..], &["--json"]].concat())),
+    );
     for (digits, refused) in [("FB", "refused 25: "), ("", "refused 26: ")] {
         let output = run_in(&folder, &["hello", "--hex", digits]);
         assert!(text(&output.stderr).contains(refused));

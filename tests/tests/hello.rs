@@ -1,10 +1,11 @@
-//! Smart-Hellos (document 02, 2026-13): payloads read into contents and written from them, compared through the C boundary.
+//! Smart-Hellos (document 02, 2026-13): payloads read into contents, compared through the C boundary.
 
+use shinglebar_tests::c_program;
 use shinglebar_tests::compare;
 use shinglebar_tests::generate;
 use shinglebar_tests::hellos;
 use shinglebar_tests::random::Random;
-use shinglebar_tests::reference::{Contents, Nickname, Parameters, SmartMac, Trees};
+use shinglebar_tests::reference::Contents;
 use shinglebar_tests::run;
 
 fn bytes(hex: &str) -> Vec<u8> {
@@ -25,15 +26,6 @@ fn read(random: &mut Random, payload: &[u8]) -> (u64, Vec<u8>) {
     let written = if word & 0xFF == 64 { word >> 8 } else { 0 };
     contents.truncate(written as usize);
     (word, contents)
-}
-
-/// Writes contents to an area that has room: the word, and what was written.
-fn write(random: &mut Random, contents: &[u8]) -> (u64, Vec<u8>) {
-    let mut out = vec![0xEE; 2 * contents.len() + 64];
-    let word = compare::hello_write(random, contents, &mut out);
-    let written = if word & 0xFF == 64 { word >> 8 } else { 0 };
-    out.truncate(written as usize);
-    (word, out)
 }
 
 const VECTOR: &str =
@@ -62,15 +54,10 @@ const NUMBERS: [u64; 19] = [
 ];
 
 #[test]
-fn the_vector_of_the_request_is_read_and_written() {
-    let mut random = run::random("the_vector_of_the_request_is_read_and_written");
+fn the_vector_of_the_request_is_read() {
+    let mut random = run::random("the_vector_of_the_request_is_read");
     let payload = bytes(VECTOR);
     assert_eq!(read(&mut random, &payload), (64 | 152 << 8, area(&NUMBERS)));
-    let length = payload.len() as u64;
-    assert_eq!(
-        write(&mut random, &area(&NUMBERS)),
-        (64 | length << 8, payload)
-    );
 }
 
 #[test]
@@ -181,20 +168,21 @@ fn every_length_that_a_type_does_not_allow_is_25() {
 }
 
 #[test]
-fn payloads_are_read_as_the_paper_says_and_what_is_read_can_be_written() {
+fn payloads_are_read_as_the_paper_says() {
     run::cases(
-        "payloads_are_read_as_the_paper_says_and_what_is_read_can_be_written",
+        "payloads_are_read_as_the_paper_says",
         1,
         run::HELLO,
         &[
-            "back as it was",
-            "back otherwise",
-            "longer than it was",
+            "as the writer makes it",
+            "otherwise",
+            "shorter than the writer makes it",
+            "Smart-Parameters twice",
             "cut",
             "a byte changed",
         ],
         |random, tally| {
-            let mut payload = hellos::payload(random);
+            let (mut payload, twice) = hellos::payload(random);
             match random.below(10) {
                 0 => {
                     let length = random.length(0, payload.len());
@@ -205,155 +193,77 @@ fn payloads_are_read_as_the_paper_says_and_what_is_read_can_be_written() {
                     generate::change_one_byte(random, &mut payload);
                     tally.situation("a byte changed");
                 }
+                _ if twice => tally.situation("Smart-Parameters twice"),
                 _ => {}
             }
             let (word, contents) = read(random, &payload);
             let length = generate::area_length(random, contents.len());
-            let mut short = random.bytes(length);
-            tally.word(compare::hello_read(random, &payload, &mut short));
+            let mut area = random.bytes(length);
+            tally.word(compare::hello_read(random, &payload, &mut area));
             if word & 0xFF != 64 {
                 return;
             }
-            // what was read, writing never refuses with 25 or 26; and it is read again as the same
-            let (word, out) = write(random, &contents);
-            assert_eq!(word & 0xFF, 64);
-            assert_eq!(read(random, &out).1, contents);
-            tally.situation(if out == payload {
-                "back as it was"
+            // what was read can be written, and is read again as the same
+            let again = Contents::of_area(&contents).and_then(|contents| contents.write());
+            let again = again.expect("what was read");
+            assert_eq!(read(random, &again).1, contents);
+            tally.situation(if again == payload {
+                "as the writer makes it"
             } else {
-                "back otherwise"
+                "otherwise"
             });
-            if out.len() > payload.len() {
-                tally.situation("longer than it was");
+            if again.len() > payload.len() {
+                tally.situation("shorter than the writer makes it");
             }
         },
     );
 }
 
 #[test]
-fn contents_are_written_as_the_paper_says_and_read_back_the_same() {
+fn written_contents_are_read_as_they_were() {
     run::cases(
-        "contents_are_written_as_the_paper_says_and_read_back_the_same",
-        1,
-        run::HELLO,
-        &[
-            "holding time",
-            "flags",
-            "priority",
-            "root priority",
-            "nickname",
-            "50 records",
-            "a number of a tree",
-            "124 nicknames of trees",
-            "F or M",
-            "a label of more than 12 bits with F 0",
-            "a label of more than 24 bits",
-            "a MAC, or 42 of them",
-            "no parameters",
-            "no parameters, and 25 comes first",
-            "two parameters",
-            "length no multiple of 8",
-            "numbers cut off",
-            "numbers left over",
-            "a number changed",
-            "several TLVs of one kind",
-        ],
+        "written_contents_are_read_as_they_were",
+        2,
+        &[(16, "refusal 16: area"), (64, "written")],
+        &["several TLVs of one kind", "nothing but Smart-Parameters"],
         |random, tally| {
-            let mut contents = hellos::contents(random);
-            if random.one_in(4) {
-                tally.situation(hellos::spoil(random, &mut contents));
-                if random.one_in(4) {
-                    contents.parameters = None;
-                    tally.situation("no parameters, and 25 comes first");
-                }
-            } else if random.one_in(12) {
-                contents.parameters = None;
-                tally.situation("no parameters");
-            }
-            let mut numbers = contents.area();
-            match random.below(24) {
-                0 => {
-                    numbers.truncate(random.length(0, numbers.len()));
-                    tally.situation("length no multiple of 8");
-                }
-                1 => {
-                    numbers.truncate(8 * random.length(0, numbers.len() / 8));
-                    tally.situation("numbers cut off");
-                }
-                2 => {
-                    let more = 8 * random.length(1, 3);
-                    numbers.extend(random.bytes(more));
-                    tally.situation("numbers left over");
-                }
-                3 => {
-                    let at = 8 * random.length(0, numbers.len() / 8 - 1);
-                    let number = match random.below(3) {
-                        0 => random.number(),
-                        1 => random.below(4),
-                        _ => u64::MAX / 3,
-                    };
-                    numbers[at..at + 8].copy_from_slice(&number.to_be_bytes());
-                    tally.situation("a number changed");
-                }
-                4 => {
-                    numbers[..8].copy_from_slice(&random.between(2, 4).to_be_bytes());
-                    tally.situation("two parameters");
-                }
-                _ => {}
-            }
-            let (word, out) = write(random, &numbers);
-            let length = generate::area_length(random, out.len());
-            let mut short = random.bytes(length);
-            tally.word(compare::hello_write(random, &numbers, &mut short));
-            if word & 0xFF != 64 {
-                return;
-            }
-            assert_eq!(read(random, &out).1, numbers);
-            if out.len() > 255 + 2 + 255 + 2 + 255 + 2 {
+            let contents = hellos::contents(random);
+            let payload = contents.write().expect("contents that can be written");
+            let numbers = contents.area();
+            assert_eq!(read(random, &payload).1, numbers);
+            let length = generate::area_length(random, numbers.len());
+            let mut area = random.bytes(length);
+            tally.word(compare::hello_read(random, &payload, &mut area));
+            if payload.len() > 3 * (2 + 255) {
                 tally.situation("several TLVs of one kind");
             }
+            if numbers.len() == 48 {
+                tally.situation("nothing but Smart-Parameters");
+            }
         },
     );
 }
 
-/// The longest lists that a TLV holds, and one more of each.
+/// The longest payload that a frame has room for, in the pieces that make the longest contents and in one that makes the shortest.
 #[test]
-fn a_list_as_long_as_a_tlv_holds_is_written_and_a_longer_one_is_25() {
-    let mut random = run::random("a_list_as_long_as_a_tlv_holds_is_written_and_a_longer_one_is_25");
-    let record = Nickname {
-        priority: 255,
-        root_priority: 0xFFFF,
-        nickname: 0xFFFF,
-    };
-    let with = |records: usize, trees: usize, macs: usize| Contents {
-        parameters: Some(Parameters {
-            holding: 0xFFFF,
-            flags: 0xFFFF,
-        }),
-        nicknames: vec![vec![record; records]],
-        trees: vec![Trees {
-            start: 0xFFFF,
-            nicknames: vec![0xFFFF; trees],
-        }],
-        macs: vec![SmartMac {
-            fine: 1,
-            multihomed: 1,
-            label: 0xFF_FFFF,
-            macs: vec![0xFFFF_FFFF_FFFF; macs],
-        }],
-    };
-    for (records, trees, macs, expected) in [
-        (49, 123, 41, 64),
-        (50, 123, 41, 25),
-        (49, 124, 41, 25),
-        (49, 123, 42, 25),
-        (0, 0, 0, 64),
+fn a_payload_as_long_as_a_frame_is_read() {
+    let mut random = run::random("a_payload_as_long_as_a_frame_is_read");
+    let parameters = bytes("FB 09 00 0001 16 04 001E 0000");
+    for piece in [
+        bytes("F2 09 00000000 00 06 00 06 00"),
+        bytes("F2 0D 00000000 00 08 02 0001 08 02 0001"),
+        bytes("FB 0F 00 0001 17 04 80FFFFFF 17 04 00000FFF"),
+        [vec![145, 255], vec![0; 255]].concat(),
     ] {
-        let contents = with(records, trees, macs).area();
-        let (word, out) = write(&mut random, &contents);
-        assert_eq!(word & 0xFF, expected);
-        if expected == 64 {
-            assert_eq!(read(&mut random, &out).1, contents);
+        let mut payload = parameters.clone();
+        while payload.len() + piece.len() <= 9000 {
+            payload.extend(&piece);
         }
+        assert_eq!(read(&mut random, &payload).0 & 0xFF, 64);
     }
+}
+
+#[test]
+fn the_header_passes_null_areas_and_walks_through_contents() {
+    c_program::compile_and_run("null_hello.c");
 }

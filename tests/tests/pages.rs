@@ -7,10 +7,11 @@ use std::process::{Command, ExitStatus};
 
 use shinglebar_tests::compare;
 use shinglebar_tests::generate::{self, Pool};
+use shinglebar_tests::hellos;
 use shinglebar_tests::maps;
 use shinglebar_tests::pages::{Access, Pages};
 use shinglebar_tests::random::Random;
-use shinglebar_tests::reference::{reported, Settings, OLD_RECORD, RECORD};
+use shinglebar_tests::reference::{reported, Contents, Settings, OLD_RECORD, RECORD};
 use shinglebar_tests::run;
 
 /// Each case makes many calls: one for each side, and for each length at which the frame or payload is
@@ -360,6 +361,28 @@ fn report_touches_only_what_it_is_lent() {
             let out = random.bytes(length);
             for pages in &mut both {
                 tally.word(compare::report(pages, &table, &mut out.clone()));
+            }
+        },
+    );
+}
+
+#[test]
+fn hello_read_touches_only_what_it_is_lent() {
+    let mut both = Pages::both();
+    run::cases(
+        "hello_read_touches_only_what_it_is_lent",
+        3 * SHARE,
+        run::HELLO,
+        &[],
+        |random, tally| {
+            let (payload, _) = hellos::payload(random);
+            for payload in variants(random, payload) {
+                let result = Contents::read(&payload).map_or(0, |found| found.area().len());
+                let length = generate::area_length(random, result);
+                let area = random.bytes(length);
+                for pages in &mut both {
+                    tally.word(compare::hello_read(pages, &payload, &mut area.clone()));
+                }
             }
         },
     );

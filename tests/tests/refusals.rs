@@ -92,6 +92,34 @@ fn why_refuses_in_its_order() {
     }
 }
 
+/// 25 of any piece is before 26, and both are before 16.
+#[test]
+fn hello_read_refuses_in_its_order() {
+    const PARAMETERS: &[u8] = &[0xFB, 9, 0, 0, 1, 22, 4, 0, 30, 0, 0];
+    const CORRUPT: &[u8] = &[0xF2, 4, 0, 0, 0, 0];
+    const SKIPPED: &[u8] = &[145, 0];
+    for (payload, word) in [
+        (vec![PARAMETERS], 64 | 48 << 8),
+        (vec![PARAMETERS, SKIPPED], 64 | 48 << 8),
+        (vec![PARAMETERS, PARAMETERS], 25),
+        (vec![PARAMETERS, CORRUPT], 25),
+        (vec![CORRUPT, PARAMETERS], 25),
+        (vec![SKIPPED, CORRUPT], 25),
+        (vec![CORRUPT], 25),
+        (vec![SKIPPED], 26),
+        (vec![], 26),
+    ] {
+        let payload = payload.concat();
+        for room in [0, 40, 47, 48, 49] {
+            let mut area = vec![0xEE; room];
+            let expected = if word > 26 && room < 48 { 16 } else { word };
+            let called = raw::hello_read(&payload, &mut area);
+            assert_eq!(called, expected, "{payload:?}, {room}");
+            assert!(called > 26 || area == vec![0xEE; room]);
+        }
+    }
+}
+
 /// What makes a call fail the test of a step; the number is that of `row`, which is another one where the
 /// step refers to it.
 struct Fault {

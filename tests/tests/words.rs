@@ -3,11 +3,13 @@
 //! taken for any.
 
 use shinglebar::{
-    decode, encode, raw, Aged, Answer, CampusLabel, Compacted, Encapsulation, Expanded, Flushed,
-    Found, Ingressed, Label, LabelBy, Learning, Mac, MacBy, NicknameBy, Outer, Pair, PortVlan,
-    Portioned, Received, ReceivedAtPort, Refusal, Reported, Sent, Settings, Spoilt, Why, Widened,
+    decode, encode, raw, Aged, Answer, CampusLabel, Compacted, Contents, Encapsulation, Expanded,
+    Flushed, Found, Ingressed, Label, LabelBy, Learning, Mac, MacBy, NicknameBy, NicknameRecord,
+    Outer, Pair, PortVlan, Portioned, ReadHello, Received, ReceivedAtPort, Refusal, Reported, Sent,
+    Settings, Spoilt, Why, Widened,
 };
 use shinglebar_tests::generate::{self, Pool};
+use shinglebar_tests::hellos;
 use shinglebar_tests::maps;
 use shinglebar_tests::random::Random;
 use shinglebar_tests::reference::{self, OLD_RECORD, RECORD};
@@ -162,6 +164,12 @@ impl Packed for Widened {
 impl Packed for Reported {
     fn packed(&self) -> u64 {
         value(64, self.length)
+    }
+}
+
+impl Packed for ReadHello {
+    fn packed(&self) -> u64 {
+        64 + 0x100 * self.length as u64
     }
 }
 
@@ -517,6 +525,114 @@ fn typed_report_gives_what_the_paper_says() {
     );
 }
 
+#[test]
+fn typed_hello_read_gives_what_the_paper_says() {
+    run::cases(
+        "typed_hello_read_gives_what_the_paper_says",
+        4,
+        run::HELLO,
+        &["the contents hold each kind"],
+        |random, tally| {
+            let (payload, _) = hellos::payload(random);
+            let found = reference::Contents::read(&payload);
+            let result = found.as_ref().map_or(0, |found| found.area().len());
+            let length = generate::area_length(random, result);
+            let mut area = random.bytes(length);
+            let mut paper_area = area.clone();
+            let outcome = shinglebar::hello_read(&payload, &mut area);
+            let paper = reference::hello_read(&payload, &mut paper_area);
+            assert_eq!(packed(outcome), paper, "{outcome:?}");
+            assert!(area == paper_area);
+            tally.word(paper);
+            if let (Ok(read), Ok(found)) = (outcome, found) {
+                let contents = Contents::new(&area[..read.length]).expect("what was read");
+                assert_eq!(as_reference(&contents), found);
+                if !found.nicknames.is_empty() && !found.trees.is_empty() && !found.macs.is_empty()
+                {
+                    tally.situation("the contents hold each kind");
+                }
+            }
+        },
+    );
+}
+
+/// What the typed contents show, as the second implementation has it.
+fn as_reference(contents: &Contents) -> reference::Contents {
+    let record = |record: NicknameRecord| reference::Nickname {
+        priority: record.priority.into(),
+        root_priority: record.root_priority.into(),
+        nickname: record.nickname.into(),
+    };
+    reference::Contents {
+        parameters: Some(reference::Parameters {
+            holding: contents.holding.into(),
+            flags: contents.flags.into(),
+        }),
+        nicknames: contents
+            .nicknames()
+            .map(|nicknames| nicknames.records().map(record).collect())
+            .collect(),
+        trees: contents
+            .trees()
+            .map(|trees| reference::Trees {
+                start: trees.start.into(),
+                nicknames: trees.nicknames().map(u64::from).collect(),
+            })
+            .collect(),
+        macs: contents
+            .macs()
+            .map(|smart| reference::SmartMac {
+                fine: smart.fine.into(),
+                multihomed: smart.multihomed.into(),
+                label: smart.label.into(),
+                macs: smart.macs().map(Mac::number).collect(),
+            })
+            .collect(),
+    }
+}
+
+/// An area that [`shinglebar::hello_read`] does not write has no typed contents: cut at any length, longer, or a number over its field.
+#[test]
+fn an_area_of_another_form_has_no_contents() {
+    let numbers = [
+        1u64,
+        30,
+        0,
+        1,
+        1,
+        0x40,
+        0x8000,
+        0x1234,
+        1,
+        1,
+        1,
+        0x1234,
+        1,
+        0,
+        1,
+        10,
+        1,
+        0x0200_0000_0001,
+    ];
+    let area = |numbers: &[u64]| -> Vec<u8> {
+        let bytes = numbers.iter().flat_map(|number| number.to_be_bytes());
+        bytes.collect()
+    };
+    let good = area(&numbers);
+    assert!(Contents::new(&good).is_some());
+    for length in 0..good.len() {
+        assert!(Contents::new(&good[..length]).is_none(), "{length}");
+    }
+    assert!(Contents::new(&[good, vec![0; 8]].concat()).is_none());
+    for at in 0..numbers.len() {
+        for number in [1 << 48, u64::MAX] {
+            let mut changed = numbers;
+            changed[at] = number;
+            assert!(Contents::new(&area(&changed)).is_none(), "{at}");
+        }
+    }
+}
+
 /// The bits of a word by their use: the low byte, those of values, and all others, which are 0.
 struct Bits {
     kind: u8,
@@ -645,6 +761,7 @@ fn a_word_that_is_no_answer_is_not_taken_for_one() {
     );
     check_words::<Widened>("widen", run::WIDEN, &[bits(64, ONE_VALUE, 0x0F40)]);
     check_words::<Reported>("report", run::REPORT, &[bits(64, ONE_VALUE, 0x1940)]);
+    check_words::<ReadHello>("hello_read", run::HELLO, &[bits(64, !0x7FF, 0x3040)]);
 }
 
 #[test]
@@ -679,13 +796,15 @@ fn values_that_no_answer_has_are_not_taken_for_one() {
     let report = |length: u64| decode::<Reported>(64 | length << 8).is_ok();
     assert!(!report(0) && !report(9) && report(10) && !report(11) && !report(15));
     assert!(report(16) && report(25) && report(36_880) && !report(36_881));
+    let contents = |length: u64| decode::<ReadHello>(64 | length << 8).is_ok();
+    assert!(!contents(0) && !contents(40) && contents(48) && !contents(49) && contents(56));
 }
 
 /// The words of the table of document 01, which the second implementation has as comments.
 #[test]
 fn the_refusals_are_those_of_the_header() {
     let header = include_str!("../../include/shinglebar.h");
-    let numbers: Vec<u64> = (1..=18).chain(21..=24).collect();
+    let numbers: Vec<u64> = (1..=18).chain(21..=26).collect();
     assert_eq!(Refusal::ALL.len(), numbers.len());
     for (number, refusal) in numbers.into_iter().zip(Refusal::ALL) {
         assert_eq!(u64::from(refusal.number()), number);
@@ -701,7 +820,7 @@ fn the_refusals_are_those_of_the_header() {
             "{line}"
         );
     }
-    for number in [0, 19, 20, 25, 64, 257, u64::MAX] {
+    for number in [0, 19, 20, 27, 64, 257, u64::MAX] {
         assert_eq!(Refusal::from_number(number), None);
     }
 }
@@ -743,4 +862,6 @@ fn empty_slices_are_areas_too() {
     assert_eq!(raw::widen(&[0; OLD_RECORD], &mut []), 16);
     assert_eq!(raw::report(&[], &mut []), 16);
     assert_eq!(raw::report(&[], &mut [0; 10]), 64 | 10 << 8);
+    assert_eq!(raw::hello_read(&[], &mut []), 26);
+    assert_eq!(raw::hello_read(&[0], &mut []), 25);
 }

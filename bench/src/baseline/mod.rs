@@ -12,6 +12,7 @@
 mod convert;
 mod flush;
 mod frame;
+mod hello;
 mod homes;
 mod ingress;
 mod map;
@@ -26,6 +27,7 @@ mod write;
 
 pub use convert::{compact, expand, send};
 pub use flush::{flush, flush_portion, flush_vlan_only, why};
+pub use hello::hello_read;
 pub use homes::widen;
 pub use ingress::ingress;
 pub use receive::{receive, receive_port};

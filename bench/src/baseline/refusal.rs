@@ -42,3 +42,7 @@ pub const MAP: u64 = 21;
 pub const NO_PAIR: u64 = 22;
 /// k is 0, or the slot number is n or more
 pub const PORTION: u64 = 24;
+/// Smart-Hello or its contents corrupt, or a number or list that cannot be written
+pub const HELLO: u64 = 25;
+/// Smart-Parameters missing
+pub const PARAMETERS_MISSING: u64 = 26;

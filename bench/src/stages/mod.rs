@@ -6,6 +6,8 @@ use crate::report::Report;
 mod convert;
 #[cfg(feature = "flush")]
 mod flush;
+#[cfg(feature = "hello")]
+mod hello;
 #[cfg(feature = "homes")]
 mod homes;
 #[cfg(feature = "map")]
@@ -40,6 +42,8 @@ const STAGES: &[fn(&Report)] = &[
     homes::run,
     #[cfg(feature = "table")]
     report::run,
+    #[cfg(feature = "hello")]
+    hello::run,
 ];
 
 pub fn run(report: &Report) {
