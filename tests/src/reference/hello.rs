@@ -142,14 +142,14 @@ impl Contents {
             return Err(Refusal::Hello);
         }
         let (head, mut rest) = value.split_at(GENINFO_HEAD);
+        // "a TLV of another kind (Neighbor too) or application" is skipped, whatever follows its application
+        if number(&head[1..]) != TRILL_APPLICATION {
+            return Ok(());
+        }
         for (flag, length) in [(IPV4_FLAG, 4), (IPV6_FLAG, 16)] {
             if head[0] & flag != 0 {
                 rest = rest.get(length..).ok_or(Refusal::Hello)?;
             }
-        }
-        // "or application"
-        if number(&head[1..]) != TRILL_APPLICATION {
-            return Ok(());
         }
         for (kind, value) in pieces(rest)? {
             match kind {
