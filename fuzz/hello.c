@@ -148,10 +148,10 @@ static int tlv(struct walk *walk, unsigned type, const uint8_t *value, size_t le
         return 1;
     if (length < 3)
         return 0;
+    if (number(value + 1, 2) != 1)
+        return 1;
     head = 3 + (value[0] & 0x04 ? 4u : 0u) + (value[0] & 0x08 ? 16u : 0u);
-    if (length < head)
-        return 0;
-    return number(value + 1, 2) != 1 || subs(walk, type, value + head, length - head);
+    return length >= head && subs(walk, type, value + head, length - head);
 }
 
 /* Whether the payload is good, but for the number of Smart-Parameters. */

@@ -57,6 +57,9 @@ fn payload(random: &mut Random) -> Vec<u8> {
             let addresses = (value[0] & 4) + 2 * (value[0] & 8);
             value.extend(bytes(random, addresses.into()));
             value[2] = if random.one_in(10) { 2 } else { 1 };
+            if random.one_in(20) {
+                value.truncate(random.between(0, value.len() as u64) as usize);
+            }
         }
         for _ in 0..random.between(0, 4) {
             value.extend(sub(random));

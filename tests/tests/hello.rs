@@ -146,13 +146,12 @@ fn every_length_that_a_type_does_not_allow_is_25() {
     }
     for (flags, addresses) in [(0x04, 4), (0x08, 16), (0x0C, 20)] {
         for length in 0..=24 {
-            // zeros behind the addresses are empty APPsub-TLVs of type 0
+            let value = |application: u8| [vec![flags, 0, application], vec![0; length]].concat();
+            // behind the addresses an empty piece of type 0 for each two bytes
             let whole = length >= addresses && (length - addresses) % 2 == 0;
-            for (application, expected) in [(1, if whole { 64 } else { 25 }), (2, 64)] {
-                let mut value = vec![flags, 0, application];
-                value.extend(vec![0; length]);
-                assert_eq!(last(&with(251, &value)), expected, "{flags} {length}");
-            }
+            let expected = if whole { 64 } else { 25 };
+            assert_eq!(last(&with(251, &value(1))), expected, "{flags} {length}");
+            assert_eq!(last(&with(251, &value(2))), 64, "{flags} {length}");
         }
     }
     for length in 0..3 {

@@ -112,11 +112,14 @@ unsafe fn judge_capability(counts: &mut Counts, value: *const u8, length: usize)
 
 #[inline(always)]
 unsafe fn judge_geninfo(counts: &mut Counts, value: *const u8, length: usize) -> bool {
-    if length < GENINFO_HEAD || length < head(value) {
+    if length < GENINFO_HEAD {
         return false;
     }
     if !is_ours(value) {
         return true;
+    }
+    if length < head(value) {
+        return false;
     }
     judge(
         value.add(head(value)),

@@ -142,7 +142,7 @@ impl Contents {
             return Err(Refusal::Hello);
         }
         let (head, mut rest) = value.split_at(GENINFO_HEAD);
-        // "All other types are skipped, and so is a TLV of another kind [..] or application": whatever follows that
+        // "a TLV of another kind (Neighbor too) or application" is skipped, whatever follows its application
         if number(&head[1..]) != TRILL_APPLICATION {
             return Ok(());
         }
