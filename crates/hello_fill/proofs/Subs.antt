@@ -2,7 +2,7 @@
 -- Assumes nothing.
 use Prim.Native.Nat.{ℕ, zero, suc, _+_, _-_, _*_, _/_, _%_, _<_, _≤_}
 use mathlib.Core.Bool.{Bool, true, false}
-use mathlib.Core.List.{List, [], _∷_, _++_, map, flatMap}
+use mathlib.Core.List.{List, [], _∷_, _++_, map, flatMap, append-nil}
 use mathlib.Core.Path.{_≡_, refl, sym, ap, _∙_}
 use native.Mathlib.Omega.{arith}
 use lib.Dec.{leb, eqb}
@@ -208,6 +208,10 @@ module _ (k h : ℕ) (v : List ℕ) (r : ℕ) (er : r ≡ holderFor k) where
 
 -- ---- a section
 
+empty : {A : Type 0} (xs : List A) → length xs ≡ 0 → xs ≡ []
+empty [] h = refl
+empty (x ∷ xs) h = absurd (omega arith)
+
 module _ (k : ℕ) (l : List ℕ) (n : ℕ) (en : n ≡ length (flatMap (brought k) (items l))) where
   section-words : sectionWords k (items l) ≡ bytesOf 8 n ++ flatMap (tlvWords k) (tlvs l)
   unfolding sectionWords section words tlvWords flatMap
@@ -228,3 +232,16 @@ module _ (k : ℕ) (l : List ℕ) (n : ℕ) (en : n ≡ length (flatMap (brought
 
     pub section-end : (r : ℕ) → r ≡ at + 8 + length (flatMap (tlvWords k) (tlvs l)) → r ≡ at + length (sectionWords k (items l))
     section-end r e = let n = section-length in omega arith
+
+    -- where there is none, the count is all
+    nothing-brought : n ≡ 0 → flatMap (tlvWords k) (tlvs l) ≡ []
+    unfolding tlvWords words joined flatMap
+    nothing-brought z =
+        let e : flatMap (brought k) (items l) ≡ [] = empty (flatMap (brought k) (items l)) (sym en ∙ z) in
+        sym (flat-flat (bytesOf 8) (tlvNumbers k) (tlvs l)) ∙ ap words (sym (joined-level k l) ∙ ap joined e)
+
+    pub empty-put : n ≡ 0 → (u : List ℕ) → u ≡ pasted out at (bytesOf 8 n) → u ≡ pasted out at (sectionWords k (items l))
+    empty-put z u e = e ∙ ap (pasted out at) (sym (section-words ∙ ap (λ (x : List ℕ). bytesOf 8 n ++ x) (nothing-brought z) ∙ append-nil (bytesOf 8 n)))
+
+    pub empty-end : n ≡ 0 → at + 8 ≡ at + length (sectionWords k (items l))
+    empty-end z = let m = section-length in let q = ap length (nothing-brought z) in omega arith

@@ -105,5 +105,8 @@ pub fn put_section(kind: u8, count: usize, l: &[u8], out: &mut [u8], at: usize) 
     ensures { λ r. ⌜ (now (out .exit) ≡ pasted (now (out .entry)) at (sectionWords kind (items (now (l .entry))))) × (r ≡ at + length (sectionWords kind (items (now (l .entry))))) ⌝ }
 {
     hello_words::put_word(count as u64, out, at);
+    if count == 0 {
+        return at + 8;
+    }
     fill_tlvs(kind, l, out, at + 8)
 }
