@@ -11,7 +11,7 @@ use native.Mathlib.Omega.{arith}
 use lib.Bits.{bitOr}
 use lib.Dec.{leb, eqb}
 use lib.ListN.{length, take, drop, getD, set, replicate, length-replicate}
-use borrow.Author.Tests.{eq-eqb, ne-eqb, eqb-true, leb-true}
+use borrow.Author.Tests.{eq-eqb, ne-eqb, eqb-true, leb-true, not-false}
 use Rattle.numbers.specs.Tests.{pick, both, either, between, anyOf}
 use Rattle.numbers.specs.Bytes.{num}
 use Rattle.numbers.specs.Numberings.{bitAt}
@@ -42,7 +42,7 @@ use Rattle.flush_marks.specs.Marks.{markBytes, NoMarks, Chosen}
 use Rattle.flush_marks.specs.Filters.{slotNamed}
 use Rattle.flush_marks.proofs.Bits.{both-all}
 use Rattle.flush_marks.proofs.Filters.{chosen-same}
-use Rattle.flush_nicknames.specs.First.{NicknamesAre, EveryMeant, kindMeant, slotFirst, nearBit, mayPass, labelPart, slotMarked, slotNames, fineNoted, FirstNamed, FirstPass}
+use Rattle.flush_nicknames.specs.First.{roundSlots, NoneOfRound, NicknamesAre, EveryMeant, kindMeant, slotFirst, nearBit, mayPass, labelPart, slotMarked, slotNames, fineNoted, FirstNamed, FirstPass}
 use Rattle.flush_nicknames.specs.declared.Nicknames.{Nicknames}
 use Rattle.flush_nicknames.specs.declared.Nicknames.the-variants.{One, Several}
 
@@ -169,6 +169,9 @@ module _ (r : List ℕ) where
   unfolding slotNames
   names-byte names h field b none e = sym (none e (nicknameOf (recordOf r)) field)
 
+  pub passed-by : (names : List ℕ) (h : ℕ) → h ≡ nicknameOf (recordOf r) / 2 ^ 3 → (b : Bool) → (b ≡ true → (x : ℕ) → h ≡ x / 8 → bitAt x names ≡ false) → b ≡ true → slotNames (λ x. bitAt x names) r ≡ false
+  passed-by names h field b none e = sym (names-byte names h field b none e)
+
   pub names-listed : (names : List ℕ) (x : ℕ) → x ≡ nicknameOf (recordOf r) → (c : Bool) → c ≡ bitAt x names → c ≡ slotNames (λ x. bitAt x names) r
   unfolding slotNames
   names-listed names x field c told = told ∙ rw field
@@ -187,6 +190,33 @@ module _ (p : ℕ → Bool) (t : List ℕ) (from e : ℕ) where
         go : (j : ℕ) → from ≤ j → j < k + 1 → Dec (j ≡ k) → slotNames p (slotAt j t) ≡ false
         go j a l (yes q) = rw q (names-near p (drop (slotBytes * k) t) ∙ sym here ∙ miss)
         go j a l (no d) = so-far .none j a (omega arith)
+
+    first-round : k + roundSlots ≤ e → NoneOfRound p t k → FirstNamed p t from e (k + roundSlots)
+    first-round h f = let b = so-far .behind in record { behind = omega arith; within = omega arith; none = λ j a l. go j a l (ℕ-discrete j k) (ℕ-discrete j (k + 1)) (ℕ-discrete j (k + 2)) (ℕ-discrete j (k + 3)) }
+      where
+        go : (j : ℕ) → from ≤ j → j < k + roundSlots → Dec (j ≡ k) → Dec (j ≡ k + 1) → Dec (j ≡ k + 2) → Dec (j ≡ k + 3) → slotNames p (slotAt j t) ≡ false
+        go j a l (yes q) y z w = rw q (names-near p (drop (slotBytes * k) t) ∙ f .first)
+        go j a l (no x) (yes q) z w = rw q (names-near p (drop (slotBytes * (k + 1)) t) ∙ f .second)
+        go j a l (no x) (no y) (yes q) w = rw q (names-near p (drop (slotBytes * (k + 2)) t) ∙ f .third)
+        go j a l (no x) (no y) (no z) (yes q) = rw q (names-near p (drop (slotBytes * (k + 3)) t) ∙ f .fourth)
+        go j a l (no x) (no y) (no z) (no w) = so-far .none j a (omega arith)
+
+    -- a round that is passed by
+    pub round-next : roundSlots ≤ e - k → (b : Bool) → (b ≡ true → NoneOfRound p t k) → not b ≡ false → FirstNamed p t from e (k + roundSlots)
+    round-next h b none passed = let w = so-far .within in first-round (omega arith) (none (not-false b passed))
+
+-- all four tests pass
+pub round-none : (p : ℕ → Bool) (t : List ℕ) (k : ℕ) (a b c d : Bool)
+    → (a ≡ true → slotNames p (drop (slotBytes * k) t) ≡ false)
+    → (b ≡ true → slotNames p (drop (slotBytes * (k + 1)) t) ≡ false)
+    → (c ≡ true → slotNames p (drop (slotBytes * (k + 2)) t) ≡ false)
+    → (d ≡ true → slotNames p (drop (slotBytes * (k + 3)) t) ≡ false)
+    → (a && b) && (c && d) ≡ true → NoneOfRound p t k
+round-none p t k true true true true x y z w e = record { first = x refl; second = y refl; third = z refl; fourth = w refl }
+round-none p t k true true true false x y z w e = false-true e
+round-none p t k true true false d x y z w e = false-true e
+round-none p t k true false c d x y z w e = false-true e
+round-none p t k false b c d x y z w e = false-true e
 
 -- ---- the nicknames meant
 

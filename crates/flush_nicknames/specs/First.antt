@@ -1,15 +1,15 @@
 -- The test of the first pass of a flush: learned, a nickname that is meant, and a label that may be meant.
 -- Assumes nothing.
-use Prim.Native.Nat.{ℕ, _%_, _^_, _<_, _≤_}
+use Prim.Native.Nat.{ℕ, _+_, _*_, _%_, _^_, _<_, _≤_}
 use mathlib.Core.Bool.{Bool, true, false}
 use mathlib.Core.List.{List}
 use mathlib.Core.Path.{_≡_}
 use lib.Dec.{eqb}
-use lib.ListN.{length}
+use lib.ListN.{length, drop}
 use Rattle.numbers.specs.Tests.{pick, both, either}
 use Rattle.numbers.specs.Numberings.{bitAt}
 use Rattle.table.specs.Record.{recordOf, kindOf, labelOf, nicknameOf}
-use Rattle.table.specs.Slots.{slotsOf, slotAt}
+use Rattle.table.specs.Slots.{slotBytes, slotsOf, slotAt}
 use Rattle.table.specs.declared.Label.the-variants.{Vlan, Fine}
 use Rattle.flush.specs.Payload.{everyType, Piece}
 use Rattle.flush.specs.Meaning.{nicknameMeant, labelMeant}
@@ -79,6 +79,16 @@ slotMarked p vlans near r = both (slotNamed p r) (labelPart vlans near r)
 -- the nickname in the slot, learned or not, passes the test
 unfoldable pub slotNames : (ℕ → Bool) → List ℕ → Bool
 slotNames p r = p (nicknameOf (recordOf r))
+
+-- four slots from slot k on have no such nickname
+abbrev pub roundSlots : ℕ
+roundSlots = 4
+
+pub record NoneOfRound (p : ℕ → Bool) (t : List ℕ) (k : ℕ) : Type 0 where
+  pub first : slotNames p (drop (slotBytes * k) t) ≡ false
+  pub second : slotNames p (drop (slotBytes * (k + 1)) t) ≡ false
+  pub third : slotNames p (drop (slotBytes * (k + 2)) t) ≡ false
+  pub fourth : slotNames p (drop (slotBytes * (k + 3)) t) ≡ false
 
 -- the table has the slots from slot `from` on and before slot e
 pub record Scanning (from e : ℕ) (t : List ℕ) : Type 0 where

@@ -1,12 +1,13 @@
 // The first pass of a flush over the slots of a range: those are marked that are learned, whose nickname is meant, and whose label is a
 // VLAN that is meant, or a fine-grained label that may be: it has a bit in the filter bits of the message.
 ghost use Prim.Native.Nat.{ℕ, _+_, _-_, _*_, _/_, _^_, _<_, _≤_};
+ghost use mathlib.Core.Bool.{true, false};
 ghost use mathlib.Core.Path.{_≡_};
 ghost use lib.Dec.{eqb};
 ghost use lib.ListN.{length, drop};
 ghost use Rattle.numbers.specs.Numberings.{bitAt};
 ghost use Rattle.table.specs.Record.{recordBytes, recordOf, nicknameOf};
-ghost use Rattle.table.specs.Slots.{slotBytes, mostSlots};
+ghost use Rattle.table.specs.Slots.{slotBytes, slotsOf, mostSlots};
 ghost use Rattle.flush.specs.Payload.{blockBytes, piecesOf, tlvs};
 ghost use Rattle.flush.specs.Meaning.{nicknameMeant};
 ghost use Rattle.flush_sets.specs.Gains.{Gains, inNicknames};
@@ -16,7 +17,7 @@ ghost use Rattle.flush_buckets.specs.Buckets.{bucketBytes, HasBits};
 ghost use Rattle.flush_parts.specs.Named.{fineNaming, namedOf};
 ghost use Rattle.flush_marks.specs.Marks.{markBytes, Chosen};
 ghost use Rattle.flush_marks.specs.Filters.{Marking};
-ghost use Rattle.flush_nicknames.specs.First.{nameBytes, NicknamesAre, EveryMeant, nearBit, mayPass, labelPart, fineNoted, slotMarked, slotNames, Scanning, FirstNamed, FirstPass};
+ghost use Rattle.flush_nicknames.specs.First.{nameBytes, roundSlots, NoneOfRound, NicknamesAre, EveryMeant, nearBit, mayPass, labelPart, fineNoted, slotMarked, slotNames, Scanning, FirstNamed, FirstPass};
 use flush_buckets::BUCKET_BYTES;
 use flush_payload::Kinds;
 use flush_vlans::VLAN_BYTES;
@@ -97,12 +98,50 @@ fn first_single(t: &[u8], from: usize, e: usize, one: u64) -> usize
     e
 }
 
-// The same, of a set of nicknames.
-fn first_listed(t: &[u8], from: usize, e: usize, names: &[u8]) -> usize
+// Whether one byte of a set decides that the slot at an offset has no nickname of it.
+fn passes_by(t: &[u8], at: usize, names: &[u8]) -> bool
+    requires { ⌜ (at + recordBytes ≤ length (now t)) × (length (now names) ≡ nameBytes) ⌝ }
+    ensures { λ b. ⌜ (b ≡ true → slotNames (λ x. bitAt x (now (names .entry))) (drop at (now (t .entry))) ≡ false) ⌝ }
+{
+    flush_bits::none_at(names, table_fields::nickname_high_at(t, at))
+}
+
+// The slots of a round.
+const ROUND: usize = 4;
+
+// The same of the slots of a round, slot k and those after it, without a branch between them.
+fn none_of_round(t: &[u8], k: usize, names: &[u8]) -> bool
+    requires { ⌜ (k + roundSlots ≤ slotsOf (now t)) × (length (now names) ≡ nameBytes) ⌝ }
+    ensures { λ b. ⌜ (b ≡ true → NoneOfRound (λ x. bitAt x (now (names .entry))) (now (t .entry)) k) ⌝ }
+{
+    let a = passes_by(t, SLOT_BYTES * k, names);
+    let b = passes_by(t, SLOT_BYTES * (k + 1), names);
+    let c = passes_by(t, SLOT_BYTES * (k + 2), names);
+    let d = passes_by(t, SLOT_BYTES * (k + 3), names);
+    (a & b) & (c & d)
+}
+
+// The first slot of the first round, from slot `from` on, that may have a nickname of a set; or the slot after the last round.
+fn first_round(t: &[u8], from: usize, e: usize, names: &[u8]) -> usize
     requires { ⌜ Scanning from e (now t) × (length (now names) ≡ nameBytes) ⌝ }
     ensures { λ k. ⌜ FirstNamed (λ x. bitAt x (now (names .entry))) (now (t .entry)) from e k ⌝ }
 {
     let mut k = from;
+    while ROUND <= e - k {
+        if !none_of_round(t, k, names) {
+            return k;
+        }
+        k += ROUND;
+    }
+    k
+}
+
+// The same as by one nickname, of a set of them: by rounds, and then slot by slot.
+fn first_listed(t: &[u8], from: usize, e: usize, names: &[u8]) -> usize
+    requires { ⌜ Scanning from e (now t) × (length (now names) ≡ nameBytes) ⌝ }
+    ensures { λ k. ⌜ FirstNamed (λ x. bitAt x (now (names .entry))) (now (t .entry)) from e k ⌝ }
+{
+    let mut k = first_round(t, from, e, names);
     while k < e {
         if has_listed(t, SLOT_BYTES * k, names) {
             return k;

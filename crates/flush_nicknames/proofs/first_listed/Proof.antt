@@ -1,9 +1,9 @@
--- `flush_nicknames::first_listed` meets its contract. The invariant: no slot from `from` on and before `k` has such a nickname.
+-- `flush_nicknames::first_listed` meets its contract. The invariant, which the rounds leave: no slot from `from` on and before `k` has such a nickname.
 -- Assumes nothing.
 use Prim.Native.Nat.{_-_}
 use Rattle.numbers.specs.Numberings.{bitAt}
 use Rattle.flush_nicknames.specs.First.{FirstNamed}
-use Rattle.flush_nicknames.proofs.First.{first-start, first-next, first-end}
+use Rattle.flush_nicknames.proofs.First.{first-next, first-end}
 use borrow.Author.Needs.{needs}
 use Rattle.flush_nicknames.proofs.first_listed.Statement.{statement}
 use Rattle.flush_nicknames.proofs.first_listed.Tie as tie
@@ -13,9 +13,6 @@ Inv-loop t from e names k₀ k = FirstNamed (λ x. bitAt x names) t from e k
 
 abbrev μ-loop : tie.MeasureT-loop
 μ-loop t from e names k₀ k = e - k
-
-loop-holds : tie.Need-loop-holds Inv-loop μ-loop
-loop-holds c = search first-start
 
 loop-again : tie.Need-loop-again Inv-loop μ-loop
 loop-again c = search first-next
@@ -29,7 +26,8 @@ first-listed-spec =
     (tie.spec
     Inv-loop
     μ-loop
-    loop-holds
+    (λ c κs. search needs)
+    (λ c. search needs)
     (λ c. search needs)
     (λ c κs. search needs)
     (λ c. search needs)
