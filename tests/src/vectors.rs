@@ -5,6 +5,7 @@ use std::collections::BTreeMap;
 
 use crate::captures;
 use crate::generate::{self, Pool};
+use crate::hellos;
 use crate::maps;
 use crate::random::Random;
 use crate::reference::{self, write, Encapsulation, Entry, Label, Settings, OLD_RECORD, RECORD};
@@ -83,6 +84,10 @@ enum Call {
     Report {
         room: usize,
     },
+    HelloRead {
+        room: usize,
+        payload: Vec<u8>,
+    },
     Write {
         nicknames: Vec<u8>,
         vlans: Vec<u8>,
@@ -115,6 +120,7 @@ const PORTION: u8 = 0x25;
 const VLAN_ONLY: u8 = 0x27;
 const WHY: u8 = 0x28;
 const REPORT: u8 = 0x2E;
+const HELLO_READ: u8 = 0x2D;
 
 /// The calls' numbers, and the answers that each must give in some vector.
 pub const ANSWERS: &[(u8, Answers)] = &[
@@ -135,6 +141,7 @@ pub const ANSWERS: &[(u8, Answers)] = &[
     (INGRESS, run::INGRESS),
     (WHY, run::WHY),
     (REPORT, run::REPORT),
+    (HELLO_READ, run::HELLO),
 ];
 pub(crate) fn settings_bytes(settings: &Settings) -> Vec<u8> {
     let mut bytes = Vec::new();
@@ -273,6 +280,7 @@ impl Call {
             Call::VlanOnly { .. } => VLAN_ONLY,
             Call::Why { .. } => WHY,
             Call::Report { .. } => REPORT,
+            Call::HelloRead { .. } => HELLO_READ,
             Call::Write { .. } => WRITE,
             Call::ReceivePort { .. } => RECEIVE_PORT,
             Call::Ingress { .. } => INGRESS,
@@ -289,6 +297,7 @@ impl Call {
             | Call::Widen { room, .. }
             | Call::Write { room, .. }
             | Call::Report { room }
+            | Call::HelloRead { room, .. }
             | Call::ReceivePort { room, .. }
             | Call::Ingress { room, .. } => *room,
             Call::Flush { .. }
@@ -383,6 +392,7 @@ impl Call {
                 payload,
             } => [&ingress.to_be_bytes()[..], &slot.to_be_bytes(), payload].concat(),
             Call::Report { room } => length(*room).to_vec(),
+            Call::HelloRead { room, payload } => [&length(*room)[..], payload].concat(),
             Call::Portion {
                 ingress,
                 payload,
@@ -475,6 +485,7 @@ impl Call {
                 payload,
             } => reference::why(*ingress, payload, *slot, table),
             Call::Report { room } => reference::report(table, &mut area[..*room]),
+            Call::HelloRead { room, payload } => reference::hello_read(payload, &mut area[..*room]),
             Call::Write {
                 nicknames,
                 vlans,
@@ -759,6 +770,33 @@ fn offer_report(replay: &mut Replay) {
     }
 }
 
+/// Smart-Hellos to read (2026-13): that of the request, with and without room, cut and without its parameters, and any payloads.
+fn offer_hello(replay: &mut Replay) {
+    const HELLO: [u8; 50] = [
+        0xFB, 9, 0, 0, 1, 22, 4, 0, 30, 0, 0, 0xF2, 20, 0, 0, 0, 0, 0, 6, 5, 0x40, 0x80, 0, 0x12,
+        0x34, 8, 6, 0, 1, 0x12, 0x34, 0x12, 0x35, 0xFB, 15, 0, 0, 1, 23, 10, 0x40, 0, 0, 10, 2, 0,
+        0, 0, 0, 1,
+    ];
+    for (room, payload) in [
+        (152, &HELLO[..]),
+        (151, &HELLO),
+        (160, &HELLO),
+        (160, &HELLO[..49]),
+        (160, &HELLO[11..]),
+        (0, &[]),
+    ] {
+        let payload = payload.to_vec();
+        replay.offer(p1(), &Call::HelloRead { room, payload });
+    }
+    for case in 0..200 {
+        let random = &mut Random::for_case(2613, case);
+        let (payload, _) = hellos::payload(random);
+        let found = reference::Contents::read(&payload);
+        let room = generate::area_length(random, found.map_or(0, |found| found.area().len()));
+        replay.offer(p1(), &Call::HelloRead { room, payload });
+    }
+}
+
 /// Flushes to write (2026-03): the two of the request; both sides of a full TLV of each kind; one short area; what is refused.
 fn write_calls() -> Vec<Call> {
     let many = |count: u64, width: usize| -> Vec<u8> {
@@ -927,7 +965,7 @@ pub fn files() -> (String, String) {
     offer_portions(&mut replay);
     offer_vlan_only(&mut replay);
     let mut case = 0;
-    while !replay.is_whole(&[WRITE, RECEIVE_PORT, INGRESS, WHY, REPORT]) {
+    while !replay.is_whole(&[WRITE, RECEIVE_PORT, INGRESS, WHY, REPORT, HELLO_READ]) {
         assert!(
             case < 1_000_000,
             "an answer is missing: {:?}",
@@ -969,7 +1007,7 @@ pub fn files() -> (String, String) {
         replay.offer(table, call);
     }
     let mut case = 0;
-    while !replay.is_whole(&[WHY, REPORT]) {
+    while !replay.is_whole(&[WHY, REPORT, HELLO_READ]) {
         assert!(
             case < 1_000_000,
             "an answer is missing: {:?}",
@@ -983,6 +1021,7 @@ pub fn files() -> (String, String) {
     }
     offer_why(&mut replay);
     offer_report(&mut replay);
+    offer_hello(&mut replay);
     assert!(
         replay.is_whole(&[]),
         "an answer is missing: {:?}",
