@@ -2143,7 +2143,8 @@ fn each_command_has_help_on_each_of_its_options() {
         "--confidence",
         "--seconds",
     ];
-    let commands: [(&str, &[&str], bool); 15] = [
+    let commands: [(&str, &[&str], bool); 16] = [
+        ("hello", &["--hex", "--json"], false),
         ("report", &["--table", "--json"], false),
         (
             "receive",
@@ -2153,6 +2154,7 @@ fn each_command_has_help_on_each_of_its_options() {
                 "--out",
                 "--map",
                 "--multihomed",
+                "--smart",
                 "--no-ageing",
                 "--dry-run",
                 "--mac",
@@ -2210,6 +2212,7 @@ fn each_command_has_help_on_each_of_its_options() {
                 "--slots",
                 "--map",
                 "--multihomed",
+                "--smart",
                 "--slot",
                 "--mac",
                 "--vlan",
@@ -2249,6 +2252,7 @@ fn each_command_has_help_on_each_of_its_options() {
                 "--out",
                 "--map",
                 "--multihomed",
+                "--smart",
                 "--mac",
                 "--json",
                 "--watch",
@@ -2373,7 +2377,7 @@ fn the_words_for_refusals_are_those_of_the_header() {
     };
     let words: Option<Vec<String>> = lines.windows(2).filter(numbered).map(comment).collect();
     let words = words.expect("the words");
-    assert_eq!(words.len(), 22);
+    assert_eq!(words.len(), 24);
     let strings: Vec<&str> = lines
         .iter()
         .skip_while(|line| **line != "\"no refusal\",")

@@ -29,6 +29,7 @@ ghost use Rattle.report.specs.Claims.{ReportAddsUp, ReportRising, ReportCase, D
 ghost use Rattle.hello.specs.Cases.{CasesHold};
 ghost use Rattle.hello.specs.Claims.{WrittenHelloReads, ReadIsWritable, ReadHelloWrites, WrittenAreBytes, WrittenIsPlain, AreaIs};
 ghost use Rattle.hello.specs.Calls.{CallsUndo, HelloRefusal};
+ghost use Rattle.hello_area.specs.Claims.{EntriesWritten};
 ghost use Rattle.promises.specs.Cases.{Cases, ControlCases};
 ghost use Rattle.promises.specs.Claims.{RefusalChangesNothing, HomesStayApart, SpoiltStays, ConfiguredStays};
 ghost use Rattle.promises.specs.Example.{InterchangeExample};
@@ -46,6 +47,6 @@ pub fn claims()
     ensures writing { λ _. ⌜ WriterExact × WriterClears × WriterLength × WriterCalls × WriterCases ⌝ }
     ensures reporting { λ _. ⌜ ReportAddsUp × ReportRising × ReportCase × DigitsReadBack × ReportFits ⌝ }
     ensures watching { λ _. ⌜ StopNeverShortened × StopRunsOut × SendingWhileStopped × RefusedWatchStays × WatchCases ⌝ }
-    ensures hellos { λ _. ⌜ WrittenHelloReads × ReadHelloWrites × ReadIsWritable × WrittenAreBytes × WrittenIsPlain × AreaIs × CallsUndo × HelloRefusal × CasesHold ⌝ }
+    ensures hellos { λ _. ⌜ WrittenHelloReads × ReadHelloWrites × ReadIsWritable × WrittenAreBytes × WrittenIsPlain × AreaIs × CallsUndo × HelloRefusal × EntriesWritten × CasesHold ⌝ }
     ensures pairs { λ _. ⌜ PairBytes ⌝ }
 {}

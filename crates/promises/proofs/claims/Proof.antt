@@ -58,6 +58,7 @@ use Rattle.hello.proofs.Written.{written-are-bytes}
 use Rattle.hello.proofs.Exact.{written-is-plain}
 use Rattle.hello.proofs.Areas.{area-is}
 use Rattle.hello.proofs.Calls.{calls-undo, hello-refusal}
+use Rattle.hello_area.proofs.Whole.{entries-are}
 use Rattle.promises.proofs.Cases.{cases-hold, control-cases}
 use Rattle.promises.proofs.Example.{example-holds}
 use Rattle.promises.proofs.Homes.{none-as-before, marked-read}
@@ -109,7 +110,7 @@ returns c = (
                 (
                   (stop-never-shortened, stop-runs-out, sending-while-stopped, refused-watch-stays, watch-cases),
                   (
-                    (written-hello-reads, read-hello-writes, read-is-writable, written-are-bytes, written-is-plain, area-is, calls-undo, hello-refusal, worked.cases-hold),
+                    (written-hello-reads, read-hello-writes, read-is-writable, written-are-bytes, written-is-plain, area-is, calls-undo, hello-refusal, entries-are, worked.cases-hold),
                     pair-bytes,
                   ),
                 ),
