@@ -41,7 +41,7 @@ use Rattle.why_places.specs.declared.LabelFound.{LabelFound}
 use Rattle.why_places.specs.declared.LabelFound.the-variants as labels
 use Rattle.why_places.specs.declared.MacFound.{MacFound}
 use Rattle.why_places.specs.declared.MacFound.the-variants as macs
-use Rattle.why_call.specs.Cut.{cut, GoodParts}
+use Rattle.why_call.specs.Cut.{cut, GoodRest, GoodParts}
 
 -- ---- what was found, and whether it is meant
 
@@ -137,13 +137,13 @@ module _ (blocks : ℕ) (nicks rest : List ℕ) (ingress : ℕ) (e : Entry) (x :
 
 -- ---- a payload cut into its parts
 
-module _ (l : List ℕ) (n : ℕ) (parts : GoodParts l n) (k : ℕ) (nicks : k ≡ nickBytes l) where
-  pub cut-made : (ingress : ℕ) (e : Entry) (r : Reason) → r ≡ learnedReason n (cut (take (1 + k - 1) (drop 1 l)) n (take (length l - (2 + k)) (drop (2 + k) l))) ingress e
+module _ (l : List ℕ) (f : Kinds) (parts : GoodParts l f) (k : ℕ) (nicks : k ≡ nickBytes l) where
+  pub cut-made : (ingress : ℕ) (e : Entry) (r : Reason) → r ≡ learnedReason (f .blocks) (cut (take (1 + k - 1) (drop 1 l)) (f .blocks) (take (length l - (2 + k)) (drop (2 + k) l))) ingress e
       → r ≡ learnedReason (blockCount l) (made l) ingress e
   cut-made ingress e r h = rw (add-sub-cancel-left 1 k, rest-is (2 + k) l, nicks, parts .number) at h
 
-  pub cut-room : blockBytes * n ≤ length (take (length l - (2 + k)) (drop (2 + k) l))
-  cut-room = let room = parts .blocks in rw (rest-is (2 + k) l, nicks, parts .number) room
+  pub cut-rest : GoodRest f (take (length l - (2 + k)) (drop (2 + k) l))
+  cut-rest = let r = parts .rest in rw (rest-is (2 + k) l, nicks) r
 
 pub cut-few : (l : List ℕ) (k : ℕ) → k < 512 → length (take (1 + k - 1) (drop 1 l)) < 512
 cut-few l k few = simp length-take (omega arith)
@@ -170,8 +170,16 @@ module _ (ingress : ℕ) (l : List ℕ) (k : ℕ) (t : List ℕ) (g : Bool) (goo
         valid : Valid l
         valid = validity .valid l .0 (judged .good f fine)
 
-        pub good-parts : GoodParts l (f .blocks)
-        good-parts = record { counts = valid .counts; number = judged .noted f fine .blocks; blocks = valid .blocks }
+        pub good-parts : GoodParts l f
+        good-parts =
+            let number = judged .noted f fine .blocks in
+            let macs = judged .noted f fine .macs in
+            let blocks = valid .blocks in
+            record {
+              counts = valid .counts;
+              number = number;
+              rest = record { blocks = rw number blocks; macs = rw number macs };
+            }
 
         pub why-because : (s : Slot) → s ≡ unpacked (drop (slotBytes * k) t) → (r : Reason) → r ≡ reasonOf (blockCount l) (made l) ingress s → Because r ≡ why ingress l k t
         why-because s unpack r reason =

@@ -1,13 +1,14 @@
 // Why a flush clears a slot or leaves it: the table, the slot and the whole payload are judged as the flush judges them, and then the record
 // in the slot, set by set.
-ghost use Prim.Native.Nat.{_*_, _<_, _≤_};
+ghost use Prim.Native.Nat.{_<_};
 ghost use mathlib.Core.Path.{_≡_};
 ghost use lib.ListN.{length};
-ghost use Rattle.flush.specs.Payload.{blockCount, blockBytes, made};
+ghost use Rattle.flush.specs.Payload.{blockCount, made};
 ghost use Rattle.why.specs.Why.{learnedReason, reasonOf, why};
-ghost use Rattle.why_call.specs.Cut.{cut, GoodParts};
+ghost use Rattle.why_call.specs.Cut.{cut, GoodRest, GoodParts};
 use flush::Model;
 use flush_payload::Judged;
+use flush_payload::Kinds;
 use numbers::refusals::PAYLOAD_CORRUPT;
 use numbers::refusals::TABLE_LENGTH_BAD;
 use portions::PORTION_BAD;
@@ -21,10 +22,10 @@ use why_places::LabelFound;
 use why_places::MacFound;
 use why_places::NicknameFound;
 
-// The reason of a learned record, by the bytes of the nicknames, K-VLBs and the bytes behind it.
-fn learned_reason(ingress: u32, nicks: &[u8], rest: &[u8], blocks: usize, e: Entry) -> Reason
-    requires { ⌜ (length (now nicks) < 512) × (blockBytes * blocks ≤ length (now rest)) ⌝ }
-    ensures { λ r. ⌜ r ≡ learnedReason blocks (cut (now (nicks .entry)) blocks (now (rest .entry))) ingress e ⌝ }
+// The reason of a learned record, by the bytes of the nicknames, what was noted and the bytes behind K-VLBs.
+fn learned_reason(ingress: u32, nicks: &[u8], rest: &[u8], f: Kinds, e: Entry) -> Reason
+    requires { ⌜ (length (now nicks) < 512) × GoodRest f (now rest) ⌝ }
+    ensures { λ r. ⌜ r ≡ learnedReason (f .blocks) (cut (now (nicks .entry)) (f .blocks) (now (rest .entry))) ingress e ⌝ }
 {
     let NicknameFound::By(nickname) = why_places::nickname_found(nicks, ingress, e.nickname as u64)
     else {
@@ -33,10 +34,10 @@ fn learned_reason(ingress: u32, nicks: &[u8], rest: &[u8], blocks: usize, e: Ent
     let l = e.label;
     let kind = table_records::kind_number(l);
     let number = table_records::label_number(l);
-    let LabelFound::By(label) = why_places::label_found(rest, blocks, kind, number) else {
+    let LabelFound::By(label) = why_places::label_found(rest, f.blocks, kind, number) else {
         return Reason::LabelNotMeant;
     };
-    let MacFound::By(mac) = why_places::mac_found(rest, blocks, e.mac) else {
+    let MacFound::By(mac) = why_places::mac_found(rest, f.blocks, f.macs, e.mac) else {
         return Reason::MacNotMeant;
     };
     Reason::Cleared(Places {
@@ -46,26 +47,26 @@ fn learned_reason(ingress: u32, nicks: &[u8], rest: &[u8], blocks: usize, e: Ent
     })
 }
 
-// The same by a good payload with so many VLAN blocks.
-fn payload_reason(ingress: u32, payload: &[u8], blocks: usize, e: Entry) -> Reason
-    requires { ⌜ GoodParts (now payload) blocks ⌝ }
+// The same by a good payload of which this was noted.
+fn payload_reason(ingress: u32, payload: &[u8], f: Kinds, e: Entry) -> Reason
+    requires { ⌜ GoodParts (now payload) f ⌝ }
     ensures { λ r. ⌜ r ≡ learnedReason (blockCount (now (payload .entry))) (made (now (payload .entry))) ingress e ⌝ }
 {
     let k = flush_payload::nick_bytes(payload);
     let a = 1 + k;
     let s = 2 + k;
-    learned_reason(ingress, &payload[1..a], &payload[s..], blocks, e)
+    learned_reason(ingress, &payload[1..a], &payload[s..], f, e)
 }
 
 // The reason of what a slot holds.
-fn slot_reason(ingress: u32, payload: &[u8], blocks: usize, held: Slot) -> Reason
-    requires { ⌜ GoodParts (now payload) blocks ⌝ }
+fn slot_reason(ingress: u32, payload: &[u8], f: Kinds, held: Slot) -> Reason
+    requires { ⌜ GoodParts (now payload) f ⌝ }
     ensures { λ r. ⌜ r ≡ reasonOf (blockCount (now (payload .entry))) (made (now (payload .entry))) ingress held ⌝ }
 {
     match held {
         Slot::Free => Reason::Free,
         Slot::Spoilt => Reason::Spoilt,
-        Slot::Learned(e) => payload_reason(ingress, payload, blocks, e),
+        Slot::Learned(e) => payload_reason(ingress, payload, f, e),
         Slot::Configured(_) => Reason::Configured,
     }
 }
@@ -85,7 +86,7 @@ pub fn explain(ingress: u32, payload: &[u8], slot: usize, table: &[u8]) -> WhyAn
         Judged::Corrupt => WhyAnswer::Refused(PAYLOAD_CORRUPT),
         Judged::Good(f) => {
             let held = table_records::unpack(table, at);
-            WhyAnswer::Because(slot_reason(ingress, payload, f.blocks, held))
+            WhyAnswer::Because(slot_reason(ingress, payload, f, held))
         }
     }
 }
