@@ -6,7 +6,7 @@ use Rattle.why_call.proofs.payload_reason.Statement.{statement}
 use Rattle.why_call.proofs.payload_reason.Tie as tie
 
 learned-reason-requires : tie.Need-learned-reason-requires
-learned-reason-requires c κs = (search cut-few, search cut-rest)
+learned-reason-requires c κs = (search cut-few, (search cut-rest, search needs))
 
 returns : tie.Need-returns
 returns c = search cut-made
