@@ -14,7 +14,8 @@ use lib.Seq.{take-all, drop-drop, getD-drop}
 use borrow.Author.Tests.{ne-eqb, not-true}
 use Rattle.numbers.specs.Tests.{pick, both, either, anyOf, between}
 use Rattle.numbers.specs.Bytes.{num, parts}
-use Rattle.numbers.specs.Numberings.{fines, macs, numberOf}
+use Rattle.numbers.specs.Ranges.{firstVlan, lastVlan}
+use Rattle.numbers.specs.Numberings.{vlans, fines, macs, numberOf, inBlock, inBlocks}
 use Rattle.numbers.specs.declared.Numbering.{Numbering}
 use Rattle.numbers.proofs.Bytes.{num-one, num-add}
 use Rattle.numbers.proofs.Truth.{and-both, between-in}
@@ -22,12 +23,13 @@ use Rattle.table.specs.declared.Label.{Label}
 use Rattle.table.specs.declared.Label.the-variants.{Vlan, Fine}
 use Rattle.table.specs.declared.Place.{Place}
 use Rattle.table.specs.declared.Place.the-variants.{At, Nowhere}
-use Rattle.flush.specs.Payload.{everyType, Piece, tlv, stump, tlvEnd, tlvs}
+use Rattle.flush.specs.Payload.{everyType, Piece, tlv, stump, tlvEnd, tlvs, blockBytes}
 use Rattle.flush.specs.Meaning.{vlanIn, fineIn, bringsLabel}
 use Rattle.flush.proofs.Lists.{false-true, parts-end, parts-more}
 use Rattle.flush.proofs.Validity.{tlvs-end, tlvs-rest, tlvs-more}
 use Rattle.why.specs.Why.{placeOf}
 use Rattle.flush_members.specs.Sound.{Sound}
+use Rattle.flush_members.proofs.Laws.{block-tells, blocks-below, blocks-above, block-near}
 use Rattle.why_places.specs.Found.{firstFrom}
 use Rattle.why_places.specs.Reading.{LastByte, EmptyAt}
 
@@ -223,3 +225,38 @@ module _ (p : List ℕ → Bool) (k : ℕ) (some : 0 < k) (v : List ℕ) (at i :
     pub part-next : h ≡ false → x ≡ firstFrom p (i + 1) (parts k (drop (at + k) v))
     unfolding pick
     part-next t = rw (add-one i) (rw t at part-here)
+
+-- ---- VLAN blocks
+
+-- reserved bits fall away
+pub block-told : (v : List ℕ) (at x s e : ℕ) → s ≡ num (take 2 (drop at v)) → e ≡ num (take 2 (drop (at + 2) v)) → firstVlan ≤ x → x ≤ lastVlan → leb (s % 4096) x && leb x (e % 4096) ≡ inBlock vlans x (drop at v)
+unfolding numberOf
+block-told v at x s e start end a b = block-tells vlans v at (s % 4096) (e % 4096) (ap (λ (n : ℕ). n % 4096) start) (ap (λ (n : ℕ). n % 4096) end) x a b
+
+module _ (x : ℕ) (v : List ℕ) where
+  -- no block has a number that is no VLAN
+  pub block-below : x < firstVlan → Nowhere ≡ firstFrom (inBlock vlans x) 0 (parts blockBytes v)
+  unfolding inBlocks
+  block-below h = sym (none-first (inBlock vlans x) 0 _ (sym (blocks-below vlans x v h)))
+
+  pub block-above : lastVlan < x → Nowhere ≡ firstFrom (inBlock vlans x) 0 (parts blockBytes v)
+  unfolding inBlocks
+  block-above h = sym (none-first (inBlock vlans x) 0 _ (sym (blocks-above vlans x v h)))
+
+  module _ (at i : ℕ) (y : Place) (inv : y ≡ firstFrom (inBlock vlans x) i (parts blockBytes (drop at v))) where
+    pub block-done : length v - at < 4 → Nowhere ≡ y
+    block-done h = parts-done (inBlock vlans x) 4 (omega arith) v at i y inv h
+
+    module _ (room : 4 ≤ length v - at) (h : Bool) (here : h ≡ inBlock vlans x (drop at v)) where
+      lent : h ≡ anyOf (inBlock vlans x) (parts 4 (take (at + 4 - at) (drop at v)))
+      lent =
+          let d : length (drop at v) ≡ length v - at = length-drop at v in
+          let n : at + 4 - at ≡ 4 = omega arith in
+          let q : anyOf (inBlock vlans x) (parts 4 (take (at + 4 - at) (drop at v))) ≡ inBlock vlans x (take 4 (drop at v)) = rw n (one-part (inBlock vlans x) 4 (omega arith) (take 4 (drop at v)) (simp length-take (omega arith))) in
+          here ∙ sym (block-near vlans x (drop at v) (omega arith)) ∙ sym q
+
+      pub block-hit : h ≡ true → At i ≡ y
+      block-hit t = part-hit (inBlock vlans x) 4 (omega arith) v at i y inv room h lent t
+
+      pub block-next : h ≡ false → y ≡ firstFrom (inBlock vlans x) (i + 1) (parts blockBytes (drop (at + 4) v))
+      block-next t = part-next (inBlock vlans x) 4 (omega arith) v at i y inv room h lent t

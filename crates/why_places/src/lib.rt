@@ -5,6 +5,7 @@ ghost use mathlib.Core.Path.{_≡_};
 ghost use lib.Dec.{eqb};
 ghost use lib.ListN.{length, drop};
 ghost use Rattle.numbers.specs.Tests.{anyOf};
+ghost use Rattle.numbers.specs.Ranges.{firstVlan, lastVlan};
 ghost use Rattle.numbers.specs.Bytes.{parts};
 ghost use Rattle.numbers.specs.Numberings.{vlans, fines, macs, numberOf, inBlock, inList};
 ghost use Rattle.table.specs.Record.{labelFrom};
@@ -17,6 +18,8 @@ ghost use Rattle.why_places.specs.Reading.{LastByte, EmptyAt};
 ghost use Rattle.why_places.specs.Found.{firstFrom, nicknameFound, labelFound, macFound};
 use flush_members::FINES;
 use flush_members::MACS;
+use numbers::FIRST_VLAN;
+use numbers::LAST_VLAN;
 use numbers::Numbering;
 use table::Place;
 use table::VLAN_KIND;
@@ -28,6 +31,9 @@ use why::NicknameMatch;
 const NICKNAME_BYTES: usize = 2;
 
 const BLOCK_BYTES: usize = 4;
+
+// The numbers that 12 bits write; reserved ones stand before them.
+const VLANS: u64 = 0x1000;
 
 // The types that document 01's table has.
 const FIRST_TYPE: u8 = 1;
@@ -175,18 +181,33 @@ fn listed_place(nicks: &[u8], x: u64) -> Place
     Place::Nowhere
 }
 
+// Whether x, a VLAN that there is, is in the block at a place.
+fn block_has(v: &[u8], at: usize, x: u64) -> bool
+    requires { ⌜ (at + blockBytes ≤ length (now v)) × ((firstVlan ≤ x) × (x ≤ lastVlan)) ⌝ }
+    ensures { λ r. ⌜ r ≡ inBlock vlans x (drop at (now (v .entry))) ⌝ }
+{
+    let start = numbers::be2(v, at);
+    let end = numbers::be2(v, at + 2);
+    (start % VLANS <= x) & (x <= end % VLANS)
+}
+
 // The first VLAN block that has VLAN x in it.
 fn block_place(v: &[u8], x: u64) -> Place
     ensures { λ r. ⌜ r ≡ firstFrom (inBlock vlans x) 0 (parts blockBytes (now (v .entry))) ⌝ }
 {
+    if x < FIRST_VLAN {
+        return Place::Nowhere;
+    }
+    if LAST_VLAN < x {
+        return Place::Nowhere;
+    }
     let mut at = 0;
     let mut block = 0;
     while BLOCK_BYTES <= v.len() - at {
-        let e = at + BLOCK_BYTES;
-        if flush_members::in_vlan_blocks(&v[at..e], x) {
+        if block_has(v, at, x) {
             return Place::At(block);
         }
-        at = e;
+        at += BLOCK_BYTES;
         block += 1;
     }
     Place::Nowhere
