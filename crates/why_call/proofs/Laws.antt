@@ -9,18 +9,18 @@ use native.Mathlib.Omega.{arith}
 use lib.ListN.{length, take, drop, length-take}
 use Rattle.numbers.specs.Tests.{pick}
 use Rattle.numbers.specs.Refusals.{table-length-bad, payload-corrupt}
-use Rattle.table.specs.Record.{unpacked, kindNumber, labelNumber, labelFrom}
+use Rattle.table.specs.Record.{recordOf, entryOf, unpacked, labelFrom, isLearned}
 use Rattle.table.specs.Slots.{slotBytes, tableGood, slotsOf, slotAt}
 use Rattle.table.specs.declared.Entry.{Entry}
 use Rattle.table.specs.declared.Slot.{Slot}
 use Rattle.table.specs.declared.Slot.the-variants as slot
-use Rattle.table.proofs.Packing.{label-back}
-use Rattle.table.proofs.Contents.{unpacked-near}
+use Rattle.table.proofs.Contents.{unpacked-near, learned-entry}
 use Rattle.flush.specs.Payload.{everyType, nickBytes, blockCount, behind, blockBytes, piecesOf, Payload, made, payloadOf}
 use Rattle.flush.specs.Meaning.{nicknameMeant, labelMeant, macMeant}
 use Rattle.flush.specs.Validity.{Valid}
+use Rattle.flush.proofs.Lists.{false-true}
 use Rattle.flush.proofs.Validity.{validity}
-use Rattle.flush_payload.specs.Judging.{JudgedPayload}
+use Rattle.flush_payload.specs.Judging.{Nothing, JudgedPayload}
 use Rattle.flush_payload.specs.declared.Kinds.{Kinds}
 use Rattle.flush_payload.specs.declared.Judged.{Judged}
 use Rattle.flush_payload.specs.declared.Judged.the-variants.{Corrupt, Good}
@@ -31,7 +31,7 @@ use Rattle.why.specs.declared.NicknameMatch.{NicknameMatch}
 use Rattle.why.specs.declared.LabelMatch.{LabelMatch}
 use Rattle.why.specs.declared.MacMatch.{MacMatch}
 use Rattle.why.specs.declared.Reason.{Reason}
-use Rattle.why.specs.declared.Reason.the-variants.{NicknameNotMeant, LabelNotMeant, MacNotMeant, Cleared}
+use Rattle.why.specs.declared.Reason.the-variants.{Free, Spoilt, Configured, NicknameNotMeant, LabelNotMeant, MacNotMeant, Cleared}
 use Rattle.why.specs.declared.WhyAnswer.the-variants.{Refused, Because}
 use Rattle.why.proofs.Calls.{bad-table, past, corrupted, answered}
 use Rattle.why_places.specs.Found.{nicknameFound, labelFound, macFound}
@@ -41,7 +41,7 @@ use Rattle.why_places.specs.declared.LabelFound.{LabelFound}
 use Rattle.why_places.specs.declared.LabelFound.the-variants as labels
 use Rattle.why_places.specs.declared.MacFound.{MacFound}
 use Rattle.why_places.specs.declared.MacFound.the-variants as macs
-use Rattle.why_call.specs.Cut.{cut, GoodParts}
+use Rattle.why_call.specs.Cut.{cut, GoodRest, GoodParts}
 
 -- ---- what was found, and whether it is meant
 
@@ -77,7 +77,14 @@ mac-none false m h = refl
 
 -- ---- the reason of a learned record
 
-module _ (blocks : ℕ) (nicks rest : List ℕ) (ingress : ℕ) (e : Entry) (x : NicknameFound) (nickname : x ≡ nicknameFound ingress nicks (e .nickname)) where
+-- a label from its kind and its number
+pub label-same : (kind x k n : ℕ) → kind ≡ k → x ≡ n → labelFrom kind x ≡ labelFrom k n
+label-same kind x k n a b = rw (a, b)
+
+module _ (blocks : ℕ) (nicks rest : List ℕ) (ingress : ℕ) (e : Entry) (own : ℕ) (own-is : own ≡ e .nickname) (x : NicknameFound) (found : x ≡ nicknameFound ingress nicks own) where
+  nickname : x ≡ nicknameFound ingress nicks (e .nickname)
+  nickname = found ∙ ap (nicknameFound ingress nicks) own-is
+
   abbrev Is : Reason → Type 0
   Is r = r ≡ learnedReason blocks (cut nicks blocks rest) ingress e
 
@@ -93,10 +100,10 @@ module _ (blocks : ℕ) (nicks rest : List ℕ) (ingress : ℕ) (e : Entry) (x :
   unfolding learnedReason pick
   reason-nickname h = rw (nickname-no h)
 
-  module _ (m : NicknameMatch) (by : x ≡ nicknames.By m) (kind number : ℕ) (kind-is : kind ≡ kindNumber (e .label)) (number-is : number ≡ labelNumber (e .label))
+  module _ (m : NicknameMatch) (by : x ≡ nicknames.By m) (kind number : ℕ) (label-is : labelFrom kind number ≡ e .label)
       (y : LabelFound) (label : y ≡ labelFound blocks (piecesOf blocks rest) (labelFrom kind number)) where
     named : y ≡ labelFound blocks (piecesOf blocks rest) (e .label)
-    named = label ∙ ap (labelFound blocks (piecesOf blocks rest)) (rw (kind-is, number-is) (label-back (e .label)))
+    named = label ∙ ap (labelFound blocks (piecesOf blocks rest)) label-is
 
     label-no : y ≡ labels.NotMeant → labelMeant everyType (piecesOf blocks rest) (e .label) ≡ false
     unfolding labelFound
@@ -110,7 +117,10 @@ module _ (blocks : ℕ) (nicks rest : List ℕ) (ingress : ℕ) (e : Entry) (x :
     unfolding learnedReason pick
     reason-label h = rw (nickname-yes m by .0, label-no h)
 
-    module _ (k : LabelMatch) (by-label : y ≡ labels.By k) (z : MacFound) (mac : z ≡ macFound (piecesOf blocks rest) (e .mac)) where
+    module _ (k : LabelMatch) (by-label : y ≡ labels.By k) (address : ℕ) (address-is : address ≡ e .mac) (z : MacFound) (by-mac : z ≡ macFound (piecesOf blocks rest) address) where
+      mac : z ≡ macFound (piecesOf blocks rest) (e .mac)
+      mac = by-mac ∙ ap (macFound (piecesOf blocks rest)) address-is
+
       mac-no : z ≡ macs.NotMeant → macMeant everyType (piecesOf blocks rest) (e .mac) ≡ false
       unfolding macFound
       mac-no h = mac-none (macMeant everyType (piecesOf blocks rest) (e .mac)) (macMatch (piecesOf blocks rest) (e .mac)) (sym mac ∙ h)
@@ -137,20 +147,42 @@ module _ (blocks : ℕ) (nicks rest : List ℕ) (ingress : ℕ) (e : Entry) (x :
 
 -- ---- a payload cut into its parts
 
-module _ (l : List ℕ) (n : ℕ) (parts : GoodParts l n) (k : ℕ) (nicks : k ≡ nickBytes l) where
-  pub cut-made : (ingress : ℕ) (e : Entry) (r : Reason) → r ≡ learnedReason n (cut (take (1 + k - 1) (drop 1 l)) n (take (length l - (2 + k)) (drop (2 + k) l))) ingress e
+module _ (l : List ℕ) (f : Kinds) (parts : GoodParts l f) (k : ℕ) (nicks : k ≡ nickBytes l) where
+  pub cut-made : (ingress : ℕ) (e : Entry) (r : Reason) → r ≡ learnedReason (f .blocks) (cut (take (1 + k - 1) (drop 1 l)) (f .blocks) (take (length l - (2 + k)) (drop (2 + k) l))) ingress e
       → r ≡ learnedReason (blockCount l) (made l) ingress e
   cut-made ingress e r h = rw (add-sub-cancel-left 1 k, rest-is (2 + k) l, nicks, parts .number) at h
 
-  pub cut-room : blockBytes * n ≤ length (take (length l - (2 + k)) (drop (2 + k) l))
-  cut-room = let room = parts .blocks in rw (rest-is (2 + k) l, nicks, parts .number) room
+  pub cut-rest : GoodRest f (take (length l - (2 + k)) (drop (2 + k) l))
+  cut-rest = let r = parts .rest in rw (rest-is (2 + k) l, nicks) r
 
 pub cut-few : (l : List ℕ) (k : ℕ) → k < 512 → length (take (1 + k - 1) (drop 1 l)) < 512
 cut-few l k few = simp length-take (omega arith)
 
--- a learned record
-pub reason-learned : (n : ℕ) (p : Payload) (ingress : ℕ) (s : Slot) (e : Entry) → s ≡ slot.Learned e → (r : Reason) → r ≡ learnedReason n p ingress e → r ≡ reasonOf n p ingress s
-reason-learned n p ingress s e h r q = rw h q
+-- ---- what a slot holds
+
+module _ (n : ℕ) (p : Payload) (ingress : ℕ) (r : List ℕ) where
+  -- the mark of a learned record decides nothing
+  pub reason-learned : (b : Bool) → b ≡ isLearned (unpacked r) → b ≡ true → (x : Reason) → x ≡ learnedReason n p ingress (entryOf (recordOf r)) → x ≡ reasonOf n p ingress (unpacked r)
+  unfolding learnedReason
+  reason-learned b learned is x q = q ∙ sym (ap (reasonOf n p ingress) (learned-entry r (sym learned ∙ is)))
+
+  module _ (s : Slot) (holds : s ≡ unpacked r) where
+    pub reason-free : s ≡ slot.Free → Free ≡ reasonOf n p ingress (unpacked r)
+    reason-free h = sym (ap (reasonOf n p ingress) (sym holds ∙ h))
+
+    pub reason-spoilt : s ≡ slot.Spoilt → Spoilt ≡ reasonOf n p ingress (unpacked r)
+    reason-spoilt h = sym (ap (reasonOf n p ingress) (sym holds ∙ h))
+
+    pub reason-configured : (e : Entry) → s ≡ slot.Configured e → Configured ≡ reasonOf n p ingress (unpacked r)
+    reason-configured e h = sym (ap (reasonOf n p ingress) (sym holds ∙ h))
+
+    pub reason-never : (b : Bool) → b ≡ isLearned (unpacked r) → b ≡ false → (e : Entry) → s ≡ slot.Learned e → Spoilt ≡ reasonOf n p ingress (unpacked r)
+    reason-never b learned other e h = false-true (sym other ∙ learned ∙ ap isLearned (sym holds ∙ h))
+
+-- ---- judging
+
+pub blocks-alone : (n : ℕ) → Nothing n (record { blocks = n; every = false; vlans = false; lists = false; maps = false; macs = false })
+blocks-alone n = record { blocks = refl; every = refl; vlans = refl; lists = refl; maps = refl; macs = refl }
 
 -- ---- the call
 
@@ -170,9 +202,17 @@ module _ (ingress : ℕ) (l : List ℕ) (k : ℕ) (t : List ℕ) (g : Bool) (goo
         valid : Valid l
         valid = validity .valid l .0 (judged .good f fine)
 
-        pub good-parts : GoodParts l (f .blocks)
-        good-parts = record { counts = valid .counts; number = judged .noted f fine .blocks; blocks = valid .blocks }
+        pub good-parts : GoodParts l f
+        good-parts =
+            let number = judged .noted f fine .blocks in
+            let macs = judged .noted f fine .macs in
+            let blocks = valid .blocks in
+            record {
+              counts = valid .counts;
+              number = number;
+              rest = record { blocks = rw number blocks; macs = rw number macs };
+            }
 
-        pub why-because : (s : Slot) → s ≡ unpacked (drop (slotBytes * k) t) → (r : Reason) → r ≡ reasonOf (blockCount l) (made l) ingress s → Because r ≡ why ingress l k t
-        why-because s unpack r reason =
-            sym (answered ingress l k t (sym good ∙ ok) inside (made l) (judged .good f fine) ∙ ap Because (rw (unpacked-near, ← unpack) (sym reason)))
+        pub why-because : (r : Reason) → r ≡ reasonOf (blockCount l) (made l) ingress (unpacked (drop (slotBytes * k) t)) → Because r ≡ why ingress l k t
+        why-because r reason =
+            sym (answered ingress l k t (sym good ∙ ok) inside (made l) (judged .good f fine) ∙ ap Because (rw unpacked-near (sym reason)))

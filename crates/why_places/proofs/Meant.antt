@@ -9,7 +9,7 @@ use native.Mathlib.Omega.{arith}
 use lib.Dec.{eqb, leb}
 use lib.ListN.{length, take, drop, length-drop}
 use borrow.Author.Tests.{leb-true, eq-eqb, ne-eqb}
-use Rattle.numbers.specs.Tests.{pick, either, anyOf}
+use Rattle.numbers.specs.Tests.{pick, both, either, anyOf}
 use Rattle.numbers.specs.Bytes.{partsFrom, parts}
 use Rattle.numbers.specs.Numberings.{vlans, inBlock, inList}
 use Rattle.numbers.proofs.Truth.{pick-true, pick-false}
@@ -17,10 +17,11 @@ use Rattle.table.specs.Record.{labelFrom}
 use Rattle.table.specs.declared.Label.{Label}
 use Rattle.table.specs.declared.Place.{Place}
 use Rattle.table.specs.declared.Place.the-variants.{At, Nowhere}
-use Rattle.flush.specs.Payload.{everyType, Piece, block, tlvs, blockBytes, piecesOf}
-use Rattle.flush.specs.Meaning.{bringsLabel, bringsMac, gathersMac, nicknameMeant, labelMeant, macMeant}
+use Rattle.flush.specs.Payload.{everyType, Piece, tlv, block, stump, tlvs, blockBytes, piecesOf}
+use Rattle.flush.specs.Meaning.{bringsLabel, bringsMac, someMacIn, gathersMac, nicknameMeant, labelMeant, macMeant}
 use Rattle.flush.proofs.Lists.{false-true}
 use Rattle.flush_tlvs.proofs.Laws.{label-vlan, label-fine}
+use Rattle.flush_payload.specs.Judging.{macKind, ofKind}
 use Rattle.flush_payload.proofs.Laws.{blocks-fine, blocks-gather}
 use Rattle.why.specs.Why.{placeOf, nicknameIs, listed, nicknameMatch, labelMatch, macMatch}
 use Rattle.why.specs.declared.NicknameMatch.the-variants.{Sender, Listed}
@@ -137,6 +138,29 @@ module _ (n : ℕ) (rest : List ℕ) (kind x : ℕ) where
           rw (ne-eqb n 0 some, label-vlan kind x vlan, any-blocks, place-blocks, hit, place)
 
 -- ---- the MAC
+
+neither : (a b : Bool) → either a b ≡ false → (a ≡ false) × (b ≡ false)
+unfolding either
+neither true b h = false-true (sym h)
+neither false b h = (refl, h)
+
+-- a piece of no kind of MACs gathers none
+not-gathers : (p : Piece) → ofKind everyType macKind p ≡ false → gathersMac everyType p ≡ false
+unfolding ofKind gathersMac someMacIn both pick
+not-gathers (tlv k v) e = let m = neither (eqb k 7) (eqb k 8) e in rw (m .0, m .1)
+not-gathers (block b) e = refl
+not-gathers stump e = refl
+
+none-gathers : (ps : List Piece) → anyOf (ofKind everyType macKind) ps ≡ false → anyOf (gathersMac everyType) ps ≡ false
+unfolding anyOf either
+none-gathers [] e = refl
+none-gathers (p ∷ ps) e =
+    let m = neither (ofKind everyType macKind p) (anyOf (ofKind everyType macKind) ps) e in
+    rw (not-gathers p (m .0)) (none-gathers ps (m .1))
+
+pub mac-unnoted : (n : ℕ) (rest : List ℕ) (m : ℕ) (b : Bool) → b ≡ anyOf (ofKind everyType macKind) (piecesOf n rest) → b ≡ false → macs.By mac.Every ≡ macFound (piecesOf n rest) m
+unfolding macFound macMeant macMatch pick either
+mac-unnoted n rest m b noted h = rw (none-gathers (piecesOf n rest) (sym noted ∙ h))
 
 module _ (n : ℕ) (rest : List ℕ) (m : ℕ) (g : Bool) (gathers : g ≡ anyOf (gathersMac everyType) (piecesOf n rest)) where
   pub mac-every : g ≡ false → macs.By mac.Every ≡ macFound (piecesOf n rest) m

@@ -1,15 +1,26 @@
 // What brought a nickname, a label and a MAC into the three sets of a flush: walks that answer the place of the first that brings it, and
 // that it is meant is that there is such a place.
-ghost use Prim.Native.Nat.{_*_, _<_, _≤_};
+ghost use Prim.Native.Nat.{_+_, _*_, _<_, _≤_};
 ghost use mathlib.Core.Path.{_≡_};
-ghost use lib.ListN.{length};
+ghost use lib.Dec.{eqb};
+ghost use lib.ListN.{length, drop};
+ghost use Rattle.numbers.specs.Tests.{anyOf};
+ghost use Rattle.numbers.specs.Ranges.{firstVlan, lastVlan};
 ghost use Rattle.numbers.specs.Bytes.{parts};
-ghost use Rattle.numbers.specs.Numberings.{vlans, inBlock};
+ghost use Rattle.numbers.specs.Numberings.{vlans, fines, macs, numberOf, inBlock, inList};
 ghost use Rattle.table.specs.Record.{labelFrom};
 ghost use Rattle.flush.specs.Payload.{everyType, tlv, tlvs, blockBytes, piecesOf};
 ghost use Rattle.flush.specs.Meaning.{vlanIn, fineIn, bringsLabel, bringsMac};
+ghost use Rattle.flush_payload.specs.Judging.{macKind, ofKind};
 ghost use Rattle.why.specs.Why.{nicknameIs, listed};
+ghost use Rattle.flush_members.specs.Sound.{numbering};
+ghost use Rattle.why_places.specs.Reading.{LastByte, EmptyAt};
 ghost use Rattle.why_places.specs.Found.{firstFrom, nicknameFound, labelFound, macFound};
+use flush_members::FINES;
+use flush_members::MACS;
+use numbers::FIRST_VLAN;
+use numbers::LAST_VLAN;
+use numbers::Numbering;
 use table::Place;
 use table::VLAN_KIND;
 use why::LabelMatch;
@@ -20,6 +31,14 @@ use why::NicknameMatch;
 const NICKNAME_BYTES: usize = 2;
 
 const BLOCK_BYTES: usize = 4;
+
+// The numbers that 12 bits write; reserved ones stand before them.
+const VLANS: u64 = 0x1000;
+
+// The types that document 01's table has.
+const FIRST_TYPE: u8 = 1;
+
+const LAST_TYPE: u8 = 8;
 
 // Whether a nickname is meant, and what brought it; the same of a label and of a MAC.
 pub enum NicknameFound {
@@ -35,6 +54,52 @@ pub enum LabelFound {
 pub enum MacFound {
     By(MacMatch),
     NotMeant,
+}
+
+// ---- lists: a number is read whole only where its last byte is that of x
+
+// Whether the number at a place is x.
+fn number_is(v: &[u8], at: usize, w: Numbering, x: u64) -> bool
+    requires { ⌜ LastByte w × (at + w .size ≤ length (now v)) ⌝ }
+    ensures { λ r. ⌜ r ≡ eqb (numberOf w (drop at (now (v .entry)))) x ⌝ }
+{
+    if numbers::wide(v[at + (w.size - 1)]) != x % 0x100 {
+        return false;
+    }
+    flush_members::number_at(v, at, w) == x
+}
+
+// Whether a list of numbers has x in it. The numbering comes as its four numbers, as in flush_members.
+fn in_list(v: &[u8], size: usize, top: u64, low: u64, high: u64, x: u64) -> bool
+    requires { ⌜ LastByte (numbering size top low high) ⌝ }
+    ensures { λ r. ⌜ r ≡ inList (numbering size top low high) x (now (v .entry)) ⌝ }
+{
+    let w = Numbering {
+        size,
+        top,
+        low,
+        high,
+    };
+    let mut at = 0;
+    while size <= v.len() - at {
+        if number_is(v, at, w, x) {
+            return true;
+        }
+        at += size;
+    }
+    false
+}
+
+fn in_fines(v: &[u8], x: u64) -> bool
+    ensures { λ r. ⌜ r ≡ inList fines x (now (v .entry)) ⌝ }
+{
+    in_list(v, FINES.size, FINES.top, FINES.low, FINES.high, x)
+}
+
+fn in_macs(v: &[u8], x: u64) -> bool
+    ensures { λ r. ⌜ r ≡ inList macs x (now (v .entry)) ⌝ }
+{
+    in_list(v, MACS.size, MACS.top, MACS.low, MACS.high, x)
 }
 
 // ---- what one TLV says: the text of flush_tlvs, so that there it stays a part of the flush's loop
@@ -66,7 +131,7 @@ fn fine_in(x: u64, k: u8, v: &[u8]) -> bool
         return flush_members::in_fine_blocks(v, x);
     }
     if k == 4 {
-        return flush_members::in_fines(v, x);
+        return in_fines(v, x);
     }
     if k == 5 {
         return flush_members::in_fine_map(v, x);
@@ -89,7 +154,7 @@ fn brings_mac(m: u64, k: u8, v: &[u8]) -> bool
     ensures { λ r. ⌜ r ≡ bringsMac everyType m (tlv k (now (v .entry))) ⌝ }
 {
     if k == 7 {
-        return flush_members::in_macs(v, m);
+        return in_macs(v, m);
     }
     if k == 8 {
         return flush_members::in_mac_blocks(v, m);
@@ -116,21 +181,51 @@ fn listed_place(nicks: &[u8], x: u64) -> Place
     Place::Nowhere
 }
 
+// Whether x, a VLAN that there is, is in the block at a place.
+fn block_has(v: &[u8], at: usize, x: u64) -> bool
+    requires { ⌜ (at + blockBytes ≤ length (now v)) × ((firstVlan ≤ x) × (x ≤ lastVlan)) ⌝ }
+    ensures { λ r. ⌜ r ≡ inBlock vlans x (drop at (now (v .entry))) ⌝ }
+{
+    let start = numbers::be2(v, at);
+    let end = numbers::be2(v, at + 2);
+    (start % VLANS <= x) & (x <= end % VLANS)
+}
+
 // The first VLAN block that has VLAN x in it.
 fn block_place(v: &[u8], x: u64) -> Place
     ensures { λ r. ⌜ r ≡ firstFrom (inBlock vlans x) 0 (parts blockBytes (now (v .entry))) ⌝ }
 {
+    if x < FIRST_VLAN {
+        return Place::Nowhere;
+    }
+    if LAST_VLAN < x {
+        return Place::Nowhere;
+    }
     let mut at = 0;
     let mut block = 0;
     while BLOCK_BYTES <= v.len() - at {
-        let e = at + BLOCK_BYTES;
-        if flush_members::in_vlan_blocks(&v[at..e], x) {
+        if block_has(v, at, x) {
             return Place::At(block);
         }
-        at = e;
+        at += BLOCK_BYTES;
         block += 1;
     }
     Place::Nowhere
+}
+
+// Whether an empty TLV of a type without a rule is next: it brings nothing, and the next one lies two bytes on.
+fn empty_at(l: &[u8], at: usize) -> bool
+    requires { ⌜ at < length (now l) ⌝ }
+    ensures { λ r. ⌜ EmptyAt (now (l .entry)) at r ⌝ }
+{
+    if l.len() - at < 2 {
+        return false;
+    }
+    if l[at + 1] != 0 {
+        return false;
+    }
+    let k = l[at];
+    !((FIRST_TYPE <= k) & (k <= LAST_TYPE))
 }
 
 // The first TLV that brings a label, which is given by its kind and its number.
@@ -140,16 +235,21 @@ fn label_place(l: &[u8], kind: u64, x: u64) -> Place
     let mut at = 0;
     let mut tlv = 0;
     while at < l.len() {
-        let e = flush_tlvs::end_of(l, at);
-        if l.len() < e {
-            return Place::Nowhere;
+        if empty_at(l, at) {
+            at += 2;
+            tlv += 1;
+        } else {
+            let e = flush_tlvs::end_of(l, at);
+            if l.len() < e {
+                return Place::Nowhere;
+            }
+            let s = at + 2;
+            if brings_label(kind, x, l[at], &l[s..e]) {
+                return Place::At(tlv);
+            }
+            at = e;
+            tlv += 1;
         }
-        let s = at + 2;
-        if brings_label(kind, x, l[at], &l[s..e]) {
-            return Place::At(tlv);
-        }
-        at = e;
-        tlv += 1;
     }
     Place::Nowhere
 }
@@ -214,10 +314,15 @@ pub fn label_found(rest: &[u8], blocks: usize, kind: u64, x: u64) -> LabelFound
     LabelFound::By(LabelMatch::Block(i))
 }
 
-// The MAC: every MAC is meant where none was gathered, otherwise those that some TLV brings.
-pub fn mac_found(rest: &[u8], blocks: usize, m: u64) -> MacFound
+// The MAC: every MAC is meant where none was gathered, otherwise those that some TLV brings. They are looked for only where TLVs of MACs
+// were noted.
+pub fn mac_found(rest: &[u8], blocks: usize, noted: bool, m: u64) -> MacFound
+    requires { ⌜ noted ≡ anyOf (ofKind everyType macKind) (piecesOf blocks (now rest)) ⌝ }
     ensures { λ r. ⌜ r ≡ macFound (piecesOf blocks (now (rest .entry))) m ⌝ }
 {
+    if !noted {
+        return MacFound::By(MacMatch::Every);
+    }
     if !flush_payload::some_mac(rest, blocks) {
         return MacFound::By(MacMatch::Every);
     }

@@ -13,7 +13,7 @@ returns-2 : tie.Need-returns-2
 returns-2 c = search (why-past, not-false)
 
 slot-reason-requires : tie.Need-slot-reason-requires
-slot-reason-requires c κs = search (good-parts, not-false)
+slot-reason-requires c κs = (search (good-parts, not-false), search needs)
 
 returns-3 : tie.Need-returns-3
 returns-3 c = search (why-corrupt, not-false)
@@ -32,7 +32,6 @@ explain-spec =
     (λ c κs. search needs)
     (λ c. search needs)
     (λ c. search needs)
-    (λ c κs. search needs)
     slot-reason-requires
     returns-3
     returns-4)

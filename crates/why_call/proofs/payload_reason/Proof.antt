@@ -1,12 +1,12 @@
 -- `why_call::payload_reason` meets its contract: the parts of the payload are what it is made of.
 -- Assumes nothing.
-use Rattle.why_call.proofs.Laws.{cut-made, cut-room, cut-few}
+use Rattle.why_call.proofs.Laws.{cut-made, cut-rest, cut-few}
 use borrow.Author.Needs.{needs}
 use Rattle.why_call.proofs.payload_reason.Statement.{statement}
 use Rattle.why_call.proofs.payload_reason.Tie as tie
 
 learned-reason-requires : tie.Need-learned-reason-requires
-learned-reason-requires c κs = (search cut-few, search cut-room)
+learned-reason-requires c κs = (search cut-few, (search cut-rest, search needs))
 
 returns : tie.Need-returns
 returns c = search cut-made

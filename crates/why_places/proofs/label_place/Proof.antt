@@ -8,7 +8,7 @@ use Rattle.table.specs.Record.{labelFrom}
 use Rattle.flush.specs.Payload.{everyType, tlvs}
 use Rattle.flush.specs.Meaning.{bringsLabel}
 use Rattle.why_places.specs.Found.{firstFrom}
-use Rattle.why_places.proofs.Laws.{walk-done, walk-cut, walk-hit, walk-next}
+use Rattle.why_places.proofs.Laws.{empty-room, walk-unlabelled, walk-done, walk-cut, walk-hit, walk-next}
 use borrow.Author.Needs.{needs}
 use Rattle.why_places.proofs.label_place.Statement.{statement}
 use Rattle.why_places.proofs.label_place.Tie as tie
@@ -30,7 +30,10 @@ returns-2 : tie.Need-returns-2 Inv-loop μ-loop
 returns-2 c = search walk-hit
 
 loop-again : tie.Need-loop-again Inv-loop μ-loop
-loop-again c = (search needs, (search needs, search walk-next))
+loop-again c = (search empty-room, (search needs, search walk-unlabelled))
+
+loop-again-2 : tie.Need-loop-again-2 Inv-loop μ-loop
+loop-again-2 c = (search needs, (search needs, search walk-next))
 
 returns-3 : tie.Need-returns-3 Inv-loop μ-loop
 returns-3 c = search walk-done
@@ -43,6 +46,11 @@ label-place-spec =
     μ-loop
     loop-holds
     (λ c κs. search needs)
+    (λ c. search needs)
+    (λ c. search needs)
+    (λ c. search needs)
+    loop-again
+    (λ c κs. search needs)
     returns
     (λ c. search needs)
     (λ c. search needs)
@@ -53,5 +61,5 @@ label-place-spec =
     returns-2
     (λ c. search needs)
     (λ c. search needs)
-    loop-again
+    loop-again-2
     returns-3)
