@@ -22,11 +22,15 @@ use Rattle.port_map_pairs.specs.declared.Question.the-variants.{VlanOf, 
 abbrev pub blank : MapPair
 blank = record { vlan = portVlan 0; label = campusLabel 0 }
 
+-- the VLAN or the label of one is that of the other
+abbrev pub areTwins : MapPair → MapPair → Bool
+areTwins t p = either (eqb (t .vlan .0) (p .vlan .0)) (eqb (t .label .0) (p .label .0))
+
 -- what a pair answers to a question
 unfoldable pub askedOf : Question → MapPair → Found
 askedOf (VlanOf w) p = pick (eqb (p .label .0) (w .0)) (Vlan (p .vlan)) Nothing
 askedOf (LabelOf w) p = pick (eqb (p .vlan .0) (w .0)) (Label (p .label)) Nothing
-askedOf (TwinOf t) p = pick (either (eqb (t .vlan .0) (p .vlan .0)) (eqb (t .label .0) (p .label .0))) Twin Nothing
+askedOf (TwinOf t) p = pick (areTwins t p) Twin Nothing
 
 -- the first of two answers
 abbrev pub orElse : Found → Found → Found
@@ -63,9 +67,12 @@ labelIn (Vlan v) = label.Missing
 labelIn (Label l) = label.Label l
 labelIn Twin = label.Missing
 
+abbrev pub numbersGood : MapPair → Bool
+numbersGood p = both (vlanGood (p .vlan .0)) (fineGood (p .label .0))
+
 -- a pair is good: no twin is found, and its numbers
 unfoldable pub judgedOf : MapPair → Found → Bool
-judgedOf p f = both (isNothing f) (both (vlanGood (p .vlan .0)) (fineGood (p .label .0)))
+judgedOf p f = both (isNothing f) (numbersGood p)
 
 -- the pair at an index, beside the pairs after it
 unfoldable pub goodAt : List MapPair → ℕ → Bool

@@ -8,7 +8,7 @@ ghost use Rattle.numbers.specs.Tests.{both};
 ghost use Rattle.port_map.specs.Maps.{pairsGood, labelFor, vlanFor};
 ghost use Rattle.port_map_search.specs.Meaning.{labelAs, vlanAs};
 ghost use Rattle.port_map_pairs.specs.Pairs.{asPairs, PairBytes};
-ghost use Rattle.port_map_pairs.specs.Scan.{askedOf, goesOn, scanned, isNothing, labelIn, vlanIn, judgedOf, goodAt};
+ghost use Rattle.port_map_pairs.specs.Scan.{areTwins, askedOf, goesOn, scanned, isNothing, labelIn, vlanIn, numbersGood, judgedOf, goodAt};
 use numbers::LAST_FINE;
 use port_map::CampusLabel;
 use port_map::PortVlan;
@@ -49,6 +49,16 @@ pub fn none() -> Found
     Found::Nothing
 }
 
+// The VLAN or the label is the same.
+fn twins(t: MapPair, p: MapPair) -> bool
+    ensures { λ r. ⌜ r ≡ areTwins t p ⌝ }
+{
+    if t.vlan.0 == p.vlan.0 {
+        return true;
+    }
+    t.label.0 == p.label.0
+}
+
 // What a pair answers.
 pub fn asked(q: Question, p: MapPair) -> Found
     ensures { λ r. ⌜ r ≡ askedOf q p ⌝ }
@@ -71,7 +81,7 @@ pub fn asked(q: Question, p: MapPair) -> Found
             }
         }
         Question::TwinOf(t) => {
-            if (t.vlan.0 == vlan.0) | (t.label.0 == label.0) {
+            if twins(t, p) {
                 Found::Twin
             } else {
                 Found::Nothing
@@ -143,13 +153,24 @@ fn alone(f: Found) -> bool
     }
 }
 
+// The numbers of a pair are good.
+fn numbers_good(p: MapPair) -> bool
+    ensures { λ r. ⌜ r ≡ numbersGood p ⌝ }
+{
+    if numbers::vlan_good(p.vlan.0 as u64) {
+        return p.label.0 as u64 <= LAST_FINE;
+    }
+    false
+}
+
 // Whether a pair is good, from what was found after it.
 pub fn judged(p: MapPair, f: Found) -> bool
     ensures { λ r. ⌜ r ≡ judgedOf p f ⌝ }
 {
-    let a = alone(f);
-    let v = numbers::vlan_good(p.vlan.0 as u64);
-    a & (v & (p.label.0 as u64 <= LAST_FINE))
+    if alone(f) {
+        return numbers_good(p);
+    }
+    false
 }
 
 // Whether the judgement goes on: all is good so far, and a pair is left.

@@ -1,7 +1,8 @@
 -- `port_map_pairs::asked` meets its contract: each question, and the test that it puts.
 -- Assumes nothing.
 use borrow.Author.Tests.{eq-eqb, ne-eqb}
-use Rattle.numbers.specs.Tests.{pick, either}
+use mathlib.Core.Path.{sym}
+use Rattle.numbers.specs.Tests.{pick}
 use Rattle.port_map_pairs.specs.Scan.{askedOf}
 use borrow.Author.Needs.{needs}
 use Rattle.port_map_pairs.proofs.asked.Statement.{statement}
@@ -24,12 +25,12 @@ unfolding askedOf pick
 returns-4 c = rw (c .before .before .before .before .q2 .given .1, ne-eqb _ _ (c .if2 .left))
 
 returns-5 : tie.Need-returns-5
-unfolding askedOf pick either
-returns-5 c = rw (c .before .before .before .before .before .before .q3 .given .1, c .if3 .taken)
+unfolding askedOf pick
+returns-5 c = rw (c .before .before .before .q3 .given .1, sym (c .before .twins .ensures), c .if3 .taken)
 
 returns-6 : tie.Need-returns-6
-unfolding askedOf pick either
-returns-6 c = rw (c .before .before .before .before .before .before .q3 .given .1, c .if3 .left)
+unfolding askedOf pick
+returns-6 c = rw (c .before .before .before .q3 .given .1, sym (c .before .twins .ensures), c .if3 .left)
 
 pub asked-spec : {M : Type 1} → statement M
 asked-spec =
@@ -38,6 +39,7 @@ asked-spec =
     (λ c. search needs)
     (λ c. search needs)
     (λ c. search needs)
+    (λ c κs. search needs)
     returns
     returns-2
     returns-3
