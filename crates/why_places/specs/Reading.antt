@@ -5,7 +5,9 @@ use mathlib.Core.Bool.{Bool, true, false}
 use mathlib.Core.List.{List}
 use mathlib.Core.Path.{_≡_}
 use lib.ListN.{length, drop, getD}
-use Rattle.numbers.specs.Tests.{between}
+use lib.Dec.{eqb}
+use Rattle.numbers.specs.Tests.{between, anyOf}
+use Rattle.numbers.specs.Bytes.{parts}
 use Rattle.numbers.specs.Numberings.{numberOf}
 use Rattle.numbers.specs.declared.Numbering.{Numbering}
 use Rattle.flush.specs.Payload.{tlvEnd}
@@ -15,6 +17,10 @@ use Rattle.flush_members.specs.Sound.{Sound}
 pub record LastByte (w : Numbering) : Type 0 where
   pub sound : Sound w
   pub last : (l : List ℕ) (at : ℕ) → at + w .size ≤ length l → getD l (at + (w .size - 1)) 0 < 256 → numberOf w (drop at l) % 256 ≡ getD l (at + (w .size - 1)) 0
+
+-- a list has the number x in it from an offset on
+unfoldable pub leftHas : Numbering → ℕ → List ℕ → ℕ → Bool
+leftHas w x v at = anyOf (λ b. eqb (numberOf w b) x) (parts (w .size) (drop at v))
 
 -- where the answer is yes, the TLV at an offset is empty, and its type has no rule
 pub record EmptyAt (l : List ℕ) (at : ℕ) (r : Bool) : Type 0 where

@@ -1,6 +1,7 @@
 // What brought a nickname, a label and a MAC into the three sets of a flush: walks that answer the place of the first that brings it, and
 // that it is meant is that there is such a place.
 ghost use Prim.Native.Nat.{_+_, _*_, _<_, _≤_};
+ghost use mathlib.Core.Bool.{true, false};
 ghost use mathlib.Core.Path.{_≡_};
 ghost use lib.Dec.{eqb};
 ghost use lib.ListN.{length, drop};
@@ -14,7 +15,7 @@ ghost use Rattle.flush.specs.Meaning.{vlanIn, fineIn, bringsLabel, bringsMac};
 ghost use Rattle.flush_payload.specs.Judging.{macKind, ofKind};
 ghost use Rattle.why.specs.Why.{nicknameIs, listed};
 ghost use Rattle.flush_members.specs.Sound.{numbering};
-ghost use Rattle.why_places.specs.Reading.{LastByte, EmptyAt};
+ghost use Rattle.why_places.specs.Reading.{LastByte, leftHas, EmptyAt};
 ghost use Rattle.why_places.specs.Found.{firstFrom, nicknameFound, labelFound, macFound};
 use flush_members::FINES;
 use flush_members::MACS;
@@ -58,15 +59,51 @@ pub enum MacFound {
 
 // ---- lists: a number is read whole only where its last byte is that of x
 
+// Whether the last byte tells that the number at a place is not x.
+fn apart_at(v: &[u8], at: usize, w: Numbering, x: u64) -> bool
+    requires { ⌜ LastByte w × (at + w .size ≤ length (now v)) ⌝ }
+    ensures { λ r. ⌜ (r ≡ true → eqb (numberOf w (drop at (now (v .entry)))) x ≡ false) ⌝ }
+{
+    numbers::wide(v[at + (w.size - 1)]) != x % 0x100
+}
+
 // Whether the number at a place is x.
 fn number_is(v: &[u8], at: usize, w: Numbering, x: u64) -> bool
     requires { ⌜ LastByte w × (at + w .size ≤ length (now v)) ⌝ }
     ensures { λ r. ⌜ r ≡ eqb (numberOf w (drop at (now (v .entry)))) x ⌝ }
 {
-    if numbers::wide(v[at + (w.size - 1)]) != x % 0x100 {
+    if apart_at(v, at, w, x) {
         return false;
     }
     flush_members::number_at(v, at, w) == x
+}
+
+// The same for the four numbers from a place on.
+fn four_apart(v: &[u8], at: usize, w: Numbering, x: u64) -> bool
+    requires { ⌜ LastByte w × (at + 4 * w .size ≤ length (now v)) ⌝ }
+    ensures { λ r. ⌜ (r ≡ true → leftHas w x (now (v .entry)) at ≡ leftHas w x (now (v .entry)) (at + 4 * w .size)) ⌝ }
+{
+    let k = w.size;
+    let a = apart_at(v, at, w, x);
+    let b = apart_at(v, at + k, w, x);
+    let c = apart_at(v, at + 2 * k, w, x);
+    let d = apart_at(v, at + 3 * k, w, x);
+    (a & b) & (c & d)
+}
+
+// Passes over numbers, four at a time, while none of the four can be x.
+fn pass_apart(v: &[u8], from: usize, w: Numbering, x: u64) -> usize
+    requires { ⌜ LastByte w × (from ≤ length (now v)) ⌝ }
+    ensures { λ r. ⌜ ((from ≤ r) × (r ≤ length (now (v .entry)))) × (leftHas w x (now (v .entry)) from ≡ leftHas w x (now (v .entry)) r) ⌝ }
+{
+    let mut at = from;
+    while 4 * w.size <= v.len() - at {
+        if !four_apart(v, at, w, x) {
+            return at;
+        }
+        at += 4 * w.size;
+    }
+    at
 }
 
 // Whether a list of numbers has x in it. The numbering comes as its four numbers, as in flush_members.
@@ -80,12 +117,12 @@ fn in_list(v: &[u8], size: usize, top: u64, low: u64, high: u64, x: u64) -> bool
         low,
         high,
     };
-    let mut at = 0;
+    let mut at = pass_apart(v, 0, w, x);
     while size <= v.len() - at {
         if number_is(v, at, w, x) {
             return true;
         }
-        at += size;
+        at = pass_apart(v, at + size, w, x);
     }
     false
 }
