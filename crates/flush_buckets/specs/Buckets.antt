@@ -39,10 +39,13 @@ pub record Names (q : ℕ → Bool) (s t : List ℕ) (full : Bool) : Type 0 wher
   pub each : (x : ℕ) → q x ≡ true → bitAt (bucketOf x) t ≡ true
   pub all : full ≡ true → (x : ℕ) → bitAt (bucketOf x) t ≡ true
 
--- ---- keys: a number, times 4096, and a slot
+-- ---- keys: a number, times the slots that it has room for, and a slot
+
+abbrev pub keySlots : ℕ
+keySlots = 4096
 
 -- the bits of the numbers of keys are set, of each that of its bucket and its own
 pub record Nears (keys bits : List ℕ) : Type 0 where
   pub long : length bits ≡ bucketBytes
-  pub each : (i : ℕ) → i < length keys → bitAt (bucketOf (getD keys i 0 / 4096)) bits ≡ true
-  pub alone : (i : ℕ) → i < length keys → bitAt (aloneOf (getD keys i 0 / 4096)) bits ≡ true
+  pub each : (i : ℕ) → i < length keys → bitAt (bucketOf (getD keys i 0 / keySlots)) bits ≡ true
+  pub alone : (i : ℕ) → i < length keys → bitAt (aloneOf (getD keys i 0 / keySlots)) bits ≡ true

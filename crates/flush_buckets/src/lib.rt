@@ -16,9 +16,9 @@ pub const BUCKET_BYTES: usize = 8193;
 pub const KEY_SLOTS: u64 = 4096;
 
 // The numbers of a bucket, and how many buckets there are.
-const BUCKET: u64 = 256;
+pub const BUCKET: u64 = 256;
 
-const BUCKETS: u64 = 0x1_0000;
+pub const BUCKETS: u64 = 0x1_0000;
 
 // A longer interval adds every number: it would take as long to add as a search takes.
 const LONGEST_ADDED: u64 = 64 * BUCKET;

@@ -1,15 +1,15 @@
--- Laws of the two calls: refused, or cleared; a good table has few slots.
+-- Laws of the calls: refused, or cleared; a good table has few slots.
 -- Assumes nothing.
 use Prim.Native.Nat.{ℕ, _+_, _-_, _*_, _≤_}
 use mathlib.Core.Bool.{Bool, true, false}
 use mathlib.Core.List.{List}
-use mathlib.Core.Path.{_≡_, sym, ap, _∙_}
+use mathlib.Core.Path.{_≡_, refl, sym, ap, _∙_}
 use native.Mathlib.Nat.{add-sub-cancel-left}
 use native.Mathlib.Omega.{arith}
 use lib.ListN.{length, take, drop}
 use Rattle.numbers.specs.Result.{Result, refused, got, check, andThen, settled}
 use Rattle.numbers.specs.Refusals.{payload-corrupt, table-length-bad}
-use Rattle.numbers.specs.After.{OnTable, onTable}
+use Rattle.numbers.specs.After.{OnTable, onTable, tableAs}
 use Rattle.numbers.proofs.Answers.{got-got, then-got}
 use Rattle.table.specs.Slots.{mostSlots, tableGood, slotsOf, countSlots}
 use Rattle.table.proofs.Slots.{count-few, good-slots}
@@ -23,10 +23,13 @@ use Rattle.flush_payload.specs.Judging.{Noted, JudgedPayload}
 use Rattle.flush_payload.specs.declared.Kinds.{Kinds}
 use Rattle.flush_payload.specs.declared.Judged.{Judged}
 use Rattle.flush_payload.specs.declared.Judged.the-variants.{Corrupt, Good}
-use Rattle.flush_marks.specs.Marks.{Chosen, clearedMarks, clearedIn}
+use Rattle.flush_marks.specs.Marks.{Chosen, clearedMarks, clearedIn, sweptIn}
 use Rattle.flush_marks.specs.Filters.{Within}
+use Rattle.flush_marks.specs.declared.Sweep.{Sweep}
 use Rattle.flush_marks.proofs.Clearing.{chosen-cleared}
-use Rattle.flush_call.specs.Clearing.{payloadFrom, clearingIn, clearedOn}
+use Rattle.flush_call.specs.Clearing.{payloadFrom, clearingIn, clearedOn, sweptOn}
+use Rattle.flush_call.specs.declared.Swept.{Swept}
+use Rattle.flush_call.specs.declared.Swept.the-variants as swept
 use Rattle.flush_call.specs.declared.Cleared.{Cleared}
 use Rattle.flush_call.specs.declared.Cleared.the-variants.{Refused, Count}
 
@@ -35,10 +38,14 @@ use Rattle.flush_call.specs.declared.Cleared.the-variants.{Refused, Coun
 pub range-cleared : (meant : List ℕ → Bool) (from count : ℕ) (t m : List ℕ) → Within from count t → Chosen meant from count t m → (n : ℕ) (u : List ℕ) → onTable n u ≡ clearedMarks m t → onTable n u ≡ clearedIn meant from count t
 range-cleared meant from count t m within chosen n u e = e ∙ chosen-cleared meant from count t m (within .room) chosen
 
+pub range-swept : (meant : List ℕ → Bool) (from count : ℕ) (t m : List ℕ) → Within from count t → (s : ℕ) → (s ≡ count) × Chosen meant from count t m → (n : ℕ) (u : List ℕ) → onTable n u ≡ clearedMarks m t → onTable (record { cleared = n; examined = s }) u ≡ sweptIn meant from count t
+unfolding sweptIn
+range-swept meant from count t m within s marked n u e = rw (← range-cleared meant from count t m within (marked .1) n u e, marked .0)
+
 -- a flush over the range of all slots is a flush
-pub portion-whole : (ingress : ℕ) (l t : List ℕ) (x : OnTable Cleared) → x ≡ clearedOn t (clearingIn everyType ingress l 0 (slotsOf t) t) → x ≡ clearedOn t (clearing everyType ingress l t)
+pub range-whole : (ingress : ℕ) (l t : List ℕ) → clearingIn everyType ingress l 0 (slotsOf t) t ≡ clearing everyType ingress l t
 unfolding clearingIn clearing clearedIn clearedBy
-portion-whole ingress l t x e = e
+range-whole ingress l t = refl
 
 pub whole-within : (t : List ℕ) → slotsOf t ≤ mostSlots → Within 0 (slotsOf t) t
 whole-within t few = record { few = few; room = omega arith }
@@ -67,16 +74,16 @@ module _ (l : List ℕ) (j : Judged) (judged : JudgedPayload everyType l j) wher
         noted-there (f .blocks) (blockCount l) _ (behind l) f (n .blocks) (rest-is (2 + k) l ∙ rw e) n
 
     module _ (ingress from count : ℕ) (t : List ℕ) where
-      pub meant-cleared : (k : ℕ) → k ≡ nickBytes l → (c : ℕ) (u : List ℕ)
-          → onTable c u ≡ clearedIn (slotMeant everyType (payloadFrom (take (1 + k - 1) (drop 1 l)) (f .blocks) (take (length l - (2 + k)) (drop (2 + k) l))) ingress) from count t
-          → onTable (Count c) u ≡ clearedOn t (clearingIn everyType ingress l from count t)
-      unfolding clearingIn clearedOn andThen
-      meant-cleared k e c u ran =
-          let same : onTable c u ≡ clearedIn (slotMeant everyType (made l) ingress) from count t = rw (add-sub-cancel-left 1 k, rest-is (2 + k) l, e, judged .noted f good .blocks) at ran in
-          rw (judged .good f good, ← same)
+      pub meant-cleared : (k : ℕ) → k ≡ nickBytes l → (s : Sweep) (u : List ℕ)
+          → onTable s u ≡ sweptIn (slotMeant everyType (payloadFrom (take (1 + k - 1) (drop 1 l)) (f .blocks) (take (length l - (2 + k)) (drop (2 + k) l))) ingress) from count t
+          → onTable (swept.Done s) u ≡ sweptOn t count (clearingIn everyType ingress l from count t)
+      unfolding clearingIn sweptOn sweptIn andThen
+      meant-cleared k e s u ran =
+          let same : onTable s u ≡ sweptIn (slotMeant everyType (made l) ingress) from count t = rw (add-sub-cancel-left 1 k, rest-is (2 + k) l, e, judged .noted f good .blocks) at ran in
+          rw (judged .good f good) (ap (tableAs swept.Done) same)
 
-  pub meant-refused : j ≡ Corrupt → (ingress from count : ℕ) (t : List ℕ) → onTable (Refused payload-corrupt) t ≡ clearedOn t (clearingIn everyType ingress l from count t)
-  unfolding clearingIn clearedOn andThen
+  pub meant-refused : j ≡ Corrupt → (ingress from count : ℕ) (t : List ℕ) → onTable (swept.Refused payload-corrupt) t ≡ sweptOn t count (clearingIn everyType ingress l from count t)
+  unfolding clearingIn sweptOn andThen
   meant-refused h ingress from count t = rw (judged .bad h)
 
 -- ---- what an answer says of the definition
@@ -100,6 +107,40 @@ module _ (t u : List ℕ) (r : Cleared) where
       let a = answer-is (onTable (Count (c .answer)) (c .table)) ran in
       let same : n ≡ c .answer = cc (a .0) in
       rw (same, a .1)
+
+module _ (t u : List ℕ) (count : ℕ) (r : Swept) where
+  swept-is : (a : OnTable Swept) → onTable r u ≡ a → (r ≡ a .answer) × (u ≡ a .table)
+  swept-is a e = (ap (λ (x : OnTable Swept). x .answer) e, ap (λ (x : OnTable Swept). x .table) e)
+
+  pub swept-refused : (x : Result (OnTable ℕ)) → onTable r u ≡ sweptOn t count x → (n : ℕ) → r ≡ swept.Refused n → (x ≡ refused n) × (u ≡ t)
+  unfolding sweptOn
+  swept-refused (refused m) ran n e =
+      let a = swept-is (onTable (swept.Refused m) t) ran in
+      let same : m ≡ n = cc (a .0) in
+      (ap refused same, a .1)
+  swept-refused (got c) ran n e = let z : _≡_ {A = ℕ} 0 1 = cc (swept-is _ ran .0) in absurd (omega arith)
+
+  pub swept-done : (x : Result (OnTable ℕ)) → onTable r u ≡ sweptOn t count x → (s : Sweep) → r ≡ swept.Done s → (x ≡ got (onTable (s .cleared) u)) × (s .examined ≡ count)
+  unfolding sweptOn
+  swept-done (refused m) ran s e = let z : _≡_ {A = ℕ} 0 1 = cc (swept-is _ ran .0) in absurd (omega arith)
+  swept-done (got c) ran s e =
+      let a = swept-is (onTable (swept.Done (record { cleared = c .answer; examined = count })) (c .table)) ran in
+      let same : s ≡ record { cleared = c .answer; examined = count } = cc (a .0) in
+      (rw (same, a .1), rw same)
+
+-- all slots in one range, by the same answer without the number examined
+module _ (ingress : ℕ) (l t u : List ℕ) (r : Swept) (ran : onTable r u ≡ sweptOn t (slotsOf t) (clearingIn everyType ingress l 0 (slotsOf t) t)) where
+  pub whole-refused : (n : ℕ) → r ≡ swept.Refused n → onTable (Refused n) u ≡ clearedOn t (clearing everyType ingress l t)
+  unfolding clearedOn
+  whole-refused n e =
+      let (bad, same) = swept-refused t u (slotsOf t) r _ ran n e in
+      rw (← range-whole ingress l t, bad, same)
+
+  pub whole-done : (s : Sweep) → r ≡ swept.Done s → onTable (Count (s .cleared)) u ≡ clearedOn t (clearing everyType ingress l t)
+  unfolding clearedOn
+  whole-done s e =
+      let (done, all) = swept-done t u (slotsOf t) r _ ran s e in
+      rw (← range-whole ingress l t, done)
 
 -- ---- the count
 

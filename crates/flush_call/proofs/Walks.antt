@@ -16,7 +16,7 @@ use Rattle.flush.specs.Meaning.{labelMeant, macMeant, entryMeant}
 use Rattle.flush.specs.Flush.{slotMeant, clearedSlot}
 use Rattle.flush_payload.specs.Judging.{Noted}
 use Rattle.flush_payload.specs.declared.Kinds.{Kinds}
-use Rattle.flush_marks.specs.Marks.{clearedIn}
+use Rattle.flush_marks.specs.Marks.{clearedIn, sweptIn}
 use Rattle.flush_walk.specs.Noted.{labelNoted, macNoted, slotNoted}
 use Rattle.flush_call.specs.Clearing.{payloadFrom}
 use Rattle.flush_call.proofs.Tests.{either-neither, any-passes, every-fine, none-fine, none-gathers, by-learned}
@@ -34,9 +34,9 @@ module _ (p q : List ℕ → Bool) (same : (r : List ℕ) → p r ≡ q r) (from
   count-same zero = refl
   count-same (suc n) = rw (same (slotAt (from + n) t), count-same n)
 
-  pub cleared-same : (n : ℕ) → clearedIn p from n t ≡ clearedIn q from n t
-  unfolding clearedIn
-  cleared-same n = rw (on-same n, count-same n)
+  pub swept-same : (n : ℕ) → sweptIn p from n t ≡ sweptIn q from n t
+  unfolding sweptIn clearedIn
+  swept-same n = rw (on-same n, count-same n)
 
 -- ---- what was noted
 

@@ -10,6 +10,8 @@ use Rattle.flush.specs.Payload.{Types, Piece, Payload, piecesOf, payloadOf}
 use Rattle.flush.specs.Flush.{slotMeant}
 use Rattle.flush_marks.specs.Marks.{clearedIn}
 use Rattle.flush_marks.specs.Filters.{fineSlot}
+use Rattle.flush_call.specs.declared.Swept.{Swept}
+use Rattle.flush_call.specs.declared.Swept.the-variants as swept
 use Rattle.flush_call.specs.declared.Cleared.{Cleared}
 use Rattle.flush_call.specs.declared.Cleared.the-variants.{Refused, Count}
 
@@ -29,3 +31,8 @@ clearingIn types ingress l from count t = andThen (payloadOf types l) λ p. got 
 unfoldable pub clearedOn : List ℕ → Result (OnTable ℕ) → OnTable Cleared
 clearedOn t (refused n) = onTable (Refused n) t
 clearedOn t (got c) = tableAs Count c
+
+-- the same in a range, of which every slot is examined
+unfoldable pub sweptOn : List ℕ → ℕ → Result (OnTable ℕ) → OnTable Swept
+sweptOn t count (refused n) = onTable (swept.Refused n) t
+sweptOn t count (got c) = tableAs (λ n. swept.Done (record { cleared = n; examined = count })) c

@@ -8,13 +8,14 @@ ghost use Rattle.table.specs.Slots.{mostSlots, slotsOf};
 ghost use Rattle.flush.specs.Payload.{everyType, blockBytes, piecesOf};
 ghost use Rattle.flush.specs.Flush.{slotMeant, clearing, flushed};
 ghost use Rattle.flush_payload.specs.Judging.{Noted};
-ghost use Rattle.flush_marks.specs.Marks.{Filtered, Chosen, clearedIn};
+ghost use Rattle.flush_marks.specs.Marks.{Filtered, Chosen, sweptIn};
 ghost use Rattle.flush_marks.specs.Filters.{slotAddressed, Filtering, Within, Marking};
 ghost use Rattle.flush_nicknames.specs.First.{fineNoted};
-ghost use Rattle.flush_call.specs.Clearing.{payloadFrom, fineLeft, clearingIn, clearedOn};
+ghost use Rattle.flush_call.specs.Clearing.{payloadFrom, fineLeft, clearingIn, clearedOn, sweptOn};
 use flush::FlushAnswer;
 use flush::Model;
 use flush_marks::MARK_BYTES;
+use flush_marks::Sweep;
 use flush_payload::Judged;
 use flush_payload::Kinds;
 use numbers::refusals::PAYLOAD_CORRUPT;
@@ -54,7 +55,8 @@ fn keep_macs(table: &[u8], rest: &[u8], f: Kinds, marks: &mut [u8])
     flush_filters::keep_macs(table, rest, marks);
 }
 
-// Marks the slots of a range that a good payload means. Where the first pass leaves no mark the filters have nothing to do.
+// Marks the slots of a range that a good payload means, and answers how many the first pass examined. Where it leaves no mark the filters have
+// nothing to do.
 fn mark_meant(
     ingress: u32,
     nicks: &[u8],
@@ -64,16 +66,17 @@ fn mark_meant(
     from: usize,
     count: usize,
     marks: &mut [u8],
-)
+) -> usize
     requires { ⌜ Marking from count (now table) (now marks) × ((blockBytes * f .blocks ≤ length (now rest)) × Noted everyType (f .blocks) (piecesOf (f .blocks) (now rest)) f) ⌝ }
-    ensures { λ _. ⌜ Chosen (slotMeant everyType (payloadFrom (now (nicks .entry)) (f .blocks) (now (rest .entry))) ingress) from count (now (table .entry)) (now (marks .exit)) ⌝ }
+    ensures { λ r. ⌜ (r ≡ count) × Chosen (slotMeant everyType (payloadFrom (now (nicks .entry)) (f .blocks) (now (rest .entry))) ingress) from count (now (table .entry)) (now (marks .exit)) ⌝ }
 {
-    flush_nicknames::mark(ingress, nicks, rest, f, table, from, count, marks);
+    let examined = flush_nicknames::mark(ingress, nicks, rest, f, table, from, count, marks);
     if !flush_marks::any_marked(marks, table.len() / SLOT_BYTES) {
-        return;
+        return examined;
     }
     keep_labels(table, rest, f, marks);
     keep_macs(table, rest, f, marks);
+    examined
 }
 
 // Clears the slots of a range that a good payload means, by marks: for many slots.
@@ -85,13 +88,14 @@ fn clear_by_marks(
     from: usize,
     count: usize,
     table: &mut [u8],
-) -> usize
+) -> Sweep
     requires { ⌜ Within from count (now table) × ((blockBytes * f .blocks ≤ length (now rest)) × Noted everyType (f .blocks) (piecesOf (f .blocks) (now rest)) f) ⌝ }
-    ensures { λ n. ⌜ onTable n (now (table .exit)) ≡ clearedIn (slotMeant everyType (payloadFrom (now (nicks .entry)) (f .blocks) (now (rest .entry))) ingress) from count (now (table .entry)) ⌝ }
+    ensures { λ s. ⌜ onTable s (now (table .exit)) ≡ sweptIn (slotMeant everyType (payloadFrom (now (nicks .entry)) (f .blocks) (now (rest .entry))) ingress) from count (now (table .entry)) ⌝ }
 {
     let mut marks = [0u8; MARK_BYTES];
-    mark_meant(ingress, nicks, rest, f, table, from, count, &mut marks);
-    flush_marks::clear_marked(table, &marks)
+    let examined = mark_meant(ingress, nicks, rest, f, table, from, count, &mut marks);
+    let cleared = flush_marks::clear_marked(table, &marks);
+    Sweep { cleared, examined }
 }
 
 // Clears the slots of a range that a good payload means. Where they are few, a walk over the message for each costs less than to prepare
@@ -104,9 +108,9 @@ fn clear_range(
     from: usize,
     count: usize,
     table: &mut [u8],
-) -> usize
+) -> Sweep
     requires { ⌜ Within from count (now table) × ((blockBytes * f .blocks ≤ length (now rest)) × Noted everyType (f .blocks) (piecesOf (f .blocks) (now rest)) f) ⌝ }
-    ensures { λ n. ⌜ onTable n (now (table .exit)) ≡ clearedIn (slotMeant everyType (payloadFrom (now (nicks .entry)) (f .blocks) (now (rest .entry))) ingress) from count (now (table .entry)) ⌝ }
+    ensures { λ s. ⌜ onTable s (now (table .exit)) ≡ sweptIn (slotMeant everyType (payloadFrom (now (nicks .entry)) (f .blocks) (now (rest .entry))) ingress) from count (now (table .entry)) ⌝ }
 {
     if (count <= FEW_SLOTS) | ((count <= SOME_SLOTS) & (rest.len() <= SHORT_BYTES)) {
         return flush_walk::clear_walked(ingress, nicks, rest, f, from, count, table);
@@ -114,10 +118,10 @@ fn clear_range(
     clear_by_marks(ingress, nicks, rest, f, from, count, table)
 }
 
-// What clearing came to: a refusal number, or how many records were cleared.
-pub enum Cleared {
+// What clearing in a range came to: a refusal number, or what the sweep did.
+pub enum Swept {
     Refused(u8),
-    Count(usize),
+    Done(Sweep),
 }
 
 // Judges a payload, and clears what it means in a range of slots; a corrupt one changes nothing.
@@ -127,17 +131,17 @@ pub fn clear_portion(
     from: usize,
     count: usize,
     table: &mut [u8],
-) -> Cleared
+) -> Swept
     requires { ⌜ Within from count (now table) ⌝ }
-    ensures { λ r. ⌜ onTable r (now (table .exit)) ≡ clearedOn (now (table .entry)) (clearingIn everyType ingress (now (payload .entry)) from count (now (table .entry))) ⌝ }
+    ensures { λ r. ⌜ onTable r (now (table .exit)) ≡ sweptOn (now (table .entry)) count (clearingIn everyType ingress (now (payload .entry)) from count (now (table .entry))) ⌝ }
 {
     match flush_payload::judge(Model::Full, payload) {
-        Judged::Corrupt => Cleared::Refused(PAYLOAD_CORRUPT),
+        Judged::Corrupt => Swept::Refused(PAYLOAD_CORRUPT),
         Judged::Good(f) => {
             let k = flush_payload::nick_bytes(payload);
             let a = 1 + k;
             let s = 2 + k;
-            Cleared::Count(clear_range(
+            Swept::Done(clear_range(
                 ingress,
                 &payload[1..a],
                 &payload[s..],
@@ -150,13 +154,22 @@ pub fn clear_portion(
     }
 }
 
+// What clearing came to: a refusal number, or how many records were cleared.
+pub enum Cleared {
+    Refused(u8),
+    Count(usize),
+}
+
 // The same in all slots.
 pub fn clear_meant(ingress: u32, payload: &[u8], table: &mut [u8]) -> Cleared
     requires { ⌜ slotsOf (now table) ≤ mostSlots ⌝ }
     ensures { λ r. ⌜ onTable r (now (table .exit)) ≡ clearedOn (now (table .entry)) (clearing everyType ingress (now (payload .entry)) (now (table .entry))) ⌝ }
 {
     let n = table.len() / SLOT_BYTES;
-    clear_portion(ingress, payload, 0, n, table)
+    match clear_portion(ingress, payload, 0, n, table) {
+        Swept::Refused(r) => Cleared::Refused(r),
+        Swept::Done(s) => Cleared::Count(s.cleared),
+    }
 }
 
 // The flush call.

@@ -10,7 +10,7 @@ use lib.ListN.{length, take, replicate}
 use lib.Seq.{length-take-le}
 use Rattle.numbers.specs.Tests.{both, either, anyOf}
 use Rattle.numbers.specs.Numberings.{macs, bitAt}
-use Rattle.table.specs.Slots.{slotsOf, slotAt}
+use Rattle.table.specs.Slots.{slotsOf, slotAt, mostSlots}
 use Rattle.flush.specs.Payload.{Piece}
 use Rattle.flush.proofs.Lists.{false-true}
 use Rattle.flush_sort.specs.Sorting.{SortOf}
@@ -86,7 +86,7 @@ full-room m n s u r l e = let same = l .long in let less = l .full e in omega ar
 pub lent-fits : (c : ℕ) (slots keys : List ℕ) → c ≤ length slots → length keys ≡ length slots → length (take c slots) ≤ length keys
 lent-fits c slots keys h e = let z : length (take c slots) ≡ c = length-take-le c slots h in omega arith
 
-pub lent-few : (n : ℕ) (k keys slots : List ℕ) → n ≤ length k → length k ≡ length keys → length keys ≡ length slots → length slots ≤ 4096 → (length (take n k) ≤ 4096) × (length (take n k) ≤ length slots)
+pub lent-few : (n : ℕ) (k keys slots : List ℕ) → n ≤ length k → length k ≡ length keys → length keys ≡ length slots → length slots ≤ mostSlots → (length (take n k) ≤ mostSlots) × (length (take n k) ≤ length slots)
 lent-few n k keys slots h same e few = let z : length (take n k) ≡ n = length-take-le n k h in (omega arith, omega arith)
 
 -- ---- how the numbers are named

@@ -6,7 +6,7 @@ ghost use mathlib.Core.Bool.{true, false};
 ghost use mathlib.Core.Path.{_≡_};
 ghost use lib.ListN.{length};
 ghost use Rattle.numbers.specs.Tests.{anyOf};
-ghost use Rattle.table.specs.Slots.{slotsOf};
+ghost use Rattle.table.specs.Slots.{mostSlots, slotsOf};
 ghost use Rattle.flush.specs.Payload.{tlvs};
 ghost use Rattle.flush_sort.specs.Sorting.{Sorted};
 ghost use Rattle.flush_parts.specs.Parts.{Narrow};
@@ -47,7 +47,7 @@ fn naming_of(field: Field) -> Naming
 
 // Sets the bits of the sorted keys whose number the message names. What the area of places holds before and after is free.
 fn hit_keys(rest: &[u8], field: Field, keys: &[u64], places: &mut [u64], hits: &mut [u8])
-    requires { ⌜ (Sorted (now keys) × (length (now keys) ≤ 4096)) × (length (now hits) ≡ hitBytes) ⌝ }
+    requires { ⌜ (Sorted (now keys) × (length (now keys) ≤ mostSlots)) × (length (now hits) ≡ hitBytes) ⌝ }
     ensures { λ _. ⌜ Hits (namedOf (namingOf field) (tlvs (now (rest .entry)))) (now (keys .entry)) (now (hits .entry)) (now (hits .exit)) ⌝ }
 {
     let mut near = [0u8; BUCKET_BYTES];
@@ -58,7 +58,7 @@ fn hit_keys(rest: &[u8], field: Field, keys: &[u64], places: &mut [u64], hits: &
 
 // Marks the slots of keys whose number the message names.
 fn mark_named(rest: &[u8], field: Field, keys: &mut [u64], work: &mut [u64], marks: &mut [u8])
-    requires { ⌜ ((length (now keys) ≤ 4096) × (length (now keys) ≤ length (now work))) × (length (now marks) ≡ markBytes) ⌝ }
+    requires { ⌜ ((length (now keys) ≤ mostSlots) × (length (now keys) ≤ length (now work))) × (length (now marks) ≡ markBytes) ⌝ }
     ensures { λ _. ⌜ Marked (namedOf (namingOf field) (tlvs (now (rest .entry)))) (now (keys .entry)) (now (marks .entry)) (now (marks .exit)) ⌝ }
 {
     flush_sort::sort(keys, work);
@@ -105,7 +105,7 @@ fn keep_listed(
     keys: &mut [u64],
     marks: &mut [u8],
 )
-    requires { ⌜ (Filtering (now table) (now marks) × Listed (now marks) (slotsOf (now table)) c (now slots)) × ((length (now slots) ≤ 4096) × (length (now keys) ≡ length (now slots))) ⌝ }
+    requires { ⌜ (Filtering (now table) (now marks) × Listed (now marks) (slotsOf (now table)) c (now slots)) × ((length (now slots) ≤ mostSlots) × (length (now keys) ≡ length (now slots))) ⌝ }
     ensures { λ _. ⌜ Filtered (slotPasses field (tlvs (now (rest .entry)))) (now (table .entry)) (now (marks .entry)) (now (marks .exit)) ⌝ }
 {
     let n = key_slots(table, rest, field, &slots[..c], keys, marks);
@@ -121,7 +121,7 @@ fn keep_in(
     keys: &mut [u64],
     marks: &mut [u8],
 ) -> bool
-    requires { ⌜ Filtering (now table) (now marks) × ((length (now slots) ≤ 4096) × (length (now keys) ≡ length (now slots))) ⌝ }
+    requires { ⌜ Filtering (now table) (now marks) × ((length (now slots) ≤ mostSlots) × (length (now keys) ≡ length (now slots))) ⌝ }
     ensures { λ r. ⌜ Kept r (slotPasses field (tlvs (now (rest .entry)))) (now (table .entry)) (now (marks .entry)) (now (marks .exit)) × (r ≡ false → length (now (slots .entry)) < slotsOf (now (table .entry))) ⌝ }
 {
     match flush_marks::list_marked(marks, table.len() / SLOT_BYTES, slots) {

@@ -22,7 +22,7 @@ use Rattle.flush_bits.specs.Ranged.{Ranged}
 use Rattle.flush_bits.proofs.Laws.{either-all}
 use Rattle.flush_sort.specs.Sorting.{All, Sorted}
 use Rattle.flush_sort.proofs.Laws.{all-at, either-none}
-use Rattle.flush_buckets.specs.Buckets.{bucketOf, aloneOf, Nears}
+use Rattle.flush_buckets.specs.Buckets.{bucketOf, aloneOf, Nears, keySlots}
 use Rattle.flush_intervals.specs.Hits.{Splits, Searched, Hits, HitsTo, GroupHit}
 use Rattle.flush_intervals.proofs.Ranges.{all-map, sorted-below, sorted-above}
 
@@ -119,13 +119,13 @@ module _ (s e x : ℕ) where
   inside-range h k = both-pass (leb s x) (leb (suc x) e) (le-leb s x h) (le-leb (suc x) e (omega arith))
 
 -- no key passes
-pub hits-none : (q : ℕ → Bool) (keys h : List ℕ) → ((i : ℕ) → i < length keys → q (getD keys i 0 / 4096) ≡ false) → Hits q keys h h
+pub hits-none : (q : ℕ → Bool) (keys h : List ℕ) → ((i : ℕ) → i < length keys → q (getD keys i 0 / keySlots) ≡ false) → Hits q keys h h
 hits-none q keys h none = record { long = refl; each = λ i k. sym (rw (none i k) (either-none (bitAt i h))) }
 
 pub range-empty : (s e : ℕ) (keys h : List ℕ) → e ≤ s → Hits (λ x. both (leb s x) (leb (suc x) e)) keys h h
-range-empty s e keys h le = hits-none _ keys h (λ i k. go i (decLt (getD keys i 0 / 4096) s))
+range-empty s e keys h le = hits-none _ keys h (λ i k. go i (decLt (getD keys i 0 / keySlots) s))
   where
-    go : (i : ℕ) → Dec (getD keys i 0 / 4096 < s) → both (leb s (getD keys i 0 / 4096)) (leb (suc (getD keys i 0 / 4096)) e) ≡ false
+    go : (i : ℕ) → Dec (getD keys i 0 / keySlots < s) → both (leb s (getD keys i 0 / keySlots)) (leb (suc (getD keys i 0 / keySlots)) e) ≡ false
     go i (yes d) = below-range s e _ d
     go i (no d) = above-range s e _ (omega arith)
 
@@ -133,7 +133,7 @@ range-empty s e keys h le = hits-none _ keys h (λ i k. go i (decLt (getD keys i
 pub far-hits : (q : ℕ → Bool) (s e : ℕ) → ((x : ℕ) → q x ≡ true → s ≤ x) → ((x : ℕ) → q x ≡ true → x < e) → (near keys h : List ℕ) → Nears keys near
     → (b : Bool) → (b ≡ false → (x : ℕ) → s ≤ x → x < e → bitAt (bucketOf x) near ≡ false) → b ≡ false → Hits q keys h h
 far-hits q s e low high near keys h n b none off = hits-none q keys h (λ i k. not-true-false _ (λ t.
-    let x : ℕ = getD keys i 0 / 4096 in
+    let x : ℕ = getD keys i 0 / keySlots in
     false-true (sym (none off x (low x t) (high x t)) ∙ n .each i k)))
 
 range-low : (s e x : ℕ) → both (leb s x) (leb (suc x) e) ≡ true → s ≤ x
@@ -157,33 +157,33 @@ range-far s e near keys h g b none off = far-hits _ s e (range-low s e) (range-h
 -- a number whose own bit no key has set
 pub single-far : (x : ℕ) (near keys h : List ℕ) → Searched near keys h → (b : Bool) → b ≡ bitAt (aloneOf x) near → b ≡ false → Hits (λ y. both (leb x y) (leb (suc y) (x + 1))) keys h h
 single-far x near keys h g b is off = hits-none _ keys h (λ i k. not-true-false _ (λ t.
-    let low = range-low x (x + 1) (getD keys i 0 / 4096) t in
-    let high = range-high x (x + 1) (getD keys i 0 / 4096) t in
-    let same : getD keys i 0 / 4096 ≡ x = omega arith in
+    let low = range-low x (x + 1) (getD keys i 0 / keySlots) t in
+    let high = range-high x (x + 1) (getD keys i 0 / keySlots) t in
+    let same : getD keys i 0 / keySlots ≡ x = omega arith in
     false-true (sym (sym is ∙ off) ∙ (rw same at (g .nears .alone i k)))))
 
-module _ (s e : ℕ) (keys : List ℕ) (lo : ℕ) (a : Splits keys (s * 4096) lo) where
-  pub front-below : s < e → All (λ v. v < e * 4096) (take lo keys)
-  front-below h = all-map (λ v. v < s * 4096) (λ v. v < e * 4096) (take lo keys) (λ v k. omega arith) (a .below)
+module _ (s e : ℕ) (keys : List ℕ) (lo : ℕ) (a : Splits keys (s * keySlots) lo) where
+  pub front-below : s < e → All (λ v. v < e * keySlots) (take lo keys)
+  front-below h = all-map (λ v. v < s * keySlots) (λ v. v < e * keySlots) (take lo keys) (λ v k. omega arith) (a .below)
 
-  module _ (hi : ℕ) (b : Splits keys (e * 4096) hi) where
+  module _ (hi : ℕ) (b : Splits keys (e * keySlots) hi) where
     pub range-order : s < e → lo ≤ hi
-    range-order k = split-order keys (s * 4096) lo a (e * 4096) hi b (omega arith)
+    range-order k = split-order keys (s * keySlots) lo a (e * keySlots) hi b (omega arith)
 
     pub range-hits : (h u : List ℕ) → Ranged h u lo hi → Hits (λ x. both (leb s x) (leb (suc x) e)) keys h u
     range-hits h u r = record { long = r .long; each = λ i k. go i k (decLt i lo) (decLt i hi) }
       where
-        go : (i : ℕ) → i < length keys → Dec (i < lo) → Dec (i < hi) → bitAt i u ≡ either (bitAt i h) (both (leb s (getD keys i 0 / 4096)) (leb (suc (getD keys i 0 / 4096)) e))
+        go : (i : ℕ) → i < length keys → Dec (i < lo) → Dec (i < hi) → bitAt i u ≡ either (bitAt i h) (both (leb s (getD keys i 0 / keySlots)) (leb (suc (getD keys i 0 / keySlots)) e))
         go i k (yes p) q =
-            let v = split-below keys (s * 4096) lo a i p in
-            r .below i p ∙ sym (rw (below-range s e (getD keys i 0 / 4096) (omega arith)) (either-none (bitAt i h)))
+            let v = split-below keys (s * keySlots) lo a i p in
+            r .below i p ∙ sym (rw (below-range s e (getD keys i 0 / keySlots) (omega arith)) (either-none (bitAt i h)))
         go i k (no p) (yes q) =
-            let v = split-above keys (s * 4096) lo a i (omega arith) k in
-            let z = split-below keys (e * 4096) hi b i q in
-            r .inside i (omega arith) q ∙ sym (rw (inside-range s e (getD keys i 0 / 4096) (omega arith) (omega arith)) (either-all (bitAt i h)))
+            let v = split-above keys (s * keySlots) lo a i (omega arith) k in
+            let z = split-below keys (e * keySlots) hi b i q in
+            r .inside i (omega arith) q ∙ sym (rw (inside-range s e (getD keys i 0 / keySlots) (omega arith) (omega arith)) (either-all (bitAt i h)))
         go i k (no p) (no q) =
-            let z = split-above keys (e * 4096) hi b i (omega arith) k in
-            r .above i (omega arith) ∙ sym (rw (above-range s e (getD keys i 0 / 4096) (omega arith)) (either-none (bitAt i h)))
+            let z = split-above keys (e * keySlots) hi b i (omega arith) k in
+            r .above i (omega arith) ∙ sym (rw (above-range s e (getD keys i 0 / keySlots) (omega arith)) (either-none (bitAt i h)))
 
 -- ---- a group of keys with one number
 
@@ -205,14 +205,14 @@ pub record Mapping (q : ℕ → Bool) (keys h₀ : List ℕ) (i : ℕ) (h : List
   pub so-far : HitsTo q keys h₀ i h
 
 module _ (q : ℕ → Bool) (keys h₀ : List ℕ) (s e : ℕ) (low : (x : ℕ) → q x ≡ true → s ≤ x) (high : (x : ℕ) → q x ≡ true → x < e) where
-  pub map-start : (lo : ℕ) → Splits keys (s * 4096) lo → Mapping q keys h₀ lo h₀
+  pub map-start : (lo : ℕ) → Splits keys (s * keySlots) lo → Mapping q keys h₀ lo h₀
   map-start lo a = record {
     place = a .within;
     so-far = record {
       long = refl;
       done = λ k p.
-          let v = split-below keys (s * 4096) lo a k p in
-          sym (rw (not-true-false (q (getD keys k 0 / 4096)) (λ t. let z = low _ t in omega arith)) (either-none (bitAt k h₀)));
+          let v = split-below keys (s * keySlots) lo a k p in
+          sym (rw (not-true-false (q (getD keys k 0 / keySlots)) (λ t. let z = low _ t in omega arith)) (either-none (bitAt k h₀)));
       rest = λ k p. refl;
     };
   }
@@ -222,7 +222,7 @@ module _ (q : ℕ → Bool) (keys h₀ : List ℕ) (s e : ℕ) (low : (x : ℕ) 
     map-done far = record { long = m .so-far .long; each = λ k p. m .so-far .done k (omega arith) }
 
     -- the numbers from here on lie after the map
-    pub map-past : i < length keys → e ≤ getD keys i 0 / 4096 → Hits q keys h₀ h
+    pub map-past : i < length keys → e ≤ getD keys i 0 / keySlots → Hits q keys h₀ h
     map-past more far = record { long = m .so-far .long; each = λ k p. go k p (decLt k i) }
       where
         after : (k : ℕ) → i ≤ k → k < length keys → getD keys i 0 ≤ getD keys k 0
@@ -231,20 +231,20 @@ module _ (q : ℕ → Bool) (keys h₀ : List ℕ) (s e : ℕ) (low : (x : ℕ) 
             let z : i + (k - i) ≡ k = omega arith in
             rw (getD-drop i keys (k - i) 0, z) at (all-at (λ v. getD keys i 0 ≤ v) (drop i keys) (k - i) (sorted-above keys i (getD keys i 0) sorted more (omega arith)) (omega arith))
 
-        go : (k : ℕ) → k < length keys → Dec (k < i) → bitAt k h ≡ either (bitAt k h₀) (q (getD keys k 0 / 4096))
+        go : (k : ℕ) → k < length keys → Dec (k < i) → bitAt k h ≡ either (bitAt k h₀) (q (getD keys k 0 / keySlots))
         go k p (yes d) = m .so-far .done k d
         go k p (no d) =
             let a = after k (omega arith) p in
-            m .so-far .rest k (omega arith) ∙ sym (rw (not-true-false (q (getD keys k 0 / 4096)) (λ t. let z = high _ t in omega arith)) (either-none (bitAt k h₀)))
+            m .so-far .rest k (omega arith) ∙ sym (rw (not-true-false (q (getD keys k 0 / keySlots)) (λ t. let z = high _ t in omega arith)) (either-none (bitAt k h₀)))
 
 -- the keys with the number of key i
-module _ (q : ℕ → Bool) (keys h₀ : List ℕ) (i : ℕ) (h : List ℕ) (m : Mapping q keys h₀ i h) (sorted : Sorted keys) (more : i < length keys) (x : ℕ) (ex : x ≡ getD keys i 0 / 4096) where
-  pub group-front : All (λ v. v < (x + 1) * 4096) (take i keys)
-  group-front = sorted-front keys i ((x + 1) * 4096) sorted more (omega arith)
+module _ (q : ℕ → Bool) (keys h₀ : List ℕ) (i : ℕ) (h : List ℕ) (m : Mapping q keys h₀ i h) (sorted : Sorted keys) (more : i < length keys) (x : ℕ) (ex : x ≡ getD keys i 0 / keySlots) where
+  pub group-front : All (λ v. v < (x + 1) * keySlots) (take i keys)
+  group-front = sorted-front keys i ((x + 1) * keySlots) sorted more (omega arith)
 
-  module _ (j : ℕ) (a : Splits keys ((x + 1) * 4096) j) where
+  module _ (j : ℕ) (a : Splits keys ((x + 1) * keySlots) j) where
     pub group-some : i < j
-    group-some = split-past keys ((x + 1) * 4096) j a i more (omega arith)
+    group-some = split-past keys ((x + 1) * keySlots) j a i more (omega arith)
 
     pub map-next : (u : List ℕ) → GroupHit (q x) i j h u → Mapping q keys h₀ j u
     map-next u g = record {
@@ -256,16 +256,16 @@ module _ (q : ℕ → Bool) (keys h₀ : List ℕ) (i : ℕ) (h : List ℕ) (m :
       };
     }
       where
-        same : (k : ℕ) → i ≤ k → k < j → getD keys k 0 / 4096 ≡ x
+        same : (k : ℕ) → i ≤ k → k < j → getD keys k 0 / keySlots ≡ x
         same k p r =
             let w = a .within in
             let d : length (drop i keys) ≡ length keys - i = length-drop i keys in
             let z : i + (k - i) ≡ k = omega arith in
             let up = rw (getD-drop i keys (k - i) 0, z) at (all-at (λ v. getD keys i 0 ≤ v) (drop i keys) (k - i) (sorted-above keys i (getD keys i 0) sorted more (omega arith)) (omega arith)) in
-            let down = split-below keys ((x + 1) * 4096) j a k r in
+            let down = split-below keys ((x + 1) * keySlots) j a k r in
             omega arith
 
-        go : (k : ℕ) → k < j → Dec (k < i) → bitAt k u ≡ either (bitAt k h₀) (q (getD keys k 0 / 4096))
+        go : (k : ℕ) → k < j → Dec (k < i) → bitAt k u ≡ either (bitAt k h₀) (q (getD keys k 0 / keySlots))
         go k p (yes d) = g .below k d ∙ m .so-far .done k d
         go k p (no d) = g .inside k (omega arith) p ∙ rw (same k (omega arith) p, m .so-far .rest k (omega arith))
 

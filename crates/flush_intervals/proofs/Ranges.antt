@@ -15,6 +15,7 @@ use lib.Seq.{drop-drop, drop-cons, take-suc-set, append-snoc, take-all}
 use Rattle.numbers.specs.Tests.{pick, both, either, anyOf}
 use Rattle.flush_sort.specs.Sorting.{All, Sorted}
 use Rattle.flush_sort.proofs.Laws.{all-at, any-append, either-none, either-assoc}
+use Rattle.flush_buckets.specs.Buckets.{keySlots}
 use Rattle.flush_intervals.specs.Hits.{Splits}
 
 pub all-map : (P Q : ℕ → Type 0) (l : List ℕ) → ((v : ℕ) → P v → Q v) → All P l → All Q l
@@ -49,19 +50,19 @@ add-pick true a h = refl
 add-pick false a h = omega arith
 
 -- the step by arithmetic
-step-case : (t : Bool) (v z h k : ℕ) → leb (suc v) (z * 4096) ≡ t → z < 2 ^ 52 → v < 2 ^ 64 → k ≡ (v / 4096 + 2 ^ 60 - z) / 2 ^ 60 → (h * (1 - k) ≡ pick t h 0) × (h * (1 - k) ≤ h)
+step-case : (t : Bool) (v z h k : ℕ) → leb (suc v) (z * keySlots) ≡ t → z < 2 ^ 52 → v < 2 ^ 64 → k ≡ (v / keySlots + 2 ^ 60 - z) / 2 ^ 60 → (h * (1 - k) ≡ pick t h 0) × (h * (1 - k) ≤ h)
 unfolding pick
 step-case true v z h k e a b ek =
-    let lt = leb-true (suc v) (z * 4096) e in
+    let lt = leb-true (suc v) (z * keySlots) e in
     let o : k ≡ 0 = omega arith in
     rw o (mul-one h, omega (arith, mul-one h))
 step-case false v z h k e a b ek =
-    let le = leb-false (suc v) (z * 4096) e in
+    let le = leb-false (suc v) (z * keySlots) e in
     let o : k ≡ 1 = omega arith in
     rw o (mul-zero h, omega (arith, mul-zero h))
 
-pub step-is : (v z h k : ℕ) → z < 2 ^ 52 → v < 2 ^ 64 → k ≡ (v / 4096 + 2 ^ 60 - z) / 2 ^ 60 → (h * (1 - k) ≡ pick (leb (suc v) (z * 4096)) h 0) × (h * (1 - k) ≤ h)
-step-is v z h k a b ek = step-case (leb (suc v) (z * 4096)) v z h k refl a b ek
+pub step-is : (v z h k : ℕ) → z < 2 ^ 52 → v < 2 ^ 64 → k ≡ (v / keySlots + 2 ^ 60 - z) / 2 ^ 60 → (h * (1 - k) ≡ pick (leb (suc v) (z * keySlots)) h 0) × (h * (1 - k) ≤ h)
+step-is v z h k a b ek = step-case (leb (suc v) (z * keySlots)) v z h k refl a b ek
 
 -- the binary search: n from base on are still in question
 pub record Bracket (l : List ℕ) (y base n : ℕ) : Type 0 where

@@ -22,6 +22,7 @@ use Rattle.flush_parts.specs.Parts.{spanFor, lowFor, pastFor, hitFor, partsHit}
 use Rattle.flush_parts.specs.Named.{namedIn, namedOf}
 use Rattle.flush_parts.specs.declared.Naming.{Naming}
 use Rattle.flush_parts.proofs.Parts.{hit-is, hit-near}
+use Rattle.flush_buckets.specs.Buckets.{keySlots}
 use Rattle.flush_intervals.specs.Hits.{Hits}
 use Rattle.flush_intervals.proofs.Hits.{hits-none}
 
@@ -30,7 +31,7 @@ use Rattle.flush_intervals.proofs.Hits.{hits-none}
 pub record Hitting (t : Bool) (w : Numbering) (v keys h₀ h : List ℕ) (at : ℕ) : Type 0 where
   pub place : at ≤ length v
   pub long : length h ≡ length h₀
-  pub means : (i : ℕ) → i < length keys → either (bitAt i h₀) (partsHit t w v (getD keys i 0 / 4096)) ≡ either (bitAt i h) (partsHit t w (drop at v) (getD keys i 0 / 4096))
+  pub means : (i : ℕ) → i < length keys → either (bitAt i h₀) (partsHit t w v (getD keys i 0 / keySlots)) ≡ either (bitAt i h) (partsHit t w (drop at v) (getD keys i 0 / keySlots))
 
 module _ (t : Bool) (w : Numbering) (v keys h₀ : List ℕ) where
   pub hit-start : Hitting t w v keys h₀ h₀ 0
@@ -53,14 +54,14 @@ module _ (t : Bool) (w : Numbering) (v keys h₀ : List ℕ) where
           long = g .long ∙ a .long;
           means = λ i m.
               a .means i m
-              ∙ rw (parts-more (spanFor t w) (omega arith) (drop at v) (omega arith), hit-near t w (getD keys i 0 / 4096) (drop at v) (omega arith), hit-is t w (getD keys i 0 / 4096) (drop at v), ← es, ← ee, ← span, drop-drop k at v, g .each i m)
-              (sym (either-assoc (bitAt i h) (both (leb s (getD keys i 0 / 4096)) (leb (suc (getD keys i 0 / 4096)) e)) _));
+              ∙ rw (parts-more (spanFor t w) (omega arith) (drop at v) (omega arith), hit-near t w (getD keys i 0 / keySlots) (drop at v) (omega arith), hit-is t w (getD keys i 0 / keySlots) (drop at v), ← es, ← ee, ← span, drop-drop k at v, g .each i m)
+              (sym (either-assoc (bitAt i h) (both (leb s (getD keys i 0 / keySlots)) (leb (suc (getD keys i 0 / keySlots)) e)) _));
         }
 
 -- ---- a TLV
 
 hits-same : (p q : ℕ → Bool) (keys h u : List ℕ) → ((x : ℕ) → p x ≡ q x) → Hits p keys h u → Hits q keys h u
-hits-same p q keys h u e g = record { long = g .long; each = λ i m. g .each i m ∙ ap (either (bitAt i h)) (e (getD keys i 0 / 4096)) }
+hits-same p q keys h u e g = record { long = g .long; each = λ i m. g .each i m ∙ ap (either (bitAt i h)) (e (getD keys i 0 / keySlots)) }
 
 module _ (d : Naming) (k : ℕ) (v keys h : List ℕ) where
   module _ (u : List ℕ) where
@@ -85,7 +86,7 @@ module _ (d : Naming) (k : ℕ) (v keys h : List ℕ) where
 pub record Walking (d : Naming) (l keys h₀ h : List ℕ) (at : ℕ) : Type 0 where
   pub place : at ≤ length l
   pub long : length h ≡ length h₀
-  pub means : (i : ℕ) → i < length keys → either (bitAt i h₀) (namedOf d (tlvs l) (getD keys i 0 / 4096)) ≡ either (bitAt i h) (namedOf d (tlvs (drop at l)) (getD keys i 0 / 4096))
+  pub means : (i : ℕ) → i < length keys → either (bitAt i h₀) (namedOf d (tlvs l) (getD keys i 0 / keySlots)) ≡ either (bitAt i h) (namedOf d (tlvs (drop at l)) (getD keys i 0 / keySlots))
 
 module _ (d : Naming) (l keys h₀ : List ℕ) where
   pub walk-start : Walking d l keys h₀ h₀ 0
@@ -103,7 +104,7 @@ module _ (d : Naming) (l keys h₀ : List ℕ) where
       unfolding namedOf anyOf namedIn either
       walk-cut far =
           let z : length (drop at l) ≡ length l - at = length-drop at l in
-          record { long = g .long; each = λ i m. sym (g .means i m ∙ rw (tlvs-rest (λ p. namedIn d p (getD keys i 0 / 4096)) refl (drop at l) (omega arith)) (either-none (bitAt i h))) }
+          record { long = g .long; each = λ i m. sym (g .means i m ∙ rw (tlvs-rest (λ p. namedIn d p (getD keys i 0 / keySlots)) refl (drop at l) (omega arith)) (either-none (bitAt i h))) }
 
       pub walk-next : e ≤ length l → (u : List ℕ) → Hits (namedIn d (tlv (getD l at 0) (take (e - (at + 2)) (drop (at + 2) l)))) keys h u → Walking d l keys h₀ u e
       unfolding namedOf anyOf

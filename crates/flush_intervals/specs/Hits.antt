@@ -1,4 +1,4 @@
--- Sorted keys, a number times 4096 and a slot each, and bits that say of which keys the number passes a test.
+-- Sorted keys, a number times `keySlots` and a slot each, and bits that say of which keys the number passes a test.
 -- Assumes nothing.
 use Prim.Native.Nat.{ℕ, _/_, _≤_, _<_}
 use mathlib.Core.Bool.{Bool}
@@ -8,9 +8,10 @@ use lib.ListN.{length, take, drop, getD}
 use Rattle.numbers.specs.Tests.{either}
 use Rattle.numbers.specs.Numberings.{bitAt}
 use Rattle.flush_sort.specs.Sorting.{All, Sorted}
-use Rattle.flush_buckets.specs.Buckets.{Nears}
+use Rattle.flush_buckets.specs.Buckets.{Nears, keySlots}
+use Rattle.table.specs.Slots.{mostSlots}
 
--- a bit for each of 4,096 keys, and a byte after them that is not used
+-- a bit for each key, of which there are as many as slots at most, and a byte after them that is not used
 abbrev pub hitBytes : ℕ
 hitBytes = 513
 
@@ -23,19 +24,19 @@ pub record Splits (l : List ℕ) (y r : ℕ) : Type 0 where
 -- keys that are searched, filter bits of their numbers, and a bit for each
 pub record Searched (near keys hits : List ℕ) : Type 0 where
   pub sorted : Sorted keys
-  pub few : length keys ≤ 4096
+  pub few : length keys ≤ mostSlots
   pub nears : Nears keys near
   pub room : length hits ≡ hitBytes
 
 -- the bits h₀ have become h: those of the keys whose number passes the test are set
 pub record Hits (q : ℕ → Bool) (keys h₀ h : List ℕ) : Type 0 where
   pub long : length h ≡ length h₀
-  pub each : (i : ℕ) → i < length keys → bitAt i h ≡ either (bitAt i h₀) (q (getD keys i 0 / 4096))
+  pub each : (i : ℕ) → i < length keys → bitAt i h ≡ either (bitAt i h₀) (q (getD keys i 0 / keySlots))
 
 -- the same so far: of the keys before key i
 pub record HitsTo (q : ℕ → Bool) (keys h₀ : List ℕ) (i : ℕ) (h : List ℕ) : Type 0 where
   pub long : length h ≡ length h₀
-  pub done : (k : ℕ) → k < i → bitAt k h ≡ either (bitAt k h₀) (q (getD keys k 0 / 4096))
+  pub done : (k : ℕ) → k < i → bitAt k h ≡ either (bitAt k h₀) (q (getD keys k 0 / keySlots))
   pub rest : (k : ℕ) → i ≤ k → bitAt k h ≡ bitAt k h₀
 
 -- where b is true the bits from i to before j are set; all others are as before

@@ -7,40 +7,37 @@ ghost use lib.Dec.{leb};
 ghost use lib.ListN.{length, take};
 ghost use Rattle.numbers.specs.Tests.{pick, both};
 ghost use Rattle.numbers.specs.Numberings.{inMap};
+ghost use Rattle.table.specs.Slots.{mostSlots};
 ghost use Rattle.flush.specs.Payload.{tlv, tlvs};
 ghost use Rattle.flush_sort.specs.Sorting.{All, Sorted};
 ghost use Rattle.flush_members.specs.Sound.{Sound};
 ghost use Rattle.flush_parts.specs.Parts.{Narrow, partsHit};
 ghost use Rattle.flush_parts.specs.Named.{namedIn, namedOf};
+ghost use Rattle.flush_buckets.specs.Buckets.{keySlots};
 ghost use Rattle.flush_intervals.specs.Hits.{Splits, Searched, Hits, GroupHit};
+use flush_buckets::BUCKET;
+use flush_buckets::BUCKETS;
 use flush_buckets::KEY_SLOTS;
 use flush_parts::Naming;
 use numbers::Numbering;
+use table::MOST_SLOTS;
 
-// A bit for each of 4,096 keys, and a byte after them that is not used.
+// A bit for each key, of which there are as many as slots at most, and a byte after them that is not used.
 pub const HIT_BYTES: usize = 513;
 
-// The most entries that places are noted in.
-const MOST_PLACES: usize = 4096;
-
-// The numbers of a bucket, and how many buckets there are.
-const BUCKET: u64 = 256;
-
-const BUCKETS: u64 = 0x1_0000;
-
-// The step of the search: h if v is below z times 4096, else 0; by arithmetic, since a compiler makes a branch of a choice.
+// The step of the search: h if v is below the keys of z, else 0; by arithmetic, since a compiler makes a branch of a choice.
 fn step(v: u64, z: u64, h: usize) -> usize
     requires { ⌜ z < 2 ^ 52 ⌝ }
-    ensures { λ r. ⌜ (r ≡ pick (leb (suc v) (z * 4096)) h 0) × (r ≤ h) ⌝ }
+    ensures { λ r. ⌜ (r ≡ pick (leb (suc v) (z * keySlots)) h 0) × (r ≤ h) ⌝ }
 {
     let above = (v / KEY_SLOTS + 0x1000_0000_0000_0000 - z) / 0x1000_0000_0000_0000;
     h * (1 - above as usize)
 }
 
-// How many are below z times 4096. The n from base on are still in question; each turn halves them.
+// How many are below the keys of z. The n from base on are still in question; each turn halves them.
 fn count_below(keys: &[u64], z: u64) -> usize
     requires { ⌜ Sorted (now keys) × (z < 2 ^ 52) ⌝ }
-    ensures { λ r. ⌜ Splits (now (keys .entry)) (z * 4096) r ⌝ }
+    ensures { λ r. ⌜ Splits (now (keys .entry)) (z * keySlots) r ⌝ }
 {
     let mut base = 0;
     let mut n = keys.len();
@@ -55,10 +52,10 @@ fn count_below(keys: &[u64], z: u64) -> usize
     base
 }
 
-// How many are below e times 4096, where those before lo are. Mostly it is lo or the next.
+// How many are below the keys of e, where those before lo are. Mostly it is lo or the next.
 fn count_from(keys: &[u64], lo: usize, e: u64) -> usize
-    requires { ⌜ Sorted (now keys) × ((e < 2 ^ 52) × ((lo ≤ length (now keys)) × All (λ v. v < e * 4096) (take lo (now keys)))) ⌝ }
-    ensures { λ r. ⌜ Splits (now (keys .entry)) (e * 4096) r ⌝ }
+    requires { ⌜ Sorted (now keys) × ((e < 2 ^ 52) × ((lo ≤ length (now keys)) × All (λ v. v < e * keySlots) (take lo (now keys)))) ⌝ }
+    ensures { λ r. ⌜ Splits (now (keys .entry)) (e * keySlots) r ⌝ }
 {
     if lo == keys.len() {
         return lo;
@@ -79,16 +76,17 @@ fn count_from(keys: &[u64], lo: usize, e: u64) -> usize
 
 // The entry of a number among the places of n: by its bucket.
 fn entry_of(x: u64, n: usize) -> usize
-    requires { ⌜ n ≤ 4096 ⌝ }
+    requires { ⌜ n ≤ mostSlots ⌝ }
 {
     (x / BUCKET % BUCKETS) as usize * n / BUCKETS as usize
 }
 
-// Notes the place of each key in the entry of its number; of several in one entry that of the first. Nothing is promised of it: a place that
+// Notes the place of each key in the entry of its number; of several in one entry that of the first. There are no more entries than
+// slots. Nothing is promised of it: a place that
 // is read is tested.
 pub fn note_places(keys: &[u64], places: &mut [u64]) {
     let n = places.len();
-    if MOST_PLACES < n {
+    if MOST_SLOTS < n {
         return;
     }
     let mut i = keys.len();
@@ -105,7 +103,7 @@ pub fn note_places(keys: &[u64], places: &mut [u64]) {
 // The place that was noted in the entry of a number, or any number.
 fn place_at(places: &[u64], x: u64) -> usize {
     let n = places.len();
-    if MOST_PLACES < n {
+    if MOST_SLOTS < n {
         return 0;
     }
     let h = entry_of(x, n);
@@ -115,10 +113,10 @@ fn place_at(places: &[u64], x: u64) -> usize {
     places[h] as usize
 }
 
-// How many are below z times 4096. Mostly it is the place that was noted or the next; else they are searched.
+// How many are below the keys of z. Mostly it is the place that was noted or the next; else they are searched.
 fn count_near(keys: &[u64], places: &[u64], z: u64) -> usize
     requires { ⌜ Sorted (now keys) × (z < 2 ^ 52) ⌝ }
-    ensures { λ r. ⌜ Splits (now (keys .entry)) (z * 4096) r ⌝ }
+    ensures { λ r. ⌜ Splits (now (keys .entry)) (z * keySlots) r ⌝ }
 {
     let i = place_at(places, z);
     if i == 0 {

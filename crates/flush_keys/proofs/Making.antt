@@ -17,7 +17,7 @@ use Rattle.numbers.specs.Numberings.{bitAt}
 use Rattle.numbers.proofs.Truth.{both-right}
 use Rattle.table.specs.Slots.{slotBytes, mostSlots, slotAt}
 use Rattle.flush_sort.proofs.Laws.{either-none, any-append}
-use Rattle.flush_buckets.specs.Buckets.{bucketOf, HasBits}
+use Rattle.flush_buckets.specs.Buckets.{bucketOf, HasBits, keySlots}
 use Rattle.flush_keys.specs.Keys.{numberIn, appliesTo, InTable, keyed, KeysOf}
 use Rattle.flush_keys.specs.declared.Field.{Field}
 use Rattle.flush_keys.proofs.Fields.{number-near, applies-near, slot-few}
@@ -70,14 +70,14 @@ module _ (test : ℕ → Bool) (number : ℕ → ℕ) where
         abbrev s : ℕ
         s = getD slots i 0
 
-        key-is : (q : ℕ → Bool) (j : ℕ) → keyed q j (x * 4096 + s) ≡ both (eqb s j) (q x)
+        key-is : (q : ℕ → Bool) (j : ℕ) → keyed q j (x * keySlots + s) ≡ both (eqb s j) (q x)
         unfolding keyed
         key-is q j =
-            let low : (x * 4096 + s) % 4096 ≡ s = omega arith in
-            let high : (x * 4096 + s) / 4096 ≡ x = omega arith in
+            let low : (x * keySlots + s) % keySlots ≡ s = omega arith in
+            let high : (x * keySlots + s) / keySlots ≡ x = omega arith in
             rw (low, high)
 
-        counted : (q : ℕ → Bool) → HasBits q named → (j : ℕ) → both (a && b) (keyed q j (x * 4096 + s)) ≡ both (eqb j s) (wanted q j)
+        counted : (q : ℕ → Bool) → HasBits q named → (j : ℕ) → both (a && b) (keyed q j (x * keySlots + s)) ≡ both (eqb j s) (wanted q j)
         unfolding both
         counted q has j = rw (key-is q j) (go (ℕ-discrete j s))
           where
@@ -85,16 +85,16 @@ module _ (test : ℕ → Bool) (number : ℕ → ℕ) where
             go (yes e) = rw (e, eq-eqb s s refl, ← is-test, ← is-number) (bit-needed a b (q x) (λ p. is-bit ∙ has .each x p))
             go (no d) = rw (ne-eqb j s d, ne-eqb s j (λ e. d (sym e))) (both-right (a && b) false refl)
 
-        pub making-next : (m : ℕ) → m ≡ pick (a && b) 1 0 → m ≤ 1 → Making slots named (i + 1) (n + m) (set out n (x * 4096 + s))
+        pub making-next : (m : ℕ) → m ≡ pick (a && b) 1 0 → m ≤ 1 → Making slots named (i + 1) (n + m) (set out n (x * keySlots + s))
         making-next m e one =
             let f = so-far .few in
             record { place = omega arith; few = omega arith; each = λ q has j. step q has j ∙ so-far .each q has j }
           where
             step : (q : ℕ → Bool) → HasBits q named → (j : ℕ)
-                → either (anyOf (keyed q j) (take (n + m) (set out n (x * 4096 + s)))) (both (anyOf (eqb j) (drop (i + 1) slots)) (wanted q j))
+                → either (anyOf (keyed q j) (take (n + m) (set out n (x * keySlots + s)))) (both (anyOf (eqb j) (drop (i + 1) slots)) (wanted q j))
                 ≡ either (anyOf (keyed q j) (take n out)) (both (anyOf (eqb j) (drop i slots)) (wanted q j))
             step q has j =
-                rw (e, any-stored (keyed q j) out n (x * 4096 + s) (a && b) room, counted q has j, any-next (eqb j) slots i h)
+                rw (e, any-stored (keyed q j) out n (x * keySlots + s) (a && b) room, counted q has j, any-next (eqb j) slots i h)
                 (one-done (anyOf (keyed q j) (take n out)) (eqb j s) (anyOf (eqb j) (drop (i + 1) slots)) (wanted q j))
 
 -- ---- the keys of slots of a table
@@ -111,7 +111,7 @@ pub keys-next : (f : Field) (t slots named : List ℕ) → InTable t slots → (
     → (a : Bool) → a ≡ appliesTo f (drop (slotBytes * getD slots i 0) t)
     → (b : Bool) → b ≡ bitAt (bucketOf x) named
     → (m : ℕ) → (m ≡ pick (a && b) 1 0) × (m ≤ 1)
-    → Making (appliesAt f t) (numberAt f t) slots named (i + 1) (n + m) (set out n (x * 4096 + getD slots i 0))
+    → Making (appliesAt f t) (numberAt f t) slots named (i + 1) (n + m) (set out n (x * keySlots + getD slots i 0))
 keys-next f t slots named inside i n out so-far h room x is-x a is-a b is-b m is-m =
     let l = drop (slotBytes * getD slots i 0) t in
     making-next (appliesAt f t) (numberAt f t) slots named i n out so-far h (slot-few t slots i inside h) room x (is-x .0 ∙ sym (number-near f l)) a b (is-a ∙ sym (applies-near f l)) is-b m (is-m .0) (is-m .1)

@@ -13,7 +13,7 @@ use Rattle.numbers.specs.Numberings.{bitAt}
 use Rattle.numbers.proofs.Truth.{both-right}
 use Rattle.table.specs.Slots.{slotBytes, slotAt}
 use Rattle.flush_sort.proofs.Laws.{either-none, either-assoc}
-use Rattle.flush_buckets.specs.Buckets.{bucketBytes, bucketOf, aloneOf, Keeps, Nears}
+use Rattle.flush_buckets.specs.Buckets.{bucketBytes, bucketOf, aloneOf, Keeps, Nears, keySlots}
 use Rattle.flush_marks.specs.Marks.{Widened}
 use Rattle.flush_keys.specs.Keys.{appliesTo, keyed, Hit, Marked, Joined}
 use Rattle.flush_keys.specs.declared.Field.{Field}
@@ -89,7 +89,7 @@ module _ (f : Field) (t slots s : List ℕ) (i : ℕ) (u : List ℕ) (so-far : J
 pub record Noting (keys bits : List ℕ) (i : ℕ) : Type 0 where
   pub place : i ≤ length keys
   pub long : length bits ≡ bucketBytes
-  pub done : (k : ℕ) → k < i → (bitAt (bucketOf (getD keys k 0 / 4096)) bits ≡ true) × (bitAt (aloneOf (getD keys k 0 / 4096)) bits ≡ true)
+  pub done : (k : ℕ) → k < i → (bitAt (bucketOf (getD keys k 0 / keySlots)) bits ≡ true) × (bitAt (aloneOf (getD keys k 0 / keySlots)) bits ≡ true)
 
 module _ (keys bits : List ℕ) where
   pub noting-start : length bits ≡ bucketBytes → Noting keys bits 0
@@ -99,10 +99,10 @@ module _ (keys bits : List ℕ) where
     pub noting-done : length keys ≤ i → Nears keys bits
     noting-done h = record { long = so-far .long; each = λ k l. so-far .done k (omega arith) .0; alone = λ k l. so-far .done k (omega arith) .1 }
 
-    pub noting-next : i < length keys → (u : List ℕ) → Keeps bits u × ((bitAt (bucketOf (getD keys i 0 / 4096)) u ≡ true) × (bitAt (aloneOf (getD keys i 0 / 4096)) u ≡ true)) → Noting keys u (i + 1)
+    pub noting-next : i < length keys → (u : List ℕ) → Keeps bits u × ((bitAt (bucketOf (getD keys i 0 / keySlots)) u ≡ true) × (bitAt (aloneOf (getD keys i 0 / keySlots)) u ≡ true)) → Noting keys u (i + 1)
     noting-next h u g = record { place = omega arith; long = g .0 .long ∙ so-far .long; done = λ k l. go k l (ℕ-discrete k i) }
       where
-        go : (k : ℕ) → k < i + 1 → Dec (k ≡ i) → (bitAt (bucketOf (getD keys k 0 / 4096)) u ≡ true) × (bitAt (aloneOf (getD keys k 0 / 4096)) u ≡ true)
+        go : (k : ℕ) → k < i + 1 → Dec (k ≡ i) → (bitAt (bucketOf (getD keys k 0 / keySlots)) u ≡ true) × (bitAt (aloneOf (getD keys k 0 / keySlots)) u ≡ true)
         go k l (yes e) = rw e (g .1)
         go k l (no d) = let before = so-far .done k (omega arith) in (g .0 .kept _ (before .0), g .0 .kept _ (before .1))
 
@@ -125,7 +125,7 @@ module _ (keys hits s : List ℕ) where
       each = λ j. sym (either-none (bitAt j u)) ∙ (rw (any-none (keyed q j) keys i h) at (so-far .each q hit j));
     }
 
-    pub collecting-next : i < length keys → (b : Bool) → b ≡ bitAt i hits → (v : List ℕ) → Widened u v (getD keys i 0 % 4096) b → Collecting keys hits s (i + 1) v
+    pub collecting-next : i < length keys → (b : Bool) → b ≡ bitAt i hits → (v : List ℕ) → Widened u v (getD keys i 0 % keySlots) b → Collecting keys hits s (i + 1) v
     unfolding keyed
     collecting-next h b e v w = record {
       place = omega arith;
@@ -133,8 +133,8 @@ module _ (keys hits s : List ℕ) where
       each = λ q hit j. step q hit j ∙ so-far .each q hit j;
     }
       where
-        here : (q : ℕ → Bool) → Hit q keys hits → (j : ℕ) → both (eqb j (getD keys i 0 % 4096)) b ≡ keyed q j (getD keys i 0)
-        here q hit j = rw (eqb-swap j (getD keys i 0 % 4096), e, hit .each i h)
+        here : (q : ℕ → Bool) → Hit q keys hits → (j : ℕ) → both (eqb j (getD keys i 0 % keySlots)) b ≡ keyed q j (getD keys i 0)
+        here q hit j = rw (eqb-swap j (getD keys i 0 % keySlots), e, hit .each i h)
 
         step : (q : ℕ → Bool) → Hit q keys hits → (j : ℕ) → either (bitAt j v) (anyOf (keyed q j) (drop (i + 1) keys)) ≡ either (bitAt j u) (anyOf (keyed q j) (drop i keys))
         step q hit j =

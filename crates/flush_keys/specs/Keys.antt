@@ -1,4 +1,4 @@
--- The number of a record that a filter tests, and keys: such a number, times 4096, and the slot that holds it.
+-- The number of a record that a filter tests, and keys: such a number, times `keySlots`, and the slot that holds it.
 -- Assumes nothing.
 use Prim.Native.Nat.{ℕ, _/_, _%_, _<_, _≤_}
 use mathlib.Core.Bool.{Bool, true, not}
@@ -11,7 +11,7 @@ use Rattle.numbers.specs.Numberings.{bitAt}
 use Rattle.table.specs.Record.{recordOf, kindOf, labelOf, macOf}
 use Rattle.table.specs.Slots.{mostSlots, slotsOf}
 use Rattle.flush_sort.specs.Sorting.{All}
-use Rattle.flush_buckets.specs.Buckets.{HasBits}
+use Rattle.flush_buckets.specs.Buckets.{HasBits, keySlots}
 use Rattle.flush_keys.specs.declared.Field.{Field}
 use Rattle.flush_keys.specs.declared.Field.the-variants.{Fine, Mac}
 
@@ -32,11 +32,11 @@ pub record InTable (t slots : List ℕ) : Type 0 where
 
 -- the key is that of slot j, and its number passes the test
 unfoldable pub keyed : (ℕ → Bool) → ℕ → ℕ → Bool
-keyed q j v = both (eqb (v % 4096) j) (q (v / 4096))
+keyed q j v = both (eqb (v % keySlots) j) (q (v / keySlots))
 
 -- bit i says whether the number of key i passes the test
 pub record Hit (q : ℕ → Bool) (keys hits : List ℕ) : Type 0 where
-  pub each : (i : ℕ) → i < length keys → bitAt i hits ≡ q (getD keys i 0 / 4096)
+  pub each : (i : ℕ) → i < length keys → bitAt i hits ≡ q (getD keys i 0 / keySlots)
 
 -- the marks s have become u: with the slots of the keys whose number passes the test
 pub record Marked (q : ℕ → Bool) (keys s u : List ℕ) : Type 0 where

@@ -1,4 +1,4 @@
-// The number of a record that a filter tests, a fine-grained label or a MAC, and keys: such a number, times 4096, and the slot that holds it.
+// The number of a record that a filter tests, a fine-grained label or a MAC, and keys: such a number, times `KEY_SLOTS`, and the slot that holds it.
 ghost use Prim.Native.Nat.{ℕ, _+_, _*_, _^_, _<_, _≤_};
 ghost use mathlib.Core.Bool.{Bool, true, not};
 ghost use mathlib.Core.Path.{_≡_};

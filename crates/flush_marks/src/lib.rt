@@ -14,6 +14,12 @@ use table::SLOT_BYTES;
 // A bit for each slot.
 pub const MARK_BYTES: usize = 512;
 
+// What clearing in a range of slots comes to: how many records were cleared, and how many slots examined.
+pub struct Sweep {
+    pub cleared: usize,
+    pub examined: usize,
+}
+
 // The first bit of a word of 64 slots, and all its bits.
 const FIRST_BIT: u64 = 0x8000_0000_0000_0000;
 

@@ -181,9 +181,6 @@ module _ (p : ℕ → Bool) (t : List ℕ) (from e : ℕ) where
   first-start h = record { behind = omega arith; within = h; none = λ j a b. absurd (omega arith) }
 
   module _ (k : ℕ) (so-far : FirstNamed p t from e k) where
-    pub first-end : e ≤ k → FirstNamed p t from e e
-    first-end h = let w = so-far .within in record { behind = let b = so-far .behind in omega arith; within = omega arith; none = λ j a b. so-far .none j a (omega arith) }
-
     pub first-next : k < e → (b : Bool) → b ≡ slotNames p (drop (slotBytes * k) t) → b ≡ false → FirstNamed p t from e (k + 1)
     first-next h b here miss = let f = so-far .behind in record { behind = omega arith; within = omega arith; none = λ j a l. go j a l (ℕ-discrete j k) }
       where

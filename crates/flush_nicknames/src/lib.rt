@@ -95,7 +95,7 @@ fn first_single(t: &[u8], from: usize, e: usize, one: u64) -> usize
         }
         k += 1;
     }
-    e
+    k
 }
 
 // Whether one byte of a set decides that the slot at an offset has no nickname of it.
@@ -148,7 +148,7 @@ fn first_listed(t: &[u8], from: usize, e: usize, names: &[u8]) -> usize
         }
         k += 1;
     }
-    e
+    k
 }
 
 // Whether a fine-grained label may be meant: where there are filter bits its bit is set.
@@ -259,7 +259,7 @@ fn add_mark(marks: &mut [u8], k: usize)
     flush_bits::add_byte(marks, k / 8, one_bit(k % 8));
 }
 
-// Marks the slots from slot `from` on, and before slot e, by one nickname.
+// Marks the slots from slot `from` on, and before slot e, by one nickname. Answers where the pass ended.
 fn mark_single(
     table: &[u8],
     from: usize,
@@ -269,9 +269,9 @@ fn mark_single(
     near: &[u8],
     every: bool,
     marks: &mut [u8],
-)
+) -> usize
     requires { ⌜ ((from ≤ e) × Marking from (e - from) (now table) (now marks)) × EveryMeant every (now vlans) ⌝ }
-    ensures { λ _. ⌜ Chosen (slotMarked (λ x. eqb x one) (now (vlans .entry)) (mayPass every (now (near .entry)))) from (e - from) (now (table .entry)) (now (marks .exit)) ⌝ }
+    ensures { λ r. ⌜ (r ≡ e) × Chosen (slotMarked (λ x. eqb x one) (now (vlans .entry)) (mayPass every (now (near .entry)))) from (e - from) (now (table .entry)) (now (marks .exit)) ⌝ }
 {
     let mut k = from;
     while k < e {
@@ -282,6 +282,7 @@ fn mark_single(
             k += 1;
         }
     }
+    k
 }
 
 // The same where no fine-grained label is named.
@@ -293,9 +294,9 @@ fn mark_plain(
     vlans: &[u8],
     every: bool,
     marks: &mut [u8],
-)
+) -> usize
     requires { ⌜ ((from ≤ e) × Marking from (e - from) (now table) (now marks)) × EveryMeant every (now vlans) ⌝ }
-    ensures { λ _. ⌜ Chosen (slotMarked (λ x. eqb x one) (now (vlans .entry)) (λ x. every)) from (e - from) (now (table .entry)) (now (marks .exit)) ⌝ }
+    ensures { λ r. ⌜ (r ≡ e) × Chosen (slotMarked (λ x. eqb x one) (now (vlans .entry)) (λ x. every)) from (e - from) (now (table .entry)) (now (marks .exit)) ⌝ }
 {
     let mut k = from;
     while k < e {
@@ -306,6 +307,7 @@ fn mark_plain(
             k += 1;
         }
     }
+    k
 }
 
 // By a set of nicknames.
@@ -318,9 +320,9 @@ fn mark_listed(
     near: &[u8],
     every: bool,
     marks: &mut [u8],
-)
+) -> usize
     requires { ⌜ ((from ≤ e) × Marking from (e - from) (now table) (now marks)) × ((length (now names) ≡ nameBytes) × EveryMeant every (now vlans)) ⌝ }
-    ensures { λ _. ⌜ Chosen (slotMarked (λ x. bitAt x (now (names .entry))) (now (vlans .entry)) (mayPass every (now (near .entry)))) from (e - from) (now (table .entry)) (now (marks .exit)) ⌝ }
+    ensures { λ r. ⌜ (r ≡ e) × Chosen (slotMarked (λ x. bitAt x (now (names .entry))) (now (vlans .entry)) (mayPass every (now (near .entry)))) from (e - from) (now (table .entry)) (now (marks .exit)) ⌝ }
 {
     let mut k = from;
     while k < e {
@@ -331,6 +333,7 @@ fn mark_listed(
             k += 1;
         }
     }
+    k
 }
 
 // Filter bits of the fine-grained labels that the message names.
@@ -341,7 +344,8 @@ fn add_fine(rest: &[u8], count: usize, near: &mut [u8])
     flush_named::add_where(rest, flush_parts::fine_naming(), FEW_SLOTS < count, near);
 }
 
-// Marks the slots of a range, by one nickname. Where no slot has it nothing is prepared.
+// Marks the slots of a range, by one nickname, and answers where the pass over them ended: the slots before the first that has it are examined
+// by the search, the others by marking. Where no slot has it nothing is prepared.
 fn mark_one(
     one: u64,
     rest: &[u8],
@@ -350,24 +354,23 @@ fn mark_one(
     from: usize,
     count: usize,
     marks: &mut [u8],
-)
+) -> usize
     requires { ⌜ Marking from count (now table) (now marks) × ((blockBytes * f .blocks ≤ length (now rest)) × VlansNoted (piecesOf (f .blocks) (now rest)) f) ⌝ }
-    ensures { λ _. ⌜ FirstPass (λ x. eqb x one) (piecesOf (f .blocks) (now (rest .entry))) (fineNoted f) from count (now (table .entry)) (now (marks .exit)) ⌝ }
+    ensures { λ r. ⌜ (r ≡ from + count) × FirstPass (λ x. eqb x one) (piecesOf (f .blocks) (now (rest .entry))) (fineNoted f) from count (now (table .entry)) (now (marks .exit)) ⌝ }
 {
     let e = from + count;
     let k = first_single(table, from, e, one);
     if e <= k {
-        return;
+        return k;
     }
     let mut vlans = [0u8; VLAN_BYTES];
     flush_vlans::vlan_set(rest, f, &mut vlans);
     if !f.every & (f.lists | f.maps) {
         let mut near = [0u8; BUCKET_BYTES];
         add_fine(rest, count, &mut near);
-        mark_single(table, k, e, one, &vlans, &near, false, marks);
-        return;
+        return mark_single(table, k, e, one, &vlans, &near, false, marks);
     }
-    mark_plain(table, k, e, one, &vlans, f.every, marks);
+    mark_plain(table, k, e, one, &vlans, f.every, marks)
 }
 
 // The same, by a list of nicknames.
@@ -379,30 +382,29 @@ fn mark_several(
     from: usize,
     count: usize,
     marks: &mut [u8],
-)
+) -> usize
     requires { ⌜ Marking from count (now table) (now marks) × ((blockBytes * f .blocks ≤ length (now rest)) × VlansNoted (piecesOf (f .blocks) (now rest)) f) ⌝ }
-    ensures { λ _. ⌜ FirstPass (inNicknames (now (nicks .entry))) (piecesOf (f .blocks) (now (rest .entry))) (fineNoted f) from count (now (table .entry)) (now (marks .exit)) ⌝ }
+    ensures { λ r. ⌜ (r ≡ from + count) × FirstPass (inNicknames (now (nicks .entry))) (piecesOf (f .blocks) (now (rest .entry))) (fineNoted f) from count (now (table .entry)) (now (marks .exit)) ⌝ }
 {
     let mut names = [0u8; NAME_BYTES];
     add_nicknames(nicks, &mut names);
     let e = from + count;
     let k = first_listed(table, from, e, &names);
     if e <= k {
-        return;
+        return k;
     }
     let mut vlans = [0u8; VLAN_BYTES];
     flush_vlans::vlan_set(rest, f, &mut vlans);
     if !f.every & (f.lists | f.maps) {
         let mut near = [0u8; BUCKET_BYTES];
         add_fine(rest, count, &mut near);
-        mark_listed(table, k, e, &names, &vlans, &near, false, marks);
-        return;
+        return mark_listed(table, k, e, &names, &vlans, &near, false, marks);
     }
     let none = [0u8; 1];
-    mark_listed(table, k, e, &names, &vlans, &none, f.every, marks);
+    mark_listed(table, k, e, &names, &vlans, &none, f.every, marks)
 }
 
-// Marks the slots of a range by nickname, state and kind of label. A set of nicknames is made only where there is not one alone.
+// Marks the slots of a range by nickname, state and kind of label, and answers how many it examined. A set of nicknames is made only where there is not one alone.
 pub fn mark(
     ingress: u32,
     nicks: &[u8],
@@ -412,16 +414,12 @@ pub fn mark(
     from: usize,
     count: usize,
     marks: &mut [u8],
-)
+) -> usize
     requires { ⌜ Marking from count (now table) (now marks) × ((blockBytes * f .blocks ≤ length (now rest)) × VlansNoted (piecesOf (f .blocks) (now rest)) f) ⌝ }
-    ensures { λ _. ⌜ FirstPass (nicknameMeant ingress (now (nicks .entry))) (piecesOf (f .blocks) (now (rest .entry))) (fineNoted f) from count (now (table .entry)) (now (marks .exit)) ⌝ }
+    ensures { λ r. ⌜ (r ≡ count) × FirstPass (nicknameMeant ingress (now (nicks .entry))) (piecesOf (f .blocks) (now (rest .entry))) (fineNoted f) from count (now (table .entry)) (now (marks .exit)) ⌝ }
 {
     match nicknames_of(nicks, ingress) {
-        Nicknames::One(one) => {
-            mark_one(one, rest, f, table, from, count, marks);
-        }
-        Nicknames::Several => {
-            mark_several(nicks, rest, f, table, from, count, marks);
-        }
+        Nicknames::One(one) => mark_one(one, rest, f, table, from, count, marks) - from,
+        Nicknames::Several => mark_several(nicks, rest, f, table, from, count, marks) - from,
     }
 }

@@ -21,7 +21,7 @@ use Rattle.flush.specs.Meaning.{nicknameMeant, labelMeant, macMeant}
 use Rattle.flush.specs.Flush.{clearedSlot}
 use Rattle.flush.proofs.Flushing.{cleared-hit, cleared-miss, cleared-keeps}
 use Rattle.flush_payload.specs.declared.Kinds.{Kinds}
-use Rattle.flush_marks.specs.Marks.{clearedIn}
+use Rattle.flush_marks.specs.Marks.{clearedIn, sweptIn}
 use Rattle.flush_walk.specs.Noted.{labelNoted, macNoted, slotNoted, WalkedTo}
 
 -- ---- the tests
@@ -82,8 +82,8 @@ module _ (test : List ℕ → Bool) (near : Local test) (from : ℕ) (t : List �
   walked-none = record { long = refl; left = refl; count = refl; few = omega arith }
 
   module _ (i c : ℕ) (u : List ℕ) (so-far : WalkedTo test from t i c u) where
-    pub walked-end : (count : ℕ) → i ≤ count → count ≤ i → onTable c u ≡ clearedIn test from count t
-    unfolding clearedIn
+    pub walked-end : (count : ℕ) → i ≤ count → count ≤ i → onTable (record { cleared = c; examined = i }) u ≡ sweptIn test from count t
+    unfolding clearedIn sweptIn
     walked-end count a b =
         let done : i ≡ count = omega arith in
         let n : c ≡ countSlots test from count t = so-far .count ∙ ap (λ (x : ℕ). countSlots test from x t) done in

@@ -7,9 +7,10 @@ ghost use Rattle.numbers.specs.After.{onTable};
 ghost use Rattle.table.specs.Record.{recordBytes, recordOf, kindOf, labelOf, macOf};
 ghost use Rattle.table.specs.Slots.{slotBytes};
 ghost use Rattle.flush.specs.Payload.{blockBytes, piecesOf};
-ghost use Rattle.flush_marks.specs.Marks.{clearedIn};
+ghost use Rattle.flush_marks.specs.Marks.{sweptIn};
 ghost use Rattle.flush_marks.specs.Filters.{Within};
 ghost use Rattle.flush_walk.specs.Noted.{labelNoted, macNoted, slotNoted};
+use flush_marks::Sweep;
 use flush_payload::Kinds;
 use table::SLOT_BYTES;
 use table::VLAN_KIND;
@@ -55,7 +56,7 @@ fn meant_at(ingress: u32, nicks: &[u8], rest: &[u8], f: Kinds, t: &[u8], at: usi
     mac_passes(rest, f, t, at)
 }
 
-// Clears the slots of a range that are meant, and counts them.
+// Clears the slots of a range that are meant, and counts them and those that it examined.
 pub fn clear_walked(
     ingress: u32,
     nicks: &[u8],
@@ -64,9 +65,9 @@ pub fn clear_walked(
     from: usize,
     count: usize,
     table: &mut [u8],
-) -> usize
+) -> Sweep
     requires { ⌜ Within from count (now table) × (blockBytes * f .blocks ≤ length (now rest)) ⌝ }
-    ensures { λ n. ⌜ onTable n (now (table .exit)) ≡ clearedIn (slotNoted f (now (nicks .entry)) (piecesOf (f .blocks) (now (rest .entry))) ingress) from count (now (table .entry)) ⌝ }
+    ensures { λ s. ⌜ onTable s (now (table .exit)) ≡ sweptIn (slotNoted f (now (nicks .entry)) (piecesOf (f .blocks) (now (rest .entry))) ingress) from count (now (table .entry)) ⌝ }
 {
     let mut cleared = 0;
     let mut i = 0;
@@ -81,5 +82,8 @@ pub fn clear_walked(
             i += 1;
         }
     }
-    cleared
+    Sweep {
+        cleared,
+        examined: i,
+    }
 }

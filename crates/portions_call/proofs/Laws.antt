@@ -18,11 +18,12 @@ use Rattle.flush.specs.Flush.{slotMeant, clearedSlot}
 use Rattle.flush.proofs.Lists.{false-true}
 use Rattle.flush_marks.specs.Marks.{clearedIn}
 use Rattle.flush_marks.specs.Filters.{Within}
-use Rattle.flush_call.specs.Clearing.{clearingIn, clearedOn}
-use Rattle.flush_call.specs.declared.Cleared.{Cleared}
-use Rattle.flush_call.specs.declared.Cleared.the-variants.{Refused, Count}
+use Rattle.flush_marks.specs.declared.Sweep.{Sweep}
+use Rattle.flush_call.specs.Clearing.{clearingIn, sweptOn}
+use Rattle.flush_call.specs.declared.Swept.{Swept}
+use Rattle.flush_call.specs.declared.Swept.the-variants.{Refused, Done}
 use Rattle.flush_call.proofs.Tests.{either-neither}
-use Rattle.flush_call.proofs.Calls.{ran-refused, ran-count}
+use Rattle.flush_call.proofs.Calls.{swept-refused, swept-done}
 use Rattle.table.proofs.Slots.{count-few, good-slots}
 use Rattle.portions.specs.Portion.{portion-bad, portionSteps, portionBy, portioned}
 use Rattle.portions.specs.declared.PortionAnswer.the-variants as answer
@@ -77,33 +78,43 @@ module _ (ingress : ℕ) (l : List ℕ) (slot k : ℕ) (t : List ℕ) (g : Bool)
             let room = within .room in
             omega arith
 
-        module _ (r : Cleared) (u : List ℕ) (cleared : onTable r u ≡ clearedOn t (clearingIn everyType ingress l slot m t)) where
+        module _ (r : Swept) (u : List ℕ) (cleared : onTable r u ≡ sweptOn t m (clearingIn everyType ingress l slot m t)) where
           pub portion-corrupt : (n : ℕ) → r ≡ Refused n → onTable (answer.Refused n) u ≡ portioned ingress l slot k t
           unfolding clearingIn
           portion-corrupt n e =
-              let a = ran-refused t u r (clearingIn everyType ingress l slot m t) cleared n e in
+              let a = swept-refused t u m r (clearingIn everyType ingress l slot m t) cleared n e in
               rw (a .1) (sym (corrupt ingress l slot k t (sym good ∙ ok) some inside n (read-refused ingress slot m t (payloadOf everyType l) n (a .0))))
 
-          module _ (n : ℕ) (e : r ≡ Count n) where
-            ended : (p : Payload) × (payloadOf everyType l ≡ got p) × (clearedIn (slotMeant everyType p ingress) slot m t ≡ onTable n u)
+          module _ (s : Sweep) (e : r ≡ Done s) where
+            ended : (p : Payload) × (payloadOf everyType l ≡ got p) × (clearedIn (slotMeant everyType p ingress) slot m t ≡ onTable (s .cleared) u)
             unfolding clearingIn
             ended =
-                let (p, read, c) = then-got _ _ _ (ran-count t u r (clearingIn everyType ingress l slot m t) cleared n e) in
+                let (p, read, c) = then-got _ _ _ (swept-done t u m r (clearingIn everyType ingress l slot m t) cleared s e .0) in
                 (p, read, got-got _ _ c)
 
-            pub portion-done : onTable (answer.Portioned (record { cleared = n; next = slot + m; examined = m })) u ≡ portioned ingress l slot k t
+            -- the slots examined are the definition's steps
+            pub examined-steps : s .examined ≡ m
+            examined-steps = swept-done t u m r (clearingIn everyType ingress l slot m t) cleared s e .1
+
+            pub portion-done : onTable (answer.Portioned (record { cleared = s .cleared; next = slot + s .examined; examined = s .examined })) u ≡ portioned ingress l slot k t
             unfolding portionBy clearedIn
             portion-done =
                 let (p, read, c) = ended in
-                let count : countSlots (slotMeant everyType p ingress) slot m t ≡ n = ap (λ (x : OnTable ℕ). x .answer) c in
+                let count : countSlots (slotMeant everyType p ingress) slot m t ≡ s .cleared = ap (λ (x : OnTable ℕ). x .answer) c in
                 let left : onSlots (clearedSlot (slotMeant everyType p ingress)) slot m t ≡ u = ap (λ (x : OnTable ℕ). x .table) c in
-                rw (ran ingress l slot k t (sym good ∙ ok) some inside p read, ← steps, count, left)
+                rw (examined-steps, ran ingress l slot k t (sym good ∙ ok) some inside p read, ← steps, count, left)
 
-            pub count-fits : n ≤ mostSlots
+            pub count-fits : s .cleared ≤ mostSlots
             unfolding clearedIn
             count-fits =
                 let (p, read, c) = ended in
-                let count : countSlots (slotMeant everyType p ingress) slot m t ≡ n = ap (λ (x : OnTable ℕ). x .answer) c in
+                let count : countSlots (slotMeant everyType p ingress) slot m t ≡ s .cleared = ap (λ (x : OnTable ℕ). x .answer) c in
                 let few = count-few (slotMeant everyType p ingress) t slot m in
+                let fits = next-fits in
+                omega arith
+
+            pub examined-fits : slot + s .examined ≤ mostSlots
+            examined-fits =
+                let all = examined-steps in
                 let fits = next-fits in
                 omega arith

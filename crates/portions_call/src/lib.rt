@@ -3,7 +3,7 @@ ghost use Prim.Native.Nat.{_≤_};
 ghost use mathlib.Core.Path.{_≡_};
 ghost use Rattle.numbers.specs.After.{onTable};
 ghost use Rattle.portions.specs.Portion.{portionSteps, portioned};
-use flush_call::Cleared;
+use flush_call::Swept;
 use numbers::refusals::TABLE_LENGTH_BAD;
 use portions::PORTION_BAD;
 use portions::Portion;
@@ -41,11 +41,11 @@ pub fn portion(
     }
     let m = steps(slot, k, n);
     match flush_call::clear_portion(ingress, payload, slot, m, table) {
-        Cleared::Refused(r) => PortionAnswer::Refused(r),
-        Cleared::Count(c) => PortionAnswer::Portioned(Portion {
-            cleared: c as u16,
-            next: (slot + m) as u16,
-            examined: m as u16,
+        Swept::Refused(r) => PortionAnswer::Refused(r),
+        Swept::Done(s) => PortionAnswer::Portioned(Portion {
+            cleared: s.cleared as u16,
+            next: (slot + s.examined) as u16,
+            examined: s.examined as u16,
         }),
     }
 }

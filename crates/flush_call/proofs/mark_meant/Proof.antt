@@ -9,12 +9,12 @@ use Rattle.flush_call.proofs.mark_meant.Tie as tie
 returns : tie.Need-returns
 returns c =
     let start = c .before .before .before .before .before .before .before .before .before .before .before in
-    none-left _ _ (start .args .f) (start .pre .1 .1) _ _ _ _ _ (start .pre .0 .within) _ (c .before .before .before .before .before .mark .ensures) _ (c .before .any-marked .ensures) (not-true _ (c .if1 .taken))
+    (c .before .before .before .before .before .mark .ensures .0, none-left _ _ (start .args .f) (start .pre .1 .1) _ _ _ _ _ (start .pre .0 .within) _ (c .before .before .before .before .before .mark .ensures .1) _ (c .before .any-marked .ensures) (not-true _ (c .if1 .taken)))
 
 returns-2 : tie.Need-returns-2
 returns-2 c =
     let start = c .before .before .before .before .before .before .before .before .before .before .before .before .before .before .before .before .before .before .before in
-    filters-in-row _ _ (start .args .f) (start .pre .1 .1) _ _ _ _ _ (start .pre .0 .within) _ (c .before .before .before .before .before .before .before .before .before .before .before .before .before .mark .ensures) _ (c .before .before .before .before .before .before .keep-labels .ensures) _ (c .before .before .keep-macs .ensures)
+    (c .before .before .before .before .before .before .before .before .before .before .before .before .before .mark .ensures .0, filters-in-row _ _ (start .args .f) (start .pre .1 .1) _ _ _ _ _ (start .pre .0 .within) _ (c .before .before .before .before .before .before .before .before .before .before .before .before .before .mark .ensures .1) _ (c .before .before .before .before .before .before .keep-labels .ensures) _ (c .before .before .keep-macs .ensures))
 
 pub mark-meant-spec : {M : Type 1} → statement M
 mark-meant-spec =

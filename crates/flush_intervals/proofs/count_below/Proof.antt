@@ -1,13 +1,14 @@
 -- `flush_intervals::count_below` meets its contract. The invariant: all before base are below, all from base + n on are not.
 -- Assumes nothing.
 use Prim.Native.Nat.{_-_, _*_}
+use Rattle.flush_buckets.specs.Buckets.{keySlots}
 use Rattle.flush_intervals.proofs.Ranges.{Bracket, bracket-start, bracket-half, bracket-last, bracket-none}
 use borrow.Author.Needs.{needs}
 use Rattle.flush_intervals.proofs.count_below.Statement.{statement}
 use Rattle.flush_intervals.proofs.count_below.Tie as tie
 
 abbrev Inv-loop : tie.InvT-loop
-Inv-loop keys z base₀ n₀ base n = Bracket keys (z * 4096) base n
+Inv-loop keys z base₀ n₀ base n = Bracket keys (z * keySlots) base n
 
 abbrev μ-loop : tie.MeasureT-loop
 μ-loop keys z base₀ n₀ base n = n

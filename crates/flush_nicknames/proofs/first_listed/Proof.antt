@@ -3,7 +3,7 @@
 use Prim.Native.Nat.{_-_}
 use Rattle.numbers.specs.Numberings.{bitAt}
 use Rattle.flush_nicknames.specs.First.{FirstNamed}
-use Rattle.flush_nicknames.proofs.First.{first-next, first-end}
+use Rattle.flush_nicknames.proofs.First.{first-next}
 use borrow.Author.Needs.{needs}
 use Rattle.flush_nicknames.proofs.first_listed.Statement.{statement}
 use Rattle.flush_nicknames.proofs.first_listed.Tie as tie
@@ -16,9 +16,6 @@ abbrev μ-loop : tie.MeasureT-loop
 
 loop-again : tie.Need-loop-again Inv-loop μ-loop
 loop-again c = search first-next
-
-returns-2 : tie.Need-returns-2 Inv-loop μ-loop
-returns-2 c = search first-end
 
 pub first-listed-spec : {M : Type 1} → statement M
 first-listed-spec =
@@ -34,4 +31,4 @@ first-listed-spec =
     (λ c. search needs)
     (λ c. search needs)
     loop-again
-    returns-2)
+    (λ c. search needs))

@@ -3,7 +3,7 @@
 use Prim.Native.Nat.{_-_}
 use lib.Dec.{eqb}
 use Rattle.flush_nicknames.specs.First.{FirstNamed}
-use Rattle.flush_nicknames.proofs.First.{first-start, first-next, first-end}
+use Rattle.flush_nicknames.proofs.First.{first-start, first-next}
 use borrow.Author.Needs.{needs}
 use Rattle.flush_nicknames.proofs.first_single.Statement.{statement}
 use Rattle.flush_nicknames.proofs.first_single.Tie as tie
@@ -20,9 +20,6 @@ loop-holds c = search first-start
 loop-again : tie.Need-loop-again Inv-loop μ-loop
 loop-again c = search first-next
 
-returns-2 : tie.Need-returns-2 Inv-loop μ-loop
-returns-2 c = search first-end
-
 pub first-single-spec : {M : Type 1} → statement M
 first-single-spec =
     tie.close
@@ -36,4 +33,4 @@ first-single-spec =
     (λ c. search needs)
     (λ c. search needs)
     loop-again
-    returns-2)
+    (λ c. search needs))

@@ -15,7 +15,9 @@ use Rattle.flush_nicknames.proofs.mark_one.Tie as tie
 returns : tie.Need-returns
 returns c =
     let start = c .before .before .before .before .before in
-    none-first _ _ (start .args .f) (start .pre .1 .1) _ _ (λ x few. refl) _ _ _ _ (c .before .first-single .ensures) (c .if1 .taken) _ (start .pre .0 .empty)
+    let first = c .before .first-single .ensures in
+    let inside = first .within in
+    (omega arith, none-first _ _ (start .args .f) (start .pre .1 .1) _ _ (λ x few. refl) _ _ _ _ (c .before .first-single .ensures) (c .if1 .taken) _ (start .pre .0 .empty))
 
 vlan-set-requires : tie.Need-vlan-set-requires
 vlan-set-requires c κs = (c .before .before .before .before .before .before .pre .1, (length-replicate {A = ℕ} vlanBytes 0, zeros-none vlanBytes))
@@ -34,7 +36,8 @@ mark-single-requires c κs =
 returns-2 : tie.Need-returns-2
 returns-2 c =
     let start = c .before .before .before .before .before .before .before .before .before .before .before .before .before .before .before .before .before .before .before .before in
-    near-first _ _ (start .args .f) (start .pre .1 .1) _ _ (λ x few. refl) _ _ _ _ (c .before .before .before .before .before .before .before .before .before .before .before .before .before .before .before .before .first-single .ensures) _ (c .before .before .before .before .before .before .before .before .before .before .before .before .before .vlan-set .ensures) _ (c .before .before .before .before .before .before .before .before .before .if2 .taken) _ (c .before .before .before .before .before .before .before .add-fine .ensures) (c .before .before .mark-single .ensures)
+    let end = c .before .before .mark-single .ensures .0 in
+    (omega arith, near-first _ _ (start .args .f) (start .pre .1 .1) _ _ (λ x few. refl) _ _ _ _ (c .before .before .before .before .before .before .before .before .before .before .before .before .before .before .before .before .first-single .ensures) _ (c .before .before .before .before .before .before .before .before .before .before .before .before .before .vlan-set .ensures) _ (c .before .before .before .before .before .before .before .before .before .if2 .taken) _ (c .before .before .before .before .before .before .before .add-fine .ensures) (c .before .before .mark-single .ensures .1))
 
 mark-plain-requires : tie.Need-mark-plain-requires
 mark-plain-requires c κs =
@@ -47,7 +50,8 @@ mark-plain-requires c κs =
 returns-3 : tie.Need-returns-3
 returns-3 c =
     let start = c .before .before .before .before .before .before .before .before .before .before .before .before .before .before .before .before in
-    plain-first _ _ (start .args .f) (start .pre .1 .1) _ _ (λ x few. refl) _ _ _ _ (c .before .before .before .before .before .before .before .before .before .before .before .before .first-single .ensures) _ (c .before .before .before .before .before .before .before .before .before .vlan-set .ensures) _ (c .before .before .before .before .before .if2 .left) (c .before .before .mark-plain .ensures)
+    let end = c .before .before .mark-plain .ensures .0 in
+    (omega arith, plain-first _ _ (start .args .f) (start .pre .1 .1) _ _ (λ x few. refl) _ _ _ _ (c .before .before .before .before .before .before .before .before .before .before .before .before .first-single .ensures) _ (c .before .before .before .before .before .before .before .before .before .vlan-set .ensures) _ (c .before .before .before .before .before .if2 .left) (c .before .before .mark-plain .ensures .1))
 
 pub mark-one-spec : {M : Type 1} → statement M
 mark-one-spec =

@@ -16,7 +16,9 @@ use Rattle.flush_nicknames.proofs.mark_several.Tie as tie
 returns : tie.Need-returns
 returns c =
     let start = c .before .before .before .before .before .before .before .before .before .before in
-    none-first _ _ (start .args .f) (start .pre .1 .1) _ _ (λ x few. listed-same _ _ _ (zeros-none nameBytes) (c .before .before .before .before .add-nicknames .ensures) x) _ _ _ _ (c .before .first-listed .ensures) (c .if1 .taken) _ (start .pre .0 .empty)
+    let first = c .before .first-listed .ensures in
+    let inside = first .within in
+    (omega arith, none-first _ _ (start .args .f) (start .pre .1 .1) _ _ (λ x few. listed-same _ _ _ (zeros-none nameBytes) (c .before .before .before .before .add-nicknames .ensures) x) _ _ _ _ (c .before .first-listed .ensures) (c .if1 .taken) _ (start .pre .0 .empty))
 
 vlan-set-requires : tie.Need-vlan-set-requires
 vlan-set-requires c κs = (c .before .before .before .before .before .before .before .before .before .before .before .pre .1, (length-replicate {A = ℕ} vlanBytes 0, zeros-none vlanBytes))
@@ -35,7 +37,8 @@ mark-listed-requires c κs =
 returns-2 : tie.Need-returns-2
 returns-2 c =
     let start = c .before .before .before .before .before .before .before .before .before .before .before .before .before .before .before .before .before .before .before .before .before .before .before .before .before .before in
-    near-first _ _ (start .args .f) (start .pre .1 .1) _ _ (λ x few. listed-same _ _ _ (zeros-none nameBytes) (c .before .before .before .before .before .before .before .before .before .before .before .before .before .before .before .before .before .before .before .before .add-nicknames .ensures) x) _ _ _ _ (c .before .before .before .before .before .before .before .before .before .before .before .before .before .before .before .before .before .first-listed .ensures) _ (c .before .before .before .before .before .before .before .before .before .before .before .before .before .before .vlan-set .ensures) _ (c .before .before .before .before .before .before .before .before .before .before .if2 .taken) _ (c .before .before .before .before .before .before .before .before .add-fine .ensures) (c .before .before .mark-listed .ensures)
+    let end = c .before .before .mark-listed .ensures .0 in
+    (omega arith, near-first _ _ (start .args .f) (start .pre .1 .1) _ _ (λ x few. listed-same _ _ _ (zeros-none nameBytes) (c .before .before .before .before .before .before .before .before .before .before .before .before .before .before .before .before .before .before .before .before .add-nicknames .ensures) x) _ _ _ _ (c .before .before .before .before .before .before .before .before .before .before .before .before .before .before .before .before .before .first-listed .ensures) _ (c .before .before .before .before .before .before .before .before .before .before .before .before .before .before .vlan-set .ensures) _ (c .before .before .before .before .before .before .before .before .before .before .if2 .taken) _ (c .before .before .before .before .before .before .before .before .add-fine .ensures) (c .before .before .mark-listed .ensures .1))
 
 mark-listed-requires-2 : tie.Need-mark-listed-requires-2
 mark-listed-requires-2 c κs =
@@ -48,7 +51,8 @@ mark-listed-requires-2 c κs =
 returns-3 : tie.Need-returns-3
 returns-3 c =
     let start = c .before .before .before .before .before .before .before .before .before .before .before .before .before .before .before .before .before .before .before .before .before .before .before in
-    flag-first _ _ (start .args .f) (start .pre .1 .1) _ _ (λ x few. listed-same _ _ _ (zeros-none nameBytes) (c .before .before .before .before .before .before .before .before .before .before .before .before .before .before .before .before .before .add-nicknames .ensures) x) _ _ _ _ (c .before .before .before .before .before .before .before .before .before .before .before .before .before .before .first-listed .ensures) _ (c .before .before .before .before .before .before .before .before .before .before .before .vlan-set .ensures) _ (c .before .before .before .before .before .before .before .if2 .left) _ one-byte (c .before .before .mark-listed2 .ensures)
+    let end = c .before .before .mark-listed2 .ensures .0 in
+    (omega arith, flag-first _ _ (start .args .f) (start .pre .1 .1) _ _ (λ x few. listed-same _ _ _ (zeros-none nameBytes) (c .before .before .before .before .before .before .before .before .before .before .before .before .before .before .before .before .before .add-nicknames .ensures) x) _ _ _ _ (c .before .before .before .before .before .before .before .before .before .before .before .before .before .before .first-listed .ensures) _ (c .before .before .before .before .before .before .before .before .before .before .before .vlan-set .ensures) _ (c .before .before .before .before .before .before .before .if2 .left) _ one-byte (c .before .before .mark-listed2 .ensures .1))
 
 pub mark-several-spec : {M : Type 1} → statement M
 mark-several-spec =

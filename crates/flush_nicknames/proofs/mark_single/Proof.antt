@@ -30,7 +30,7 @@ loop-again-2 : tie.Need-loop-again-2 Inv-loop μ-loop
 loop-again-2 c = (search needs, search (mark-miss, marked-near))
 
 returns : tie.Need-returns Inv-loop μ-loop
-returns c = mark-ends _ (marked-near _ _ _) _ _ _ _ (c .before .loop .inv .1) _ (omega arith) (omega arith)
+returns c = (omega arith, mark-ends _ (marked-near _ _ _) _ _ _ _ (c .before .loop .inv .1) _ (omega arith) (omega arith))
 
 pub mark-single-spec : {M : Type 1} → statement M
 mark-single-spec =

@@ -19,7 +19,7 @@ mark-requires c κs =
 returns-2 : tie.Need-returns-2
 returns-2 c =
     let start = c .before .before .before .before .before .before .before .before .before .before .before .before .before .before .before in
-    vlans-cleared _ _ _ (start .pre .1 .1) _ _ _ _ (start .pre .0) (c .before .before .before .before .before .before .mark .ensures) _ _ (c .before .before .clear-marked .ensures)
+    vlans-cleared _ _ _ (start .pre .1 .1) _ _ _ _ (start .pre .0) (c .before .before .before .before .before .before .mark .ensures .1) _ _ (c .before .before .clear-marked .ensures)
 
 pub clear-vlans-spec : {M : Type 1} → statement M
 clear-vlans-spec =

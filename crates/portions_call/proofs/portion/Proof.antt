@@ -2,7 +2,7 @@
 -- Assumes nothing.
 use native.Mathlib.Omega.{arith}
 use borrow.Author.Tests.{not-true, not-false}
-use Rattle.portions_call.proofs.Laws.{portion-table, portion-refused, portion-below, portion-within, next-fits, portion-corrupt, portion-done, count-fits}
+use Rattle.portions_call.proofs.Laws.{portion-table, portion-refused, portion-below, portion-within, portion-corrupt, portion-done, count-fits, examined-fits}
 use borrow.Author.Needs.{needs}
 use Rattle.portions_call.proofs.portion.Statement.{statement}
 use Rattle.portions_call.proofs.portion.Tie as tie
@@ -25,33 +25,39 @@ clear-portion-requires c κs =
 
 cast-t20 : tie.Need-cast-t20
 cast-t20 c =
-    let n = c .before .before .before .before .before .before .before .before .before .before in
+    let d = c .before in
+    let n = d .before .before .before .before .before .before .before .before .before .before in
     let a = n .before .before .before .before .args in
-    omega (arith, count-fits (a .ingress) (a .payload .now) (a .slot) (a .k) (a .table .now) _ (n .table-good .ensures) (not-false _ (c .before .before .before .before .before .before .before .before .before .if1 .left)) (c .before .before .before .before .before .before .before .before .if2 .left) _ (c .before .before .before .before .before .before .before .steps .ensures) _ _ (c .before .before .before .before .before .clear-portion .ensures) _ (c .before .c .given .1))
+    omega (arith, count-fits (a .ingress) (a .payload .now) (a .slot) (a .k) (a .table .now) _ (n .table-good .ensures) (not-false _ (d .before .before .before .before .before .before .before .before .before .if1 .left)) (d .before .before .before .before .before .before .before .before .if2 .left) _ (d .before .before .before .before .before .before .before .steps .ensures) _ _ (d .before .before .before .before .before .clear-portion .ensures) _ (d .before .s .given .1))
 
 add-t21 : tie.Need-add-t21
 add-t21 c =
-    let n = c .before .before .before .before .before .before .before .before .before .before in
+    let d = c .before .before in
+    let n = d .before .before .before .before .before .before .before .before .before .before in
     let a = n .before .before .before .before .args in
-    omega (arith, next-fits (a .ingress) (a .payload .now) (a .slot) (a .k) (a .table .now) _ (n .table-good .ensures) (not-false _ (c .before .before .before .before .before .before .before .before .before .if1 .left)) (c .before .before .before .before .before .before .before .before .if2 .left) _ (c .before .before .before .before .before .before .before .steps .ensures))
+    omega (arith, examined-fits (a .ingress) (a .payload .now) (a .slot) (a .k) (a .table .now) _ (n .table-good .ensures) (not-false _ (d .before .before .before .before .before .before .before .before .before .if1 .left)) (d .before .before .before .before .before .before .before .before .if2 .left) _ (d .before .before .before .before .before .before .before .steps .ensures) _ _ (d .before .before .before .before .before .clear-portion .ensures) _ (d .before .s .given .1))
 
 cast-t22 : tie.Need-cast-t22
 cast-t22 c =
-    let n = c .before .before .before .before .before .before .before .before .before .before in
+    let d = c .before .before in
+    let n = d .before .before .before .before .before .before .before .before .before .before in
     let a = n .before .before .before .before .args in
-    omega (arith, next-fits (a .ingress) (a .payload .now) (a .slot) (a .k) (a .table .now) _ (n .table-good .ensures) (not-false _ (c .before .before .before .before .before .before .before .before .before .if1 .left)) (c .before .before .before .before .before .before .before .before .if2 .left) _ (c .before .before .before .before .before .before .before .steps .ensures))
+    omega (arith, examined-fits (a .ingress) (a .payload .now) (a .slot) (a .k) (a .table .now) _ (n .table-good .ensures) (not-false _ (d .before .before .before .before .before .before .before .before .before .if1 .left)) (d .before .before .before .before .before .before .before .before .if2 .left) _ (d .before .before .before .before .before .before .before .steps .ensures) _ _ (d .before .before .before .before .before .clear-portion .ensures) _ (d .before .s .given .1))
 
 cast-t23 : tie.Need-cast-t23
 cast-t23 c =
-    let n = c .before .before .before .before .before .before .before .before .before .before in
+    let d = c .before .before .before in
+    let n = d .before .before .before .before .before .before .before .before .before .before in
     let a = n .before .before .before .before .args in
-    omega (arith, next-fits (a .ingress) (a .payload .now) (a .slot) (a .k) (a .table .now) _ (n .table-good .ensures) (not-false _ (c .before .before .before .before .before .before .before .before .before .if1 .left)) (c .before .before .before .before .before .before .before .before .if2 .left) _ (c .before .before .before .before .before .before .before .steps .ensures))
+    omega (arith, examined-fits (a .ingress) (a .payload .now) (a .slot) (a .k) (a .table .now) _ (n .table-good .ensures) (not-false _ (d .before .before .before .before .before .before .before .before .before .if1 .left)) (d .before .before .before .before .before .before .before .before .if2 .left) _ (d .before .before .before .before .before .before .before .steps .ensures) _ _ (d .before .before .before .before .before .clear-portion .ensures) _ (d .before .s .given .1))
 
 returns-3 : tie.Need-returns-3
 returns-3 c = portion-corrupt _ _ _ _ _ _ (c .before .before .before .before .before .before .before .before .before .before .table-good .ensures) (not-false _ (c .before .before .before .before .before .before .before .before .before .if1 .left)) (c .before .before .before .before .before .before .before .before .if2 .left) _ (c .before .before .before .before .before .before .before .steps .ensures) _ _ (c .before .before .before .before .before .clear-portion .ensures) _ (c .before .r .given .1)
 
 returns-4 : tie.Need-returns-4
-returns-4 c = portion-done _ _ _ _ _ _ (c .before .before .before .before .before .before .before .before .before .before .table-good .ensures) (not-false _ (c .before .before .before .before .before .before .before .before .before .if1 .left)) (c .before .before .before .before .before .before .before .before .if2 .left) _ (c .before .before .before .before .before .before .before .steps .ensures) _ _ (c .before .before .before .before .before .clear-portion .ensures) _ (c .before .c .given .1)
+returns-4 c =
+    let d = c .before .before .before in
+    portion-done _ _ _ _ _ _ (d .before .before .before .before .before .before .before .before .before .before .table-good .ensures) (not-false _ (d .before .before .before .before .before .before .before .before .before .if1 .left)) (d .before .before .before .before .before .before .before .before .if2 .left) _ (d .before .before .before .before .before .before .before .steps .ensures) _ _ (d .before .before .before .before .before .clear-portion .ensures) _ (d .before .s .given .1)
 
 pub portion-spec : {M : Type 1} → statement M
 portion-spec =
