@@ -1,34 +1,28 @@
--- The label, what is learned, the native frame, and each outcome of delivering.
+-- The label, the native frame, and each outcome of delivering.
 -- Assumes nothing.
 use Prim.Native.Nat.{ℕ, _+_, _-_, _*_, _%_, _^_, _<_, _≤_}
-use mathlib.Core.Bool.{Bool, true, false, _&&_, _||_}
+use mathlib.Core.Bool.{Bool, true, false}
 use mathlib.Core.List.{List, [], _∷_, _++_, append-assoc, append-nil}
 use mathlib.Core.Path.{_≡_, refl, sym, ap, _∙_}
 use native.Mathlib.Omega.{arith}
-use lib.Dec.{eqb}
 use lib.ListN.{length, take, drop, length-drop, length-append, take-append-drop}
 use lib.Seq.{drop-drop, take-add, take-take, length-take-le}
-use borrow.Author.Tests.{le-leb, lt-leb, eq-eqb, ne-eqb}
+use borrow.Author.Tests.{le-leb, lt-leb}
 use Rattle.numbers.specs.Tests.{pick}
 use Rattle.numbers.specs.Result.{Result, refused, got, check, andThen, settled}
 use Rattle.numbers.specs.After.{OnBoth, onBoth, onTable}
 use Rattle.numbers.specs.Bytes.{num, bytesOf, laid}
-use Rattle.numbers.proofs.Truth.{and-both, or-either}
 use Rattle.numbers.proofs.Lists.{part-prefix, starts-same}
-use Rattle.table.specs.Learning.{learnt}
 use Rattle.table.specs.Record.{labelNumber}
 use Rattle.table.specs.declared.Entry.{Entry}
 use Rattle.table.specs.declared.Label.{Label}
 use Rattle.table.specs.declared.Label.the-variants.{Vlan, Fine}
 use Rattle.table.specs.declared.Learning.{Learning}
-use Rattle.table.specs.declared.Learning.the-variants.{Kept}
-use Rattle.table_records.specs.Entries.{Fits}
 use Rattle.frame.specs.Fields.{Fields, nativeBytes}
 use Rattle.frame.specs.Header.{wordAt}
 use Rattle.frame.specs.Front.{trillGroup}
 use Rattle.frame.specs.Labels.{tagBytes, fineBytes, isTag, low12, labelRead}
-use Rattle.frame.specs.Header.{firstReserved, secondReserved}
-use Rattle.frame.specs.Settings.{settingsGood, firstBit, secondBit, lifeOf, defaultLife}
+use Rattle.frame.specs.Settings.{defaultLife}
 use Rattle.frame.specs.declared.Settings.{Settings}
 use Rattle.receive.specs.Deciding.{isMarked}
 use Rattle.port_map.specs.Maps.{no-pair, campusLabel}
@@ -36,7 +30,7 @@ use Rattle.receive.specs.Delivering.{taggedBytes}
 use Rattle.receive.specs.Receive.{learnedEntry, taught, delivery}
 use Rattle.receive.specs.declared.ReadAnswer.{ReadAnswer}
 use Rattle.receive.specs.declared.ReadAnswer.the-variants.{Refused, Delivered}
-use Rattle.receive.proofs.Outcomes.{settings-fit, apart}
+use Rattle.receive.proofs.Outcomes.{apart}
 use Rattle.frame_parse.specs.Meaning.{fieldsIn, PartsOf}
 use Rattle.frame_parse.specs.declared.Parts.{Parts}
 use Rattle.frame_parse.proofs.Located.{label-in-frame}
@@ -44,7 +38,8 @@ use Rattle.frame_copy.specs.Areas.{pasted}
 use Rattle.frame_copy.proofs.Copying.{paste-next, paste-after, paste-laid}
 use Rattle.receive_decide.specs.Meaning.{ValuesOf}
 use Rattle.receive_decide.specs.declared.FieldValues.{FieldValues}
-use Rattle.receive_deliver.specs.Meaning.{learnedOf, taughtOf, Asks, tagOf, tagLength, isMissing, nativeAs, writtenWith, nativeLength}
+use Rattle.receive_teach.specs.Meaning.{learnedOf, taughtOf}
+use Rattle.receive_deliver.specs.Meaning.{Asks, tagOf, tagLength, isMissing, nativeAs, writtenWith, nativeLength}
 use Rattle.receive_deliver.specs.declared.Tag.{Tag}
 use Rattle.receive_deliver.specs.declared.Tag.the-variants as tag
 use Rattle.receive_deliver.specs.declared.Wanted.the-variants as wanted
@@ -80,39 +75,6 @@ module _ (f : List ℕ) (p : Parts) (w : PartsOf f p) where
   unfolding labelRead pick
   fine-read a c high low h =
       (rw (label-in-frame f p w, kind-fine (p .«label_length») (isTag (drop at f)) (w .label-kind) h .0, drop-drop 2 at f, drop-drop 6 at f, ← high, ← low), omega arith)
-
--- ---- the mark
-
-pub mark-test : (s : Settings) (h : List ℕ) (x y : ℕ) → x ≡ firstReserved h → y ≡ secondReserved h → (eqb (s .multihomed) firstBit && eqb x 1) || (eqb (s .multihomed) secondBit && eqb y 1) ≡ isMarked s h
-unfolding isMarked
-mark-test s h x y ex ey = rw (ex, ey, ← and-both (eqb (s .multihomed) firstBit) (eqb (firstReserved h) 1), ← and-both (eqb (s .multihomed) secondBit) (eqb (secondReserved h) 1)) (or-either _ _)
-
--- ---- the seconds
-
-pub life-default : (n : ℕ) → n ≡ 0 → defaultLife ≡ pick (eqb n 0) defaultLife n
-unfolding pick
-life-default n h = rw (eq-eqb n 0 h)
-
-pub life-given : (n : ℕ) → (n ≡ 0 → ⊥) → n ≡ pick (eqb n 0) defaultLife n
-unfolding pick
-life-given n h = rw (ne-eqb n 0 h)
-
--- what is learned fits its bits
-pub learned-is : (s : Settings) (l : Label) (m n k : ℕ) (mark : Bool) → settingsGood s ≡ true → labelNumber l < 2 ^ 24 → m < 2 ^ 48 → k ≡ lifeOf defaultLife s
-    → (_≡_ {A = Entry} (record { label = l; mac = m; nickname = n; confidence = s .confidence; seconds = k; multihomed = mark }) (learnedOf s l m n mark))
-    × Fits (record { label = l; mac = m; nickname = n; confidence = s .confidence; seconds = k; multihomed = mark })
-learned-is s l m n k mark set a b e =
-    (rw e, record { label = a; mac = b; seconds = rw e (settings-fit defaultLife s (omega arith) set .1) })
-
--- ---- what is taught
-
-pub taught-nothing : (own : ℕ) (e : Entry) (t : List ℕ) → e .nickname ≡ own → onTable Kept t ≡ taughtOf own e t
-unfolding taughtOf pick
-taught-nothing own e t h = rw (eq-eqb (e .nickname) own h)
-
-pub taught-learns : (own : ℕ) (e : Entry) (t u : List ℕ) (how : Learning) → (e .nickname ≡ own → ⊥) → onTable how u ≡ learnt e t → onTable how u ≡ taughtOf own e t
-unfolding taughtOf pick
-taught-learns own e t u how h l = rw (ne-eqb (e .nickname) own h) l
 
 -- ---- the tag
 

@@ -1,25 +1,15 @@
--- The entry learned of a frame from its values; what its label asks of a map; the tag and the length of the native frame.
+-- What a frame's label asks of a map; the tag and the length of the native frame.
 -- Assumes nothing.
 use Prim.Native.Nat.{ℕ, _+_, _-_}
 use mathlib.Core.Bool.{Bool, true, false}
 use mathlib.Core.List.{List, [], _++_}
 use mathlib.Core.Path.{_≡_}
-use lib.Dec.{eqb}
-use Rattle.numbers.specs.Tests.{pick}
-use Rattle.numbers.specs.After.{OnTable, onTable}
 use Rattle.numbers.specs.Bytes.{bytesOf}
 use Rattle.numbers.specs.Result.{Result, refused, got}
-use Rattle.table.specs.Learning.{learnt}
-use Rattle.table.specs.declared.Entry.{Entry}
-use Rattle.table.specs.declared.Label.{Label}
-use Rattle.table.specs.declared.Learning.{Learning}
-use Rattle.table.specs.declared.Learning.the-variants.{Kept}
 use Rattle.frame.specs.Front.{addressesBytes}
 use Rattle.frame.specs.Fields.{Fields, nativeBytes}
 use Rattle.frame.specs.Header.{wordAt}
 use Rattle.frame.specs.Labels.{tagBytes, tagType, isTag}
-use Rattle.frame.specs.Settings.{lifeOf, defaultLife}
-use Rattle.frame.specs.declared.Settings.{Settings}
 use Rattle.frame_parse.specs.declared.Parts.{Parts}
 use Rattle.port_map.specs.Maps.{no-pair}
 use Rattle.receive.specs.Delivering.{fineIn, taggedBytes}
@@ -27,15 +17,6 @@ use Rattle.receive_deliver.specs.declared.Tag.{Tag}
 use Rattle.receive_deliver.specs.declared.Tag.the-variants as tag
 use Rattle.receive_deliver.specs.declared.Wanted.{Wanted}
 use Rattle.receive_deliver.specs.declared.Wanted.the-variants as wanted
-
--- `learnedEntry` of a frame whose label, source, ingress nickname and mark are these
-abbrev pub learnedOf : Settings → Label → ℕ → ℕ → Bool → Entry
-learnedOf s label mac nickname mark =
-    record { label = label; mac = mac; nickname = nickname; confidence = s .confidence; seconds = lifeOf defaultLife s; multihomed = mark }
-
--- `taught` of an entry, our own nickname being the number own
-unfoldable pub taughtOf : ℕ → Entry → List ℕ → OnTable Learning
-taughtOf own e t = pick (eqb (e .nickname) own) (onTable Kept t) (learnt e t)
 
 -- what a frame's label asks of a map: nothing, or the VLAN of its fine-grained label, w being the label's second part
 abbrev pub Asks : Wanted → Fields → Type 0

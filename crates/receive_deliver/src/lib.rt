@@ -3,30 +3,23 @@
 ghost use Prim.Native.Nat.{_+_, _^_, _<_, _≤_};
 ghost use mathlib.Core.Bool.{true};
 ghost use mathlib.Core.Path.{_≡_};
-ghost use lib.Dec.{eqb};
 ghost use lib.ListN.{length};
-ghost use Rattle.numbers.specs.Tests.{pick};
 ghost use Rattle.numbers.specs.Result.{settled};
-ghost use Rattle.numbers.specs.After.{onTable, onBoth};
+ghost use Rattle.numbers.specs.After.{onBoth};
 ghost use Rattle.numbers.specs.Bytes.{laid};
 ghost use Rattle.table.specs.Record.{labelNumber};
-ghost use Rattle.table_records.specs.Entries.{Fits};
 ghost use Rattle.frame.specs.Front.{addressesBytes};
 ghost use Rattle.frame.specs.Labels.{labelRead};
 ghost use Rattle.frame.specs.Settings.{settingsGood, defaultLife};
-ghost use Rattle.receive.specs.Deciding.{isMarked};
 ghost use Rattle.receive.specs.Receive.{delivery};
 ghost use Rattle.receive.specs.declared.ReadAnswer.the-variants as answer;
 ghost use Rattle.frame_parse.specs.Meaning.{fieldsIn, PartsOf};
 ghost use Rattle.receive_decide.specs.Meaning.{ValuesOf};
 ghost use Rattle.frame_copy.specs.Areas.{pasted};
-ghost use Rattle.receive_deliver.specs.Meaning.{learnedOf, taughtOf, Asks, tagOf, tagLength, isMissing, nativeAs, writtenWith, nativeLength};
+ghost use Rattle.receive_deliver.specs.Meaning.{Asks, tagOf, tagLength, isMissing, nativeAs, writtenWith, nativeLength};
 use frame::ADDRESSES_BYTES;
-use frame::DEFAULT_LIFE_SECONDS;
 use frame::ETHERTYPE_BYTES;
-use frame::FIRST_BIT;
 use frame::LABEL_PART;
-use frame::SECOND_BIT;
 use frame::Settings;
 use frame::TAG_BYTES;
 use frame::TAG_ETHERTYPE;
@@ -37,9 +30,7 @@ use port_map::CampusLabel;
 use port_map::NO_PAIR;
 use receive::ReadAnswer;
 use receive_decide::FieldValues;
-use table::Entry;
 use table::Label;
-use table::Learning;
 
 // The 12 bits of a tag's number start here in a label, and the low 12 of a fine-grained label.
 const PART_OFFSET: usize = ETHERTYPE_BYTES;
@@ -109,53 +100,6 @@ fn tag_bytes(tag: Tag) -> usize
     }
 }
 
-// The seconds that a learned record gets.
-fn life_of(seconds: u32) -> u32
-    ensures { λ r. ⌜ r ≡ pick (eqb seconds 0) defaultLife seconds ⌝ }
-{
-    if seconds == 0 {
-        return DEFAULT_LIFE_SECONDS;
-    }
-    seconds
-}
-
-// Whether the frame has the R bit set that the settings name.
-fn is_marked(s: Settings, f: &[u8], p: Parts) -> bool
-    requires { ⌜ PartsOf (now f) p ⌝ }
-    ensures { λ r. ⌜ r ≡ isMarked s (fieldsIn (now (f .entry)) p .header) ⌝ }
-{
-    let h = p.header_offset;
-    let first = (s.multihomed == FIRST_BIT) & (frame_fields::first_reserved(f, h) == 1);
-    let second = (s.multihomed == SECOND_BIT) & (frame_fields::second_reserved(f, h) == 1);
-    first | second
-}
-
-// The entry learned of a frame with this label, source, ingress nickname and mark.
-fn learned_entry(s: Settings, label: Label, mac: u64, nickname: u64, mark: bool) -> Entry
-    requires { ⌜ (settingsGood s ≡ true) × ((labelNumber label < 2 ^ 24) × ((mac < 2 ^ 48) × (nickname < 2 ^ 16))) ⌝ }
-    ensures { λ r. ⌜ (r ≡ learnedOf s label mac nickname mark) × Fits r ⌝ }
-{
-    Entry {
-        label: label,
-        mac: mac,
-        nickname: nickname as u16,
-        confidence: s.confidence as u8,
-        seconds: life_of(s.seconds) as u16,
-        multihomed: mark,
-    }
-}
-
-// Learns the entry, unless its nickname is our own: such a frame teaches nothing.
-fn teach(nickname: u32, e: Entry, table: &mut [u8]) -> Learning
-    requires { ⌜ Fits e ⌝ }
-    ensures { λ r. ⌜ onTable r (now (table .exit)) ≡ taughtOf nickname e (now (table .entry)) ⌝ }
-{
-    if e.nickname as u32 == nickname {
-        return Learning::Kept;
-    }
-    table_learning::learn(e, table)
-}
-
 // The number of a tag: its length and its offset.
 const TAG_NUMBER_BYTES: usize = TAG_BYTES - ETHERTYPE_BYTES;
 
@@ -214,9 +158,9 @@ pub fn deliver(
     }
     let label = label_of(f, p);
     write_native(f, p, tag, out);
-    let mark = is_marked(s, f, p);
-    let entry = learned_entry(s, label, v.src, v.ingress, mark);
-    let how = teach(s.nickname, entry, table);
+    let mark = receive_teach::is_marked(s, f, p);
+    let entry = receive_teach::learned_entry(s, label, v.src, v.ingress, mark);
+    let how = receive_teach::teach(s.nickname, entry, table);
     ReadAnswer::Delivered {
         learning: how,
         length: n as u16,

@@ -1,9 +1,9 @@
--- `receive_deliver::teach` meets its contract: our own nickname teaches nothing, any other is learned.
+-- `receive_teach::teach` meets its contract: our own nickname teaches nothing, any other is learned.
 -- Assumes nothing.
-use Rattle.receive_deliver.proofs.Laws.{taught-nothing, taught-learns}
+use Rattle.receive_teach.proofs.Laws.{taught-nothing, taught-learns}
 use borrow.Author.Needs.{needs}
-use Rattle.receive_deliver.proofs.teach.Statement.{statement}
-use Rattle.receive_deliver.proofs.teach.Tie as tie
+use Rattle.receive_teach.proofs.teach.Statement.{statement}
+use Rattle.receive_teach.proofs.teach.Tie as tie
 
 returns : tie.Need-returns
 returns c = search taught-nothing

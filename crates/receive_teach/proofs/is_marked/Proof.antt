@@ -1,13 +1,13 @@
--- `receive_deliver::is_marked` meets its contract: each bit is read within the header.
+-- `receive_teach::is_marked` meets its contract: each bit is read within the header.
 -- Assumes nothing.
 use Prim.Native.Nat.{ℕ, _/_, _%_, _^_}
 use mathlib.Core.Path.{ap, _∙_}
 use native.Mathlib.Omega.{arith}
 use Rattle.frame_parse.proofs.Located.{header-word}
-use Rattle.receive_deliver.proofs.Laws.{mark-test}
+use Rattle.receive_teach.proofs.Laws.{mark-test}
 use borrow.Author.Needs.{needs}
-use Rattle.receive_deliver.proofs.is_marked.Statement.{statement}
-use Rattle.receive_deliver.proofs.is_marked.Tie as tie
+use Rattle.receive_teach.proofs.is_marked.Statement.{statement}
+use Rattle.receive_teach.proofs.is_marked.Tie as tie
 
 returns : tie.Need-returns
 returns c =

@@ -1,12 +1,12 @@
--- `receive_deliver::learned_entry` meets its contract: the numbers fit, and are those of the settings and the frame.
+-- `receive_teach::learned_entry` meets its contract: the numbers fit, and are those of the settings and the frame.
 -- Assumes nothing.
-use Rattle.receive_deliver.proofs.Laws.{learned-is}
+use Rattle.receive_teach.proofs.Laws.{learned-is}
 use Rattle.receive.proofs.Outcomes.{settings-fit}
 use Rattle.frame.specs.Settings.{defaultLife}
 use native.Mathlib.Omega.{arith}
 use borrow.Author.Needs.{needs}
-use Rattle.receive_deliver.proofs.learned_entry.Statement.{statement}
-use Rattle.receive_deliver.proofs.learned_entry.Tie as tie
+use Rattle.receive_teach.proofs.learned_entry.Statement.{statement}
+use Rattle.receive_teach.proofs.learned_entry.Tie as tie
 
 cast-t7 : tie.Need-cast-t7
 cast-t7 c = let h = settings-fit defaultLife (c .before .args .s) (omega arith) (c .before .pre .0) in record { fits = omega (arith, h .0) }
