@@ -1,3 +1,5 @@
+-- `hello_put::put_macs` meets its contract: the invariant is that the numbers so far are copied.
+-- Assumes nothing.
 use Prim.Native.Nat.{_-_, _≤_}
 use mathlib.Core.List.{flatMap}
 use mathlib.Core.Path.{_≡_, refl}
@@ -19,35 +21,8 @@ abbrev μ-loop : tie.MeasureT-loop
 loop-holds : tie.Need-loop-holds Inv-loop μ-loop
 loop-holds c = (search needs, (refl, search macs-none))
 
-mul-be8 : tie.Need-mul-be8 Inv-loop μ-loop
-mul-be8 c = search needs
-
-add-be8 : tie.Need-add-be8 Inv-loop μ-loop
-add-be8 c = search needs
-
-be8-requires : tie.Need-be8-requires Inv-loop μ-loop
-be8-requires c κs = search needs
-
-mul-put-address : tie.Need-mul-put-address Inv-loop μ-loop
-mul-put-address c = search needs
-
-add-put-address : tie.Need-add-put-address Inv-loop μ-loop
-add-put-address c = search needs
-
-put-address-requires : tie.Need-put-address-requires Inv-loop μ-loop
-put-address-requires c κs = search needs
-
-add-i : tie.Need-add-i Inv-loop μ-loop
-add-i c = search needs
-
-loop-less : tie.Need-loop-less Inv-loop μ-loop
-loop-less c = search needs
-
 loop-again : tie.Need-loop-again Inv-loop μ-loop
 loop-again c = (search needs, (search needs, search macs-next))
-
-same-length : tie.Need-same-length Inv-loop μ-loop
-same-length c = search needs
 
 returns : tie.Need-returns Inv-loop μ-loop
 returns c = search macs-done
@@ -59,14 +34,14 @@ put-macs-spec =
     Inv-loop
     μ-loop
     loop-holds
-    mul-be8
-    add-be8
-    be8-requires
-    mul-put-address
-    add-put-address
-    put-address-requires
-    add-i
-    loop-less
+    (λ c. search needs)
+    (λ c. search needs)
+    (λ c κs. search needs)
+    (λ c. search needs)
+    (λ c. search needs)
+    (λ c κs. search needs)
+    (λ c. search needs)
+    (λ c. search needs)
     loop-again
-    same-length
+    (λ c. search needs)
     returns)
