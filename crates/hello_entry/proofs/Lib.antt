@@ -1,0 +1,4 @@
+-- Laws of entries, for this crate and those above.
+pub mod Plain
+pub mod Shape
+pub mod Counts
