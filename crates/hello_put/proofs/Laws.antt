@@ -101,7 +101,7 @@ module _ (c : Cursor) (h n : ℕ) where
       go false = omega arith
 
   module _ (o : List ℕ) (room : stepped c h n .at ≤ length o) where
-    pub step-small : length o * 1 < 2 ^ 63 → c .at < 2 ^ 63
+    pub step-small : length o * 1 < 2 ^ 63 → c .at < 3 * 2 ^ 62
     step-small f = let g = step-grows in omega arith
 
     module _ (r : Bool) (er : r ≡ takes c h n) where
@@ -133,3 +133,13 @@ step-ordered c h n e = go (takes c h n)
     go : (r : Bool) → pick {A = Cursor} r same new .start ≤ pick {A = Cursor} r same new .at
     go true = omega arith
     go false = omega arith
+
+-- at most type, length and the longer head come with it
+pub step-most : (c : Cursor) (h n : ℕ) → stepped c h n .at ≤ c .at + 7 + n
+unfolding stepped pick headOf
+step-most c h n = go (takes c h n) (eqb h 242)
+  where
+    go : (r k : Bool) → pick {A = Cursor} r (record { holder = h; start = c .start; at = c .at + n }) (record { holder = h; start = c .at; at = c .at + (2 + length (pick {A = List ℕ} k (0 ∷ 0 ∷ 0 ∷ 0 ∷ 0 ∷ []) (0 ∷ 0 ∷ 1 ∷ []))) + n }) .at ≤ c .at + 7 + n
+    go true k = omega arith
+    go false true = omega arith
+    go false false = omega arith

@@ -39,7 +39,7 @@ fn head_size(h: u8) -> usize
 
 // The TLV that is open takes a sub-TLV.
 fn takes_it(c: Cursor, h: u8, size: usize) -> bool
-    requires { ⌜ (c .start ≤ c .at) × ((c .at < 2 ^ 63) × (size ≤ 255)) ⌝ }
+    requires { ⌜ (c .start ≤ c .at) × ((c .at < 3 * 2 ^ 62) × (size ≤ 255)) ⌝ }
     ensures { λ r. ⌜ r ≡ takes c h size ⌝ }
 {
     if c.holder != h {
@@ -50,7 +50,7 @@ fn takes_it(c: Cursor, h: u8, size: usize) -> bool
 
 // The cursor after a sub-TLV.
 pub fn step(c: Cursor, h: u8, size: usize) -> Cursor
-    requires { ⌜ (c .start ≤ c .at) × ((c .at < 2 ^ 63) × (size ≤ 255)) ⌝ }
+    requires { ⌜ (c .start ≤ c .at) × ((c .at < 3 * 2 ^ 62) × (size ≤ 255)) ⌝ }
     ensures { λ r. ⌜ r ≡ stepped c h size ⌝ }
 {
     if takes_it(c, h, size) {

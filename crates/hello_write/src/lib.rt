@@ -1,0 +1,106 @@
+// The call that writes a Smart-Hello: the contents area is judged, then the room, and then the payload is written, section by section.
+ghost use Prim.Native.Nat.{_+_, _*_, _^_, _<_, _≤_};
+ghost use mathlib.Core.Bool.{true};
+ghost use mathlib.Core.Path.{_≡_};
+ghost use lib.ListN.{length};
+ghost use Rattle.hello.specs.Area.{takeMany};
+ghost use Rattle.hello_area.specs.Entries.{numbersIn, holderFor, takeSub, takeSubs, reach, subAt, subsAt};
+ghost use Rattle.hello_entry.specs.Kinds.{hasSection};
+ghost use Rattle.hello_put.specs.Placing.{unopened, steppedBy, steppedAll};
+ghost use Rattle.hello_write.specs.Sections.{sectionEnd, subsIn, atFirst, walked};
+use hello_put::Cursor;
+
+// The types of the sections.
+const PARAMETERS: u8 = 22;
+
+const SMART_MAC: u8 = 23;
+
+const NICKNAME: u8 = 6;
+
+const TREES: u8 = 8;
+
+// The TLVs that hold sub-TLVs.
+const CAPABILITY: u8 = 242;
+
+const GENINFO: u8 = 251;
+
+// The cursor of what is written, and the number of the contents area that comes next.
+pub struct Walk {
+    pub cursor: Cursor,
+    pub next: usize,
+}
+
+// The TLV that holds sub-TLVs of a type.
+fn holder(kind: u8) -> u8
+    ensures { λ r. ⌜ r ≡ holderFor kind ⌝ }
+{
+    if kind == PARAMETERS {
+        return GENINFO;
+    }
+    if kind == SMART_MAC {
+        return GENINFO;
+    }
+    CAPABILITY
+}
+
+// The cursor after an entry.
+fn entry_size(kind: u8, area: &[u8], i: usize, c: Cursor) -> Cursor
+    requires { ⌜ ((hasSection kind ≡ true) × (reach (takeSub kind) (numbersIn (now area)) i ≤ length (numbersIn (now area)))) × ((c .start ≤ c .at) × (c .at < 3 * 2 ^ 62)) ⌝ }
+    ensures { λ r. ⌜ r ≡ steppedBy c (subAt kind (numbersIn (now (area .entry))) i) ⌝ }
+{
+    hello_put::step(c, holder(kind), hello_entry::size(kind, area, i))
+}
+
+// So many entries of a section.
+fn entries_size(kind: u8, area: &[u8], i: usize, m: usize, c: Cursor) -> Walk
+    requires { ⌜ ((hasSection kind ≡ true) × (reach (takeMany (takeSub kind) m) (numbersIn (now area)) i ≤ length (numbersIn (now area)))) × ((c .start ≤ c .at) × (c .at ≤ 9 * i)) ⌝ }
+    ensures { λ r. ⌜ ((r .cursor ≡ steppedAll c (subsAt kind (numbersIn (now (area .entry))) i m)) × (r .next ≡ reach (takeMany (takeSub kind) m) (numbersIn (now (area .entry))) i)) × ((r .cursor .start ≤ r .cursor .at) × (r .cursor .at ≤ 9 * r .next)) ⌝ }
+{
+    let mut d = c;
+    let mut at = i;
+    let mut j = 0;
+    while j < m {
+        d = entry_size(kind, area, at, d);
+        at = hello_entry::next(kind, area, at);
+        j += 1;
+    }
+    Walk {
+        cursor: d,
+        next: at,
+    }
+}
+
+// A section, behind its count.
+fn section_size(kind: u8, area: &[u8], w: Walk) -> Walk
+    requires { ⌜ ((hasSection kind ≡ true) × (sectionEnd kind (numbersIn (now area)) (w .next) ≤ length (numbersIn (now area)))) × ((w .cursor .start ≤ w .cursor .at) × (w .cursor .at ≤ 9 * w .next)) ⌝ }
+    ensures { λ r. ⌜ (r ≡ walked kind (numbersIn (now (area .entry))) w) × ((r .cursor .start ≤ r .cursor .at) × (r .cursor .at ≤ 9 * r .next)) ⌝ }
+{
+    let m = hello_ends::number(area, w.next) as usize;
+    entries_size(kind, area, w.next + 1, m, w.cursor)
+}
+
+// The walk before the first section.
+fn at_first() -> Walk
+    ensures { λ r. ⌜ r ≡ atFirst ⌝ }
+{
+    Walk {
+        cursor: Cursor {
+            holder: 0,
+            start: 0,
+            at: 0,
+        },
+        next: 0,
+    }
+}
+
+// How long the payload is.
+fn payload_size(area: &[u8]) -> usize
+    requires { ⌜ reach takeSubs (numbersIn (now area)) 0 ≤ length (numbersIn (now area)) ⌝ }
+    ensures { λ r. ⌜ r ≡ steppedAll unopened (subsIn (numbersIn (now (area .entry)))) .at ⌝ }
+{
+    let a = section_size(PARAMETERS, area, at_first());
+    let b = section_size(NICKNAME, area, a);
+    let c = section_size(TREES, area, b);
+    let d = section_size(SMART_MAC, area, c);
+    d.cursor.at
+}
