@@ -56,7 +56,7 @@ module _ (k : ℕ) (area : List ℕ) (i : ℕ) (good : reach (takeSub k) (number
   abbrev entry : Sub
   entry = subAt k (numbersIn area) i
 
-  sub-holder : entry .holder ≡ holderFor k
+  pub sub-holder : entry .holder ≡ holderFor k
   sub-holder =
       either-is k 22 (entry .holder ≡ holderFor k)
       (λ e. ap (λ (s : Sub). s .holder) (entry-alone k (numbersIn area) i good e .1 .1))
