@@ -17,8 +17,9 @@ use Rattle.hello.specs.Writing.{nicknameBytes, headOf, subBytes}
 use Rattle.hello_area.specs.Entries.{numbersIn, labelBytes, parametersBytes, mostOf, holderFor, takeSub, reach, subAt}
 use Rattle.hello_ends.proofs.Numbers.{numbers-length}
 use Rattle.hello_entry.specs.Kinds.{hasSection}
-use Rattle.hello_entry.proofs.Plain.{each, each-length}
-use Rattle.hello_entry.proofs.Shape.{subOf, headNumbers, itemNumbers, headAt, itemAt, itemsAt, parametersAt, nicknameAt, labelAt, entry-alone, Entry, entry-listed}
+use Rattle.hello_entry.specs.Bytes.{parametersAt, nicknameAt, labelAt, recordAt, numberAt, run}
+use Rattle.hello_entry.proofs.Plain.{length-run}
+use Rattle.hello_entry.proofs.Shape.{subOf, headNumbers, itemNumbers, headAt, itemAt, entry-alone, Entry, entry-listed}
 
 -- ---- bytes
 
@@ -60,29 +61,28 @@ module _ (k : ℕ) (area : List ℕ) (i : ℕ) (good : reach (takeSub k) (number
     pub long : length (subBytes (subAt k ns i)) ≡ 2 + (a + b * getD ns (i + h) 0)
 
   counted : (d : k ≡ 22 → ⊥) (h a w b t : ℕ) → headNumbers k ≡ h → itemNumbers k ≡ w → mostOf k ≡ t → length (headAt k ns i) ≡ a → ((j : ℕ) → length (itemAt k ns j) ≡ b) → Counted h a w b t
-  unfolding itemsAt
   counted d h a w b t eh ew et ea eb =
       let e = entry-listed k ns i good d in
       let few : getD ns (i + h) 0 ≤ t = rw (sym eh, sym et) (e .few) in
       let inside : i + (h + (1 + w * getD ns (i + h) 0)) ≤ length ns = rw (sym eh, sym ew) (e .inside) in
       let ends : reach (takeSub k) ns i ≡ i + (h + (1 + w * getD ns (i + h) 0)) = rw (sym eh, sym ew) (e .ends) in
       let n = numbers-length area in
-      let x : List ℕ = itemsAt k ns (i + headNumbers k + 1) (getD ns (i + headNumbers k) 0) in
-      let lx : length x ≡ b * getD ns (i + h) 0 = rw (sym eh) (each-length (itemAt k ns) (itemNumbers k) b eb (getD ns (i + headNumbers k) 0) (i + headNumbers k + 1)) in
+      let x : List ℕ = run (itemAt k ns) (itemNumbers k) (i + headNumbers k + 1) (getD ns (i + headNumbers k) 0) in
+      let lx : length x ≡ b * getD ns (i + h) 0 = rw (sym eh) (length-run (itemAt k ns) (itemNumbers k) b eb (getD ns (i + headNumbers k) 0) (i + headNumbers k + 1)) in
       let l = length-append (headAt k ns i) x in
       let s = ap (λ (z : Sub). length (subBytes z)) (e .is) ∙ size-of k (headAt k ns i ++ x) in
       record { few = few; inside = omega arith; ends = ends; long = omega arith }
 
   pub nicknames-counted : (k ≡ 22 → ⊥) → k ≡ 6 → Counted 0 0 3 5 49
-  unfolding headNumbers itemNumbers headAt itemAt pick
+  unfolding headNumbers itemNumbers headAt itemAt pick recordAt
   nicknames-counted d e = counted d 0 0 3 5 49 (rw e) (rw e) (rw e) (rw e) (λ j. rw e (nickname-long ns j))
 
   pub trees-counted : (k ≡ 22 → ⊥) → (k ≡ 6 → ⊥) → k ≡ 8 → Counted 1 2 1 2 123
-  unfolding headNumbers itemNumbers headAt itemAt pick
+  unfolding headNumbers itemNumbers headAt itemAt pick numberAt
   trees-counted d f e = counted d 1 2 1 2 123 (rw e) (rw e) (rw e) (rw e (length-bytesOf 2 _)) (λ j. rw e (length-bytesOf 2 _))
 
   pub macs-counted : (k ≡ 22 → ⊥) → (k ≡ 6 → ⊥) → (k ≡ 8 → ⊥) → Counted 3 4 1 6 41
-  unfolding headNumbers itemNumbers headAt itemAt pick labelBytes
+  unfolding headNumbers itemNumbers headAt itemAt pick labelBytes numberAt
   macs-counted d f e = counted d 3 4 1 6 41 (rw (ne-eqb k 22 d, ne-eqb k 6 f, ne-eqb k 8 e)) (rw (ne-eqb k 6 f, ne-eqb k 8 e)) (rw (ne-eqb k 6 f, ne-eqb k 8 e)) (rw (ne-eqb k 22 d, ne-eqb k 6 f, ne-eqb k 8 e) (length-bytesOf 4 _)) (λ j. rw (ne-eqb k 6 f, ne-eqb k 8 e) (length-bytesOf 6 _))
 
   -- ---- as the code has them

@@ -2,3 +2,5 @@
 pub mod Plain
 pub mod Shape
 pub mod Counts
+pub mod Writes
+pub mod Puts

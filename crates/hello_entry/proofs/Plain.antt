@@ -15,6 +15,7 @@ use Rattle.hello.specs.Area.{Taken, Taker, taken, takeOne, then, takeMany}
 use Rattle.hello_area.specs.Entries.{via, endIn, reach}
 use Rattle.hello_area.proofs.Places.{reach-in, reach-over}
 use Rattle.hello_ends.proofs.Numbers.{here}
+use Rattle.hello_entry.specs.Bytes.{run}
 
 -- w numbers from the place i on, as x
 pub record Took {A : Type 0} (ns : List ℕ) (i w : ℕ) (x : A) (t : Taken A) : Type 0 where
@@ -99,13 +100,18 @@ plain-many p ns w f a (suc m) i t =
     (plain-then (takeMany p m) _ ns (i + w) (w * m) 0 (w * m) (each f w (i + w) m) (each f w i (suc m)) (omega arith) (plain-many p ns w f a m (i + w))
     (plain-taken ns (i + w + w * m) (each f w i (suc m)))) t
 
-pub each-length : (f : ℕ → List ℕ) (w b : ℕ) → ((j : ℕ) → length (f j) ≡ b) → (m i : ℕ) → length (flatMap (λ (x : List ℕ). x) (each f w i m)) ≡ b * m
-unfolding each flatMap
-each-length f w b long zero i = omega arith
-each-length f w b long (suc m) i =
-    let a = length-append (f i) (flatMap (λ (x : List ℕ). x) (each f w (i + w) m)) in
+pub each-run : (f : ℕ → List ℕ) (w m i : ℕ) → flatMap (λ (x : List ℕ). x) (each f w i m) ≡ run f w i m
+unfolding each flatMap run
+each-run f w zero i = refl
+each-run f w (suc m) i = ap (λ (x : List ℕ). f i ++ x) (each-run f w m (i + w))
+
+pub length-run : (f : ℕ → List ℕ) (w b : ℕ) → ((j : ℕ) → length (f j) ≡ b) → (m i : ℕ) → length (run f w i m) ≡ b * m
+unfolding run
+length-run f w b long zero i = omega arith
+length-run f w b long (suc m) i =
+    let a = length-append (f i) (run f w (i + w) m) in
     let n = long i in
-    let r = each-length f w b long m (i + w) in
+    let r = length-run f w b long m (i + w) in
     omega arith
 
 -- ---- where it does not refuse

@@ -19,22 +19,16 @@ use Rattle.hello.specs.Contents.{Parameters, Nickname}
 use Rattle.hello.specs.Writing.{within, parametersGood, nicknameGood, nicknameBytes, headOf, subBytes}
 use Rattle.hello.specs.Area.{Taken, Taker, taken, takeOne, then, takeMany, takeParameters, takeNickname}
 use Rattle.hello_area.specs.Entries.{via, Label, takeLabel, labelGood, labelBytes, parametersBytes, takeHead, takeItem, mostOf, takeList, holderFor, takeSub, reach, subIn, subAt}
-use Rattle.hello_entry.specs.Kinds.{hasSection}
-use Rattle.hello_entry.proofs.Plain.{Took, Plain, took-as, plain-taken, plain-one, plain-then, plain-via, plain-pick, each, plain-many, each-length, Good, reach-got, reach-plain}
+use Rattle.hello_entry.specs.Bytes.{parametersAt, nicknameAt, labelAt, recordAt, numberAt, run}
+use Rattle.hello_entry.proofs.Plain.{Took, Plain, took-as, plain-taken, plain-one, plain-then, plain-via, via-good, plain-pick, each, plain-many, each-run, Good, reach-got, reach-plain}
 
 -- ---- the head
 
 unfoldable pub headNumbers : ℕ → ℕ
 headNumbers k = pick (eqb k 22) 2 (pick (eqb k 6) 0 (pick (eqb k 8) 1 3))
 
-unfoldable pub parametersAt : List ℕ → ℕ → Parameters
-parametersAt ns i = record { holding = getD ns i 0; flags = getD ns (i + 1) 0 }
-
-unfoldable pub labelAt : List ℕ → ℕ → Label
-labelAt ns i = record { fine = getD ns i 0; multihomed = getD ns (i + 1) 0; number = getD ns (i + 2) 0 }
-
 unfoldable pub headAt : ℕ → List ℕ → ℕ → List ℕ
-headAt k ns i = pick (eqb k 22) (parametersBytes (parametersAt ns i)) (pick (eqb k 6) [] (pick (eqb k 8) (bytesOf 2 (getD ns i 0)) (labelBytes (labelAt ns i))))
+headAt k ns i = pick (eqb k 22) (parametersBytes (parametersAt ns i)) (pick (eqb k 6) [] (pick (eqb k 8) (numberAt 2 ns i) (labelBytes (labelAt ns i))))
 
 -- a number at a place
 plain-num : (ns : List ℕ) (i j : ℕ) → i ≡ j → Plain takeOne ns i 1 (getD ns j 0)
@@ -55,7 +49,7 @@ plain-label ns i =
     (plain-then takeOne _ ns (i + 1 + 1) 1 0 1 (getD ns (i + 2) 0) _ refl (plain-num ns (i + 1 + 1) (i + 2) (omega arith)) (plain-taken ns (i + 1 + 1 + 1) _)))
 
 pub plain-head : (k : ℕ) (ns : List ℕ) (i : ℕ) → Plain (takeHead k) ns i (headNumbers k) (headAt k ns i)
-unfolding takeHead headNumbers headAt
+unfolding takeHead headNumbers headAt numberAt
 plain-head k ns i =
     plain-pick (eqb k 22) _ _ ns i _ _ _ _ (plain-via takeParameters parametersGood parametersBytes ns i 2 (parametersAt ns i) (plain-parameters ns i))
     (plain-pick (eqb k 6) _ _ ns i _ _ _ _ (plain-taken ns i [])
@@ -66,11 +60,8 @@ plain-head k ns i =
 unfoldable pub itemNumbers : ℕ → ℕ
 itemNumbers k = pick (eqb k 6) 3 (pick (eqb k 8) 1 1)
 
-unfoldable pub nicknameAt : List ℕ → ℕ → Nickname
-nicknameAt ns i = record { priority = getD ns i 0; root = getD ns (i + 1) 0; nickname = getD ns (i + 2) 0 }
-
 unfoldable pub itemAt : ℕ → List ℕ → ℕ → List ℕ
-itemAt k ns i = pick (eqb k 6) (nicknameBytes (nicknameAt ns i)) (pick (eqb k 8) (bytesOf 2 (getD ns i 0)) (bytesOf 6 (getD ns i 0)))
+itemAt k ns i = pick (eqb k 6) (recordAt ns i) (pick (eqb k 8) (numberAt 2 ns i) (numberAt 6 ns i))
 
 plain-nickname : (ns : List ℕ) (i : ℕ) → Plain takeNickname ns i 3 (nicknameAt ns i)
 unfolding takeNickname nicknameAt
@@ -80,22 +71,19 @@ plain-nickname ns i =
     (plain-then takeOne _ ns (i + 1 + 1) 1 0 1 (getD ns (i + 2) 0) _ refl (plain-num ns (i + 1 + 1) (i + 2) (omega arith)) (plain-taken ns (i + 1 + 1 + 1) _)))
 
 pub plain-item : (k : ℕ) (ns : List ℕ) (i : ℕ) → Plain (takeItem k) ns i (itemNumbers k) (itemAt k ns i)
-unfolding takeItem itemNumbers itemAt
+unfolding takeItem itemNumbers itemAt recordAt numberAt
 plain-item k ns i =
     plain-pick (eqb k 6) _ _ ns i _ _ _ _ (plain-via takeNickname nicknameGood nicknameBytes ns i 3 (nicknameAt ns i) (plain-nickname ns i))
     (plain-pick (eqb k 8) _ _ ns i _ _ _ _ (plain-via takeOne (within 2) (bytesOf 2) ns i 1 (getD ns i 0) (plain-one ns i)) (plain-via takeOne (within 6) (bytesOf 6) ns i 1 (getD ns i 0) (plain-one ns i)))
 
 -- ---- the list
 
-unfoldable pub itemsAt : ℕ → List ℕ → ℕ → ℕ → List ℕ
-itemsAt k ns i m = flatMap (λ (b : List ℕ). b) (each (itemAt k ns) (itemNumbers k) i m)
-
 pub record Listed (k : ℕ) (ns : List ℕ) (i : ℕ) (t : Taken (List ℕ)) : Type 0 where
   pub few : getD ns i 0 ≤ mostOf k
-  pub took : Took ns i (1 + itemNumbers k * getD ns i 0) (itemsAt k ns (i + 1) (getD ns i 0)) t
+  pub took : Took ns i (1 + itemNumbers k * getD ns i 0) (run (itemAt k ns) (itemNumbers k) (i + 1) (getD ns i 0)) t
 
 pub list-took : (k : ℕ) (ns : List ℕ) (i : ℕ) (t : Taken (List ℕ)) → i ≤ length ns → takeList k (drop i ns) ≡ got t → Listed k ns i t
-unfolding takeList then itemsAt
+unfolding takeList then
 list-took k ns i t h e =
     let m = getD ns i 0 in
     let w = itemNumbers k in
@@ -108,7 +96,7 @@ list-took k ns i t h e =
     let j : i + 1 + w * m ≡ i + (1 + w * m) = omega arith in
     record {
       few = leb-true m (mostOf k) (b .0);
-      took = record { inside = omega arith; is = sym (got-got _ t (c .2)) ∙ ap (λ (z : Taken (List (List ℕ))). record { value = flatMap (λ (b : List ℕ). b) (z .value); rest = z .rest }) (v .is) ∙ ap (λ (n : ℕ). record { value = itemsAt k ns (i + 1) m; rest = drop n ns }) j };
+      took = record { inside = omega arith; is = sym (got-got _ t (c .2)) ∙ ap (λ (z : Taken (List (List ℕ))). record { value = flatMap (λ (b : List ℕ). b) (z .value); rest = z .rest }) (v .is) ∙ ap (λ (y : List ℕ). record { value = y; rest = drop (i + 1 + w * m) ns }) (each-run (itemAt k ns) w m (i + 1)) ∙ ap (λ (n : ℕ). record { value = run (itemAt k ns) w (i + 1) m; rest = drop n ns }) j };
     }
 
 -- ---- an entry
@@ -139,7 +127,7 @@ module _ (k : ℕ) (ns : List ℕ) (i : ℕ) (good : reach (takeSub k) ns i ≤ 
     pub few : getD ns (i + headNumbers k) 0 ≤ mostOf k
     pub inside : i + (headNumbers k + (1 + itemNumbers k * getD ns (i + headNumbers k) 0)) ≤ length ns
     pub ends : reach (takeSub k) ns i ≡ i + (headNumbers k + (1 + itemNumbers k * getD ns (i + headNumbers k) 0))
-    pub is : subAt k ns i ≡ subOf k (headAt k ns i ++ itemsAt k ns (i + headNumbers k + 1) (getD ns (i + headNumbers k) 0))
+    pub is : subAt k ns i ≡ subOf k (headAt k ns i ++ run (itemAt k ns) (itemNumbers k) (i + headNumbers k + 1) (getD ns (i + headNumbers k) 0))
 
   pub entry-listed : (k ≡ 22 → ⊥) → Entry
   unfolding takeSub pick then
@@ -156,10 +144,40 @@ module _ (k : ℕ) (ns : List ℕ) (i : ℕ) (good : reach (takeSub k) ns i ≤ 
       let q = v .inside in
       let m = getD ns (i + n) 0 in
       let j : i + n + (1 + itemNumbers k * m) ≡ i + (n + (1 + itemNumbers k * m)) = omega arith in
-      let w : Took ns i (n + (1 + itemNumbers k * m)) (subOf k (headAt k ns i ++ itemsAt k ns (i + n + 1) m)) t =
+      let w : Took ns i (n + (1 + itemNumbers k * m)) (subOf k (headAt k ns i ++ run (itemAt k ns) (itemNumbers k) (i + n + 1) m)) t =
       record {
         inside = omega arith;
-        is = sym (got-got _ t (b .2)) ∙ ap (λ (z : Taken (List ℕ)). record { value = subOf k (headAt k ns i ++ z .value); rest = z .rest }) (v .is) ∙ ap (λ (x : ℕ). record { value = subOf k (headAt k ns i ++ itemsAt k ns (i + n + 1) m); rest = drop x ns }) j;
+        is = sym (got-got _ t (b .2)) ∙ ap (λ (z : Taken (List ℕ)). record { value = subOf k (headAt k ns i ++ z .value); rest = z .rest }) (v .is) ∙ ap (λ (x : ℕ). record { value = subOf k (headAt k ns i ++ run (itemAt k ns) (itemNumbers k) (i + n + 1) m); rest = drop x ns }) j;
       } in
       let r = ends-at _ _ t (g .is) (g .ends) w in
       record { few = l .few; inside = r .0; ends = r .1 .0; is = r .1 .1 }
+
+  -- ---- the tests that it passed
+
+  head-got : (t : Taken (List ℕ)) × ((i ≤ length ns) × (takeHead k (drop i ns) ≡ got t))
+  unfolding takeSub pick then
+  head-got =
+      let g = reach-got (takeSub k) ns i good in
+      go (eqb k 22) (g .took) (g .starts) (g .is)
+    where
+      go : (c : Bool) (t : Taken Sub) → i ≤ length ns
+          → pick c (then (takeHead k) λ h. taken (subOf k h)) (then (takeHead k) λ h. then (takeList k) λ b. taken (subOf k (h ++ b))) (drop i ns) ≡ got t
+          → (u : Taken (List ℕ)) × ((i ≤ length ns) × (takeHead k (drop i ns) ≡ got u))
+      go true t h e = let a = then-got (takeHead k (drop i ns)) _ t e in (a .0, (h, a .1))
+      go false t h e = let a = then-got (takeHead k (drop i ns)) _ t e in (a .0, (h, a .1))
+
+  module _ (A : Type 0) (p : Taker A) (g : A → Bool) (f : A → List ℕ) (w : ℕ) (x : A) (plain : Plain p ns i w x) where
+    head-good : takeHead k ≡ via p g f → g x ≡ true
+    head-good e = via-good p g f ns i w x plain (head-got .0) (head-got .1 .0) (ap (λ (q : Taker (List ℕ)). q (drop i ns)) (sym e) ∙ head-got .1 .1)
+
+  pub parameters-good : k ≡ 22 → parametersGood (parametersAt ns i) ≡ true
+  unfolding takeHead pick
+  parameters-good e = head-good _ takeParameters parametersGood parametersBytes 2 (parametersAt ns i) (plain-parameters ns i) (rw e)
+
+  pub trees-good : k ≡ 8 → within 2 (getD ns i 0) ≡ true
+  unfolding takeHead pick
+  trees-good e = head-good _ takeOne (within 2) (bytesOf 2) 1 (getD ns i 0) (plain-one ns i) (rw e)
+
+  pub label-good : (k ≡ 22 → ⊥) → (k ≡ 6 → ⊥) → (k ≡ 8 → ⊥) → labelGood (labelAt ns i) ≡ true
+  unfolding takeHead pick
+  label-good d e f = head-good _ takeLabel labelGood labelBytes 3 (labelAt ns i) (plain-label ns i) (rw (ne-eqb k 22 d, ne-eqb k 6 e, ne-eqb k 8 f))
