@@ -1,13 +1,12 @@
 -- The writer's cursor: the TLV that is open, and where the next sub-TLV goes: into it, whose length byte then counts it, or behind the head
 -- of a new one.
 -- Assumes nothing.
-use Prim.Native.Nat.{ℕ, zero, suc, _+_, _-_, _*_}
+use Prim.Native.Nat.{ℕ, _+_, _-_}
 use mathlib.Core.Bool.{Bool}
-use mathlib.Core.List.{List, [], _∷_, _++_}
+use mathlib.Core.List.{List, [], _∷_}
 use lib.Dec.{leb, eqb}
-use lib.ListN.{length, take, drop, set}
+use lib.ListN.{length, set}
 use Rattle.numbers.specs.Tests.{pick, both}
-use Rattle.numbers.specs.Bytes.{num}
 use Rattle.frame_copy.specs.Areas.{pasted}
 use Rattle.hello.specs.Pieces.{Sub}
 use Rattle.hello.specs.Writing.{headOf, subBytes, longestValue}
@@ -51,8 +50,3 @@ steppedAll c (s ∷ ss) = steppedAll (steppedBy c s) ss
 unfoldable pub placedAll : List ℕ → Cursor → List Sub → List ℕ
 placedAll o c [] = o
 placedAll o c (s ∷ ss) = placedAll (placed o c s) (steppedBy c s) ss
-
--- the first n numbers of an area from a place on, 8 bytes each
-unfoldable pub numbersAt : List ℕ → ℕ → ℕ → List ℕ
-numbersAt area from zero = []
-numbersAt area from (suc n) = numbersAt area from n ++ (num (take 8 (drop (from + 8 * n) area)) ∷ [])

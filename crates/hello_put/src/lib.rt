@@ -1,12 +1,10 @@
 // The cursor of a Smart-Hello that is written: the TLV that is open, and the place of the next sub-TLV.
 ghost use Prim.Native.Nat.{_+_, _-_, _*_, _^_, _<_, _≤_};
-ghost use mathlib.Core.List.{flatMap};
 ghost use mathlib.Core.Path.{_≡_};
 ghost use lib.ListN.{length, set};
-ghost use Rattle.numbers.specs.Bytes.{bytesOf};
 ghost use Rattle.frame_copy.specs.Areas.{pasted};
 ghost use Rattle.hello.specs.Writing.{headOf};
-ghost use Rattle.hello_put.specs.Placing.{takes, stepped, opening, opened, numbersAt};
+ghost use Rattle.hello_put.specs.Placing.{takes, stepped, opening, opened};
 
 const CAPABILITY: u8 = 242;
 
@@ -105,16 +103,4 @@ pub fn open(out: &mut [u8], c: Cursor, h: u8, size: usize)
         return;
     }
     open_tlv(out, c.at, h, size);
-}
-
-// The MACs of a Smart-MAC: numbers of 8 bytes from a contents area, as 6 bytes each.
-pub fn put_macs(area: &[u8], from: usize, count: usize, out: &mut [u8], at: usize)
-    requires { ⌜ (from + 8 * count ≤ length (now area)) × (at + 6 * count ≤ length (now out)) ⌝ }
-    ensures { λ _. ⌜ now (out .exit) ≡ pasted (now (out .entry)) at (flatMap (bytesOf 6) (numbersAt (now (area .entry)) from count)) ⌝ }
-{
-    let mut i = 0;
-    while i < count {
-        frame_copy::put_address(numbers::be8(area, from + 8 * i), out, at + 6 * i);
-        i += 1;
-    }
 }

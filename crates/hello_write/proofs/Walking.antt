@@ -9,6 +9,8 @@ use lib.Dec.{leb, eqb}
 use lib.ListN.{length, getD}
 use borrow.Author.Tests.{eq-eqb, ne-eqb, eqb-true, eqb-false}
 use Rattle.numbers.specs.Tests.{pick, either}
+use Rattle.frame_copy.specs.Areas.{pasted}
+use Rattle.hello.specs.Tlvs.{tlvBytes}
 use Rattle.hello.specs.Pieces.{Sub}
 use Rattle.hello.specs.Writing.{headOf, subBytes}
 use Rattle.hello.specs.Area.{takeMany}
@@ -21,9 +23,9 @@ use Rattle.hello_entry.proofs.Plain.{Good, reach-got}
 use Rattle.hello_entry.proofs.Shape.{Entry, entry-alone, entry-listed}
 use Rattle.hello_entry.proofs.Counts.{Counted, nicknames-counted, trees-counted, macs-counted, alone-ends, alone-long}
 use Rattle.hello_put.specs.declared.Cursor.{Cursor}
-use Rattle.hello_put.specs.Placing.{unopened, stepped, steppedBy, steppedAll}
-use Rattle.hello_put.proofs.Laws.{step-ordered, step-most}
-use Rattle.hello_put.proofs.Placed.{stepped-append}
+use Rattle.hello_put.specs.Placing.{unopened, stepped, opened, steppedBy, placed, steppedAll, placedAll}
+use Rattle.hello_put.proofs.Laws.{step-grows, step-small, step-ordered, step-most}
+use Rattle.hello_put.proofs.Placed.{stepped-append, placed-append, steps-grow}
 use Rattle.hello_write.specs.declared.Walk.{Walk}
 use Rattle.hello_write.specs.Sections.{sectionAt, sectionEnd, subsIn, atFirst, walked}
 use Rattle.hello_write.proofs.Taking.{first-within, count-within, section-is, within-22, within-6, within-8, within-23}
@@ -91,6 +93,38 @@ module _ (k : ℕ) (area : List ℕ) (i : ℕ) (good : reach (takeSub k) (number
           let s = small in
           omega arith
 
+  -- ---- and written
+
+  pub entry-two : (n : ℕ) → n ≡ length (subBytes entry) → 2 ≤ n
+  unfolding subBytes tlvBytes
+  entry-two n en = omega arith
+
+  module _ (c : Cursor) (o : List ℕ) (room : steppedBy c entry .at ≤ length o) where
+    pub entry-small : length o * 1 < 2 ^ 63 → c .at < 3 * 2 ^ 62
+    entry-small few = step-small c (entry .holder) (length (subBytes entry)) o room few
+
+    module _ (h n : ℕ) (eh : h ≡ holderFor k) (en : n ≡ length (subBytes entry)) where
+      pub entry-head : length (headOf (holderFor k)) + n ≤ 255 → length (headOf h) + n ≤ 255
+      entry-head f = rw eh f
+
+      pub entry-room : stepped c h n .at ≤ length o
+      entry-room = rw (eh, en, ← sub-holder) room
+
+      module _ (d : Cursor) (ed : d ≡ stepped c h n) where
+        pub entry-behind : n ≤ d .at
+        entry-behind = let a = ap (λ (e : Cursor). e .at) ed in let b = step-grows c h n in omega arith
+
+        pub entry-end : (u : List ℕ) → length u ≡ length o → d .at - n + length (subBytes entry) ≤ length u
+        entry-end u same =
+            let a = ap (λ (e : Cursor). e .at) ed in
+            let b = step-grows c h n in
+            let r = entry-room in
+            omega arith
+
+        pub entry-placed : (u v : List ℕ) → u ≡ opened o c h n → v ≡ pasted u (d .at - n) (subBytes entry) → v ≡ placed o c entry
+        unfolding placed
+        entry-placed u v eu ev = ev ∙ rw (eu, ed, eh, en, sub-holder)
+
 -- ---- the loop over entries
 
 sub-zero : (m : ℕ) → m - 0 ≡ m
@@ -126,6 +160,30 @@ module _ (k : ℕ) (ns : List ℕ) (i m : ℕ) where
       let a = reach-got (takeMany (takeSub k) 0) ns at (omega arith) .starts in
       sym (reach-none (takeSub k) (suffix-sub k) ns at a) ∙ sym f ∙ e
 
+-- the same with the area
+module _ (k : ℕ) (ns : List ℕ) (i m : ℕ) where
+  pub puts-start : (c : Cursor) (o : List ℕ) → placedAll o c (subsAt k ns i (m - 0)) ≡ placedAll o c (subsAt k ns i m)
+  puts-start c o = ap (λ (n : ℕ). placedAll o c (subsAt k ns i n)) (sub-zero m)
+
+  module _ (j at : ℕ) (more : j < m) (c d : Cursor) where
+    pub puts-room : steppedAll d (subsAt k ns at (m - j)) ≡ steppedAll c (subsAt k ns i m) → (out o : List ℕ) → steppedAll c (subsAt k ns i m) .at ≤ length out → length o ≡ length out → steppedBy d (subAt k ns at) .at ≤ length o
+    unfolding subsAt steppedAll
+    puts-room inv out o room same =
+        let e : steppedAll (steppedBy d (subAt k ns at)) (subsAt k ns (reach (takeSub k) ns at) (m - (j + 1))) ≡ steppedAll c (subsAt k ns i m) = sym (ap (λ (n : ℕ). steppedAll d (subsAt k ns at n)) (left k ns i m j at more)) ∙ inv in
+        let f = ap (λ (x : Cursor). x .at) e in
+        let g = steps-grow (subsAt k ns (reach (takeSub k) ns at) (m - (j + 1))) (steppedBy d (subAt k ns at)) in
+        omega arith
+
+    pub puts-next : (out o : List ℕ) → placedAll o d (subsAt k ns at (m - j)) ≡ placedAll out c (subsAt k ns i m) → (r : Cursor) → r ≡ steppedBy d (subAt k ns at) → (u : List ℕ) → u ≡ placed o d (subAt k ns at) → (e : ℕ) → e ≡ reach (takeSub k) ns at → placedAll u r (subsAt k ns e (m - (j + 1))) ≡ placedAll out c (subsAt k ns i m)
+    unfolding subsAt placedAll
+    puts-next out o inv r er u eu e ee = rw (er, eu, ee) (sym (ap (λ (n : ℕ). placedAll o d (subsAt k ns at n)) (left k ns i m j at more)) ∙ inv)
+
+  pub puts-done : (j at : ℕ) → m ≤ j → (c d : Cursor) (out o : List ℕ) → placedAll o d (subsAt k ns at (m - j)) ≡ placedAll out c (subsAt k ns i m) → o ≡ placedAll out c (subsAt k ns i m)
+  unfolding subsAt placedAll
+  puts-done j at h c d out o inv =
+      let z : m - j ≡ 0 = omega arith in
+      sym (ap (λ (n : ℕ). placedAll o d (subsAt k ns at n)) z) ∙ inv
+
 -- the cursor fits a machine number
 pub cursor-small : (k : ℕ) (area : List ℕ) (i m j at x : ℕ) → x ≤ 9 * at → j < m → reach (takeMany (takeSub k) (m - j)) (numbersIn area) at ≡ reach (takeMany (takeSub k) m) (numbersIn area) i → reach (takeMany (takeSub k) m) (numbersIn area) i ≤ length (numbersIn area) → length area * 1 < 2 ^ 63 → x < 3 * 2 ^ 62
 cursor-small k area i m j at x h more e good few =
@@ -149,6 +207,15 @@ module _ (k : ℕ) (ns : List ℕ) (w : Walk) (within : sectionEnd k ns (w .next
       where
         same-walk : (c d : Cursor) (i j : ℕ) → c ≡ d → i ≡ j → _≡_ {A = Walk} (record { cursor = c; next = i }) (record { cursor = d; next = j })
         same-walk c d i j p q = rw (p, q)
+
+  module _ (m : ℕ) (em : m ≡ getD ns (w .next) 0) (out : List ℕ) where
+    pub section-room : walked k ns w .cursor .at ≤ length out → steppedAll (w .cursor) (subsAt k ns (w .next + 1) m) .at ≤ length out
+    unfolding walked sectionAt
+    section-room h = rw em h
+
+    pub section-placed : (u : List ℕ) → u ≡ placedAll out (w .cursor) (subsAt k ns (w .next + 1) m) → u ≡ placedAll out (w .cursor) (sectionAt k ns (w .next))
+    unfolding sectionAt
+    section-placed u e = e ∙ rw em
 
 pub next-fits : (k : ℕ) (area : List ℕ) (w : Walk) → sectionEnd k (numbersIn area) (w .next) ≤ length (numbersIn area) → length area < 2 ^ 64 → w .next + 1 < 2 ^ 64
 next-fits k area w within few =
@@ -205,3 +272,11 @@ module _ (ns : List ℕ) (within : reach takeSubs ns 0 ≤ length ns) (z : Walk)
             rw (ed, ec, eb, ea, ez)
             (ap (λ (c : Cursor). c .at)
             (sym (stepped-append (sectionAt 22 ns 0) _ unopened ∙ stepped-append (sectionAt 6 ns _) _ _ ∙ stepped-append (sectionAt 8 ns _) _ _)))
+
+        -- ---- and written
+
+        all-stepped : steppedAll (c .cursor) (sectionAt 23 ns (c .next)) ≡ steppedAll unopened (subsIn ns)
+        unfolding walked subsIn
+        all-stepped =
+            rw (ec, eb, ea, ez)
+            (sym (stepped-append (sectionAt 22 ns 0) _ unopened ∙ stepped-append (sectionAt 6 ns _) _ _ ∙ stepped-append (sectionAt 8 ns _) _ _))

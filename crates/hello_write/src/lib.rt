@@ -3,12 +3,16 @@ ghost use Prim.Native.Nat.{_+_, _*_, _^_, _<_, _≤_};
 ghost use mathlib.Core.Bool.{true};
 ghost use mathlib.Core.Path.{_≡_};
 ghost use lib.ListN.{length};
+ghost use Rattle.numbers.specs.After.{onArea};
 ghost use Rattle.hello.specs.Area.{takeMany};
+ghost use Rattle.hello.specs.Calls.{writeCall};
 ghost use Rattle.hello_area.specs.Entries.{numbersIn, holderFor, takeSub, takeSubs, reach, subAt, subsAt};
 ghost use Rattle.hello_entry.specs.Kinds.{hasSection};
-ghost use Rattle.hello_put.specs.Placing.{unopened, steppedBy, steppedAll};
-ghost use Rattle.hello_write.specs.Sections.{sectionEnd, subsIn, atFirst, walked};
+ghost use Rattle.hello_put.specs.Placing.{unopened, steppedBy, placed, steppedAll, placedAll};
+ghost use Rattle.hello_write.specs.Sections.{sectionAt, sectionEnd, subsIn, atFirst, walked};
+use hello::HelloAnswer;
 use hello_put::Cursor;
+use numbers::refusals::AREA_SHORT;
 
 // The types of the sections.
 const PARAMETERS: u8 = 22;
@@ -103,4 +107,72 @@ fn payload_size(area: &[u8]) -> usize
     let c = section_size(TREES, area, b);
     let d = section_size(SMART_MAC, area, c);
     d.cursor.at
+}
+
+// Writes an entry as its sub-TLV, and gives the cursor after it.
+fn put_entry(kind: u8, area: &[u8], i: usize, c: Cursor, out: &mut [u8]) -> Cursor
+    requires { ⌜ ((hasSection kind ≡ true) × (reach (takeSub kind) (numbersIn (now area)) i ≤ length (numbersIn (now area)))) × ((c .start ≤ c .at) × (steppedBy c (subAt kind (numbersIn (now area)) i) .at ≤ length (now out))) ⌝ }
+    ensures { λ r. ⌜ (r ≡ steppedBy c (subAt kind (numbersIn (now (area .entry))) i)) × (now (out .exit) ≡ placed (now (out .entry)) c (subAt kind (numbersIn (now (area .entry))) i)) ⌝ }
+{
+    let h = holder(kind);
+    let n = hello_entry::size(kind, area, i);
+    let d = hello_put::step(c, h, n);
+    hello_put::open(out, c, h, n);
+    hello_entry::put(kind, area, i, out, d.at - n);
+    d
+}
+
+// So many entries of a section.
+fn put_entries(kind: u8, area: &[u8], i: usize, m: usize, c: Cursor, out: &mut [u8]) -> Walk
+    requires { ⌜ ((hasSection kind ≡ true) × (reach (takeMany (takeSub kind) m) (numbersIn (now area)) i ≤ length (numbersIn (now area)))) × ((c .start ≤ c .at) × (steppedAll c (subsAt kind (numbersIn (now area)) i m) .at ≤ length (now out))) ⌝ }
+    ensures { λ r. ⌜ ((r .cursor ≡ steppedAll c (subsAt kind (numbersIn (now (area .entry))) i m)) × (r .next ≡ reach (takeMany (takeSub kind) m) (numbersIn (now (area .entry))) i)) × ((r .cursor .start ≤ r .cursor .at) × (now (out .exit) ≡ placedAll (now (out .entry)) c (subsAt kind (numbersIn (now (area .entry))) i m))) ⌝ }
+{
+    let mut d = c;
+    let mut at = i;
+    let mut j = 0;
+    while j < m {
+        d = put_entry(kind, area, at, d, out);
+        at = hello_entry::next(kind, area, at);
+        j += 1;
+    }
+    Walk {
+        cursor: d,
+        next: at,
+    }
+}
+
+// A section, behind its count.
+fn put_section(kind: u8, area: &[u8], w: Walk, out: &mut [u8]) -> Walk
+    requires { ⌜ ((hasSection kind ≡ true) × (sectionEnd kind (numbersIn (now area)) (w .next) ≤ length (numbersIn (now area)))) × ((w .cursor .start ≤ w .cursor .at) × (walked kind (numbersIn (now area)) w .cursor .at ≤ length (now out))) ⌝ }
+    ensures { λ r. ⌜ (r ≡ walked kind (numbersIn (now (area .entry))) w) × ((r .cursor .start ≤ r .cursor .at) × (now (out .exit) ≡ placedAll (now (out .entry)) (w .cursor) (sectionAt kind (numbersIn (now (area .entry))) (w .next)))) ⌝ }
+{
+    let m = hello_ends::number(area, w.next) as usize;
+    put_entries(kind, area, w.next + 1, m, w.cursor, out)
+}
+
+// Writes the payload.
+fn put_payload(area: &[u8], out: &mut [u8])
+    requires { ⌜ (reach takeSubs (numbersIn (now area)) 0 ≤ length (numbersIn (now area))) × (steppedAll unopened (subsIn (numbersIn (now area))) .at ≤ length (now out)) ⌝ }
+    ensures { λ _. ⌜ now (out .exit) ≡ placedAll (now (out .entry)) unopened (subsIn (numbersIn (now (area .entry)))) ⌝ }
+{
+    let a = put_section(PARAMETERS, area, at_first(), out);
+    let b = put_section(NICKNAME, area, a, out);
+    let c = put_section(TREES, area, b, out);
+    put_section(SMART_MAC, area, c, out);
+}
+
+// Writes the Smart-Hello of a contents area.
+pub fn hello_write(contents: &[u8], out: &mut [u8]) -> HelloAnswer
+    ensures { λ r. ⌜ onArea r (now (out .exit)) ≡ writeCall (now (contents .entry)) (now (out .entry)) ⌝ }
+{
+    let j = hello_ends::judge(contents);
+    if j != 0 {
+        return HelloAnswer::Refused(j);
+    }
+    let n = payload_size(contents);
+    if out.len() < n {
+        return HelloAnswer::Refused(AREA_SHORT);
+    }
+    put_payload(contents, out);
+    HelloAnswer::Written(n)
 }
