@@ -27,7 +27,7 @@ use Rattle.hello_put.specs.Placing.{unopened, stepped, opened, steppedBy, place
 use Rattle.hello_put.proofs.Laws.{step-grows, step-small, step-ordered, step-most}
 use Rattle.hello_put.proofs.Placed.{stepped-append, placed-append, steps-grow}
 use Rattle.hello_write.specs.declared.Walk.{Walk}
-use Rattle.hello_write.specs.Sections.{sectionAt, sectionEnd, subsIn, atFirst, walked}
+use Rattle.hello_write.specs.Sections.{sectionAt, sectionEnd, subsIn, frontIn, atFirst, walked}
 use Rattle.hello_write.proofs.Taking.{first-within, count-within, section-is, within-22, within-6, within-8, within-23}
 
 -- ---- the holder
@@ -273,10 +273,79 @@ module _ (ns : List ℕ) (within : reach takeSubs ns 0 ≤ length ns) (z : Walk)
             (ap (λ (c : Cursor). c .at)
             (sym (stepped-append (sectionAt 22 ns 0) _ unopened ∙ stepped-append (sectionAt 6 ns _) _ _ ∙ stepped-append (sectionAt 8 ns _) _ _)))
 
-        -- ---- and written
+-- ---- and written
 
-        all-stepped : steppedAll (c .cursor) (sectionAt 23 ns (c .next)) ≡ steppedAll unopened (subsIn ns)
-        unfolding walked subsIn
-        all-stepped =
-            rw (ec, eb, ea, ez)
-            (sym (stepped-append (sectionAt 22 ns 0) _ unopened ∙ stepped-append (sectionAt 6 ns _) _ _ ∙ stepped-append (sectionAt 8 ns _) _ _))
+module _ (ns out : List ℕ) (room : steppedAll unopened (subsIn ns) .at ≤ length out) where
+  abbrev first : List Sub
+  first = sectionAt 22 ns 0
+
+  abbrev second : List Sub
+  second = sectionAt 6 ns (sectionEnd 22 ns 0)
+
+  abbrev third : List Sub
+  third = sectionAt 8 ns (sectionEnd 6 ns (sectionEnd 22 ns 0))
+
+  abbrev fourth : List Sub
+  fourth = sectionAt 23 ns (sectionEnd 8 ns (sectionEnd 6 ns (sectionEnd 22 ns 0)))
+
+  one-on : steppedAll unopened (subsIn ns) ≡ steppedAll (steppedAll unopened first) (second ++ (third ++ fourth))
+  unfolding subsIn
+  one-on = stepped-append first (second ++ (third ++ fourth)) unopened
+
+  two-on : steppedAll unopened (subsIn ns) ≡ steppedAll (steppedAll (steppedAll unopened first) second) (third ++ fourth)
+  two-on = one-on ∙ stepped-append second (third ++ fourth) (steppedAll unopened first)
+
+  three-on : steppedAll unopened (subsIn ns) ≡ steppedAll (steppedAll (steppedAll (steppedAll unopened first) second) third) fourth
+  three-on = two-on ∙ stepped-append third fourth (steppedAll (steppedAll unopened first) second)
+
+  module _ (z : Walk) (ez : z ≡ atFirst) where
+    pub room-22 : walked 22 ns z .cursor .at ≤ length out
+    unfolding walked
+    room-22 =
+        let e = ap (λ (c : Cursor). c .at) one-on in
+        let g = steps-grow (second ++ (third ++ fourth)) (steppedAll unopened first) in
+        rw ez (omega arith)
+
+    module _ (a : Walk) (ea : a ≡ walked 22 ns z) where
+      pub room-6 : (o : List ℕ) → length o ≡ length out → walked 6 ns a .cursor .at ≤ length o
+      unfolding walked
+      room-6 o same =
+          let e = ap (λ (c : Cursor). c .at) two-on in
+          let g = steps-grow (third ++ fourth) (steppedAll (steppedAll unopened first) second) in
+          rw (ea, ez) (omega arith)
+
+      module _ (b : Walk) (eb : b ≡ walked 6 ns a) where
+        pub front-walked : b ≡ walked 6 ns (walked 22 ns atFirst)
+        front-walked = rw (eb, ea, ez)
+
+        pub front-placed : (o₁ o₂ : List ℕ) → o₁ ≡ placedAll out (z .cursor) (sectionAt 22 ns (z .next)) → o₂ ≡ placedAll o₁ (a .cursor) (sectionAt 6 ns (a .next)) → o₂ ≡ placedAll out unopened (frontIn ns)
+        unfolding walked frontIn
+        front-placed o₁ o₂ p q = q ∙ rw (p, ea, ez) (sym (placed-append first second out unopened))
+
+  module _ (b : Walk) (eb : b ≡ walked 6 ns (walked 22 ns atFirst)) where
+    pub room-8 : (o : List ℕ) → length o ≡ length out → walked 8 ns b .cursor .at ≤ length o
+    unfolding walked
+    room-8 o same =
+        let e = ap (λ (c : Cursor). c .at) three-on in
+        let g = steps-grow fourth (steppedAll (steppedAll (steppedAll unopened first) second) third) in
+        rw eb (omega arith)
+
+    module _ (c : Walk) (ec : c ≡ walked 8 ns b) where
+      pub room-23 : (u o : List ℕ) → length u ≡ length out → length o ≡ length u → walked 23 ns c .cursor .at ≤ length o
+      unfolding walked
+      room-23 u o same still = let e = ap (λ (c : Cursor). c .at) three-on in rw (ec, eb) (omega arith)
+
+      pub all-placed : (o₂ o₃ o₄ : List ℕ) → o₂ ≡ placedAll out unopened (frontIn ns) → o₃ ≡ placedAll o₂ (b .cursor) (sectionAt 8 ns (b .next)) → o₄ ≡ placedAll o₃ (c .cursor) (sectionAt 23 ns (c .next)) → o₄ ≡ placedAll out unopened (subsIn ns)
+      unfolding walked subsIn frontIn
+      all-placed o₂ o₃ o₄ q r s =
+          s ∙ rw (r, q, ec, eb, placed-append first second out unopened)
+          (sym (placed-append first (second ++ (third ++ fourth)) out unopened
+          ∙ placed-append second (third ++ fourth) (placedAll out unopened first) (steppedAll unopened first)
+          ∙ placed-append third fourth (placedAll (placedAll out unopened first) (steppedAll unopened first) second) (steppedAll (steppedAll unopened first) second)))
+
+module _ (ns : List ℕ) (within : reach takeSubs ns 0 ≤ length ns) (b : Walk) (eb : b ≡ walked 6 ns (walked 22 ns atFirst)) where
+  pub back-8 : sectionEnd 8 ns (b .next) ≤ length ns
+  back-8 = at-8 ns within atFirst refl (walked 22 ns atFirst) refl b eb
+
+  pub back-23 : (c : Walk) → c ≡ walked 8 ns b → sectionEnd 23 ns (c .next) ≤ length ns
+  back-23 c ec = at-23 ns within atFirst refl (walked 22 ns atFirst) refl b eb c ec

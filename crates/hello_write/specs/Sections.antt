@@ -25,6 +25,10 @@ subsIn ns =
     ++ (sectionAt treesType ns (sectionEnd nicknameType ns (sectionEnd parametersType ns 0))
     ++ sectionAt smartMacType ns (sectionEnd treesType ns (sectionEnd nicknameType ns (sectionEnd parametersType ns 0)))))
 
+-- those of the first two
+unfoldable pub frontIn : List ℕ → List Sub
+frontIn ns = sectionAt parametersType ns 0 ++ sectionAt nicknameType ns (sectionEnd parametersType ns 0)
+
 -- the walk before the first section, and after a section
 abbrev pub atFirst : Walk
 atFirst = record { cursor = unopened; next = 0 }

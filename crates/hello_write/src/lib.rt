@@ -4,12 +4,13 @@ ghost use mathlib.Core.Bool.{true};
 ghost use mathlib.Core.Path.{_≡_};
 ghost use lib.ListN.{length};
 ghost use Rattle.numbers.specs.After.{onArea};
+ghost use Rattle.hello.specs.Pieces.{parametersType, nicknameType};
 ghost use Rattle.hello.specs.Area.{takeMany};
 ghost use Rattle.hello.specs.Calls.{writeCall};
 ghost use Rattle.hello_area.specs.Entries.{numbersIn, holderFor, takeSub, takeSubs, reach, subAt, subsAt};
 ghost use Rattle.hello_entry.specs.Kinds.{hasSection};
 ghost use Rattle.hello_put.specs.Placing.{unopened, steppedBy, placed, steppedAll, placedAll};
-ghost use Rattle.hello_write.specs.Sections.{sectionAt, sectionEnd, subsIn, atFirst, walked};
+ghost use Rattle.hello_write.specs.Sections.{sectionAt, sectionEnd, subsIn, frontIn, atFirst, walked};
 use hello::HelloAnswer;
 use hello_put::Cursor;
 use numbers::refusals::AREA_SHORT;
@@ -150,13 +151,21 @@ fn put_section(kind: u8, area: &[u8], w: Walk, out: &mut [u8]) -> Walk
     put_entries(kind, area, w.next + 1, m, w.cursor, out)
 }
 
+// The first two sections.
+fn put_front(area: &[u8], out: &mut [u8]) -> Walk
+    requires { ⌜ (reach takeSubs (numbersIn (now area)) 0 ≤ length (numbersIn (now area))) × (steppedAll unopened (subsIn (numbersIn (now area))) .at ≤ length (now out)) ⌝ }
+    ensures { λ r. ⌜ (r ≡ walked nicknameType (numbersIn (now (area .entry))) (walked parametersType (numbersIn (now (area .entry))) atFirst)) × ((r .cursor .start ≤ r .cursor .at) × (now (out .exit) ≡ placedAll (now (out .entry)) unopened (frontIn (numbersIn (now (area .entry)))))) ⌝ }
+{
+    let w = put_section(PARAMETERS, area, at_first(), out);
+    put_section(NICKNAME, area, w, out)
+}
+
 // Writes the payload.
 fn put_payload(area: &[u8], out: &mut [u8])
     requires { ⌜ (reach takeSubs (numbersIn (now area)) 0 ≤ length (numbersIn (now area))) × (steppedAll unopened (subsIn (numbersIn (now area))) .at ≤ length (now out)) ⌝ }
     ensures { λ _. ⌜ now (out .exit) ≡ placedAll (now (out .entry)) unopened (subsIn (numbersIn (now (area .entry)))) ⌝ }
 {
-    let a = put_section(PARAMETERS, area, at_first(), out);
-    let b = put_section(NICKNAME, area, a, out);
+    let b = put_front(area, out);
     let c = put_section(TREES, area, b, out);
     put_section(SMART_MAC, area, c, out);
 }

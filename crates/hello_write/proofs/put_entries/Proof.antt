@@ -1,48 +1,44 @@
+use Prim.Native.Nat.{_-_, _≤_}
+use mathlib.Core.Path.{_≡_, refl}
+use lib.ListN.{length}
+use Rattle.hello.specs.Area.{takeMany}
+use Rattle.hello_area.specs.Entries.{numbersIn, takeSub, reach, subsAt}
+use Rattle.hello_ends.proofs.Shapes.{suffix-sub, many-start, many-next}
+use Rattle.hello_put.specs.Placing.{steppedAll, placedAll}
+use Rattle.hello_write.proofs.Walking.{entry-ordered, entries-start, entry-good, entries-next, entries-done, entries-end, puts-start, puts-room, puts-next, puts-done}
 use borrow.Author.Needs.{needs}
 use Rattle.hello_write.proofs.put_entries.Statement.{statement}
 use Rattle.hello_write.proofs.put_entries.Tie as tie
-use Rattle.hello_write.proofs.put_entries.Reads as reads
-use Rattle.hello_write.proofs.put_entries.Lts as lts
-use Rattle.hello_entry.proofs.next.Reads as next-reads
-use Rattle.hello_write.proofs.put_entry.Reads as put-entry-reads
 
 abbrev Inv-loop : tie.InvT-loop
-Inv-loop kind area i m out₀ d₀ at₀ j₀ out d at j = ?
+Inv-loop kind area i m out₀ d₀ at₀ j₀ out d at j = ((j ≤ m) × (d .start ≤ d .at)) × ((reach (takeMany (takeSub kind) (m - j)) (numbersIn area) at ≡ reach (takeMany (takeSub kind) m) (numbersIn area) i) × ((steppedAll d (subsAt kind (numbersIn area) at (m - j)) ≡ steppedAll d₀ (subsAt kind (numbersIn area) i m)) × ((length out ≡ length out₀) × (placedAll out d (subsAt kind (numbersIn area) at (m - j)) ≡ placedAll out₀ d₀ (subsAt kind (numbersIn area) i m)))))
 
 abbrev μ-loop : tie.MeasureT-loop
-μ-loop kind area i m out₀ d₀ at₀ j₀ out d at j = ?
+μ-loop kind area i m out₀ d₀ at₀ j₀ out d at j = m - j
 
--- src/lib.rt:133:5
 loop-holds : tie.Need-loop-holds Inv-loop μ-loop
-loop-holds c = search needs
+loop-holds c = ((search needs, search needs), (search (many-start, suffix-sub), (search entries-start, (refl, search puts-start))))
 
--- src/lib.rt:134:9
 put-entry-requires : tie.Need-put-entry-requires Inv-loop μ-loop
-put-entry-requires c κs = search needs
+put-entry-requires c κs = ((search needs, search entry-good), (search needs, search puts-room))
 
--- src/lib.rt:135:9
 next-requires : tie.Need-next-requires Inv-loop μ-loop
-next-requires c κs = search needs
+next-requires c κs = search entry-good
 
--- src/lib.rt:136:9
 add-j : tie.Need-add-j Inv-loop μ-loop
 add-j c = search needs
 
--- src/lib.rt:133:5
 loop-less : tie.Need-loop-less Inv-loop μ-loop
 loop-less c = search needs
 
--- src/lib.rt:133:5
 loop-again : tie.Need-loop-again Inv-loop μ-loop
-loop-again c = search needs
+loop-again c = ((search needs, search (entry-ordered, entry-good)), (search (many-next, suffix-sub), (search entries-next, (search needs, search puts-next))))
 
--- src/lib.rt:126:1
 same-length : tie.Need-same-length Inv-loop μ-loop
 same-length c = search needs
 
--- src/lib.rt:126:1
 returns : tie.Need-returns Inv-loop μ-loop
-returns c = search needs
+returns c = ((search entries-done, search entries-end), (search needs, search puts-done))
 
 pub put-entries-spec : {M : Type 1} → statement M
 put-entries-spec =
