@@ -122,8 +122,8 @@ module _ (k : ℕ) (area : List ℕ) (i : ℕ) (good : reach (takeSub k) (number
           let z = nicknames-at in
           omega arith
 
-      pub nicknames-fit : length area < 2 ^ 64 → i + 1 + 3 * m < 2 ^ 64
-      nicknames-fit big =
+      pub nicknames-fit : length area < 2 ^ 64 → (n : ℕ) → n ≤ 1 → i + n + 3 * m < 2 ^ 64
+      nicknames-fit big n h =
           let x = nicknames-counted d e .inside in
           let z = nicknames-at in
           omega arith
@@ -137,8 +137,8 @@ module _ (k : ℕ) (area : List ℕ) (i : ℕ) (good : reach (takeSub k) (number
       pub nicknames-bytes : 5 * m < 2 ^ 64
       nicknames-bytes = let x = nicknames-few in omega arith
 
-      pub nicknames-size : 2 + 5 * m < 2 ^ 64
-      nicknames-size = let x = nicknames-few in omega arith
+      pub nicknames-size : (a : ℕ) → a ≤ 255 → a + 5 * m < 2 ^ 64
+      nicknames-size a h = let x = nicknames-few in omega arith
 
       pub nicknames-end : i + 1 + 3 * m ≡ reach (takeSub k) ns i
       nicknames-end =
@@ -163,8 +163,8 @@ module _ (k : ℕ) (area : List ℕ) (i : ℕ) (good : reach (takeSub k) (number
         omega arith
 
     module _ (m : ℕ) (em : m ≡ getD ns (i + 1) 0) where
-      pub trees-fit : length area < 2 ^ 64 → i + 2 + m < 2 ^ 64
-      trees-fit big = let x = trees-counted d f e .inside in omega arith
+      pub trees-fit : length area < 2 ^ 64 → (n : ℕ) → n ≤ 2 → i + n + m < 2 ^ 64
+      trees-fit big n h = let x = trees-counted d f e .inside in omega arith
 
       pub trees-few : m ≤ 123
       trees-few = let x = trees-counted d f e .few in omega arith
@@ -172,8 +172,8 @@ module _ (k : ℕ) (area : List ℕ) (i : ℕ) (good : reach (takeSub k) (number
       pub trees-bytes : 2 * m < 2 ^ 64
       trees-bytes = let x = trees-few in omega arith
 
-      pub trees-size : 4 + 2 * m < 2 ^ 64
-      trees-size = let x = trees-few in omega arith
+      pub trees-size : (a : ℕ) → a ≤ 255 → a + 2 * m < 2 ^ 64
+      trees-size a h = let x = trees-few in omega arith
 
       pub trees-end : i + 2 + m ≡ reach (takeSub k) ns i
       trees-end = let x = trees-counted d f e .ends in omega arith
@@ -192,8 +192,8 @@ module _ (k : ℕ) (area : List ℕ) (i : ℕ) (good : reach (takeSub k) (number
         omega arith
 
     module _ (m : ℕ) (em : m ≡ getD ns (i + 3) 0) where
-      pub macs-fit : length area < 2 ^ 64 → i + 4 + m < 2 ^ 64
-      macs-fit big = let x = macs-counted d f g .inside in omega arith
+      pub macs-fit : length area < 2 ^ 64 → (n : ℕ) → n ≤ 4 → i + n + m < 2 ^ 64
+      macs-fit big n h = let x = macs-counted d f g .inside in omega arith
 
       pub macs-few : m ≤ 41
       macs-few = let x = macs-counted d f g .few in omega arith
@@ -201,8 +201,8 @@ module _ (k : ℕ) (area : List ℕ) (i : ℕ) (good : reach (takeSub k) (number
       pub macs-bytes : 6 * m < 2 ^ 64
       macs-bytes = let x = macs-few in omega arith
 
-      pub macs-size : 6 + 6 * m < 2 ^ 64
-      macs-size = let x = macs-few in omega arith
+      pub macs-size : (a : ℕ) → a ≤ 255 → a + 6 * m < 2 ^ 64
+      macs-size a h = let x = macs-few in omega arith
 
       pub macs-end : i + 4 + m ≡ reach (takeSub k) ns i
       macs-end = let x = macs-counted d f g .ends in omega arith
