@@ -1,25 +1,25 @@
 -- An entry of each type: how many numbers it has and how many bytes it is written as, by its count.
 -- Assumes nothing.
-use Prim.Native.Nat.{ℕ, zero, suc, _+_, _-_, _*_, _/_, _^_, _<_, _≤_}
+use Prim.Native.Nat.{ℕ, _+_, _*_, _/_, _^_, _<_, _≤_}
 use mathlib.Core.Bool.{Bool, true, false}
-use mathlib.Core.List.{List, [], _∷_, _++_, flatMap}
-use mathlib.Core.Path.{_≡_, refl, sym, ap, _∙_}
+use mathlib.Core.List.{List, _++_}
+use mathlib.Core.Path.{_≡_, sym, ap, _∙_}
 use native.Mathlib.Omega.{arith}
-use lib.Dec.{leb, ltb, eqb}
-use lib.ListN.{length, drop, getD, length-append}
+use lib.Dec.{eqb}
+use lib.ListN.{length, getD, length-append}
 use borrow.Author.Tests.{eqb-true, ne-eqb}
 use Rattle.numbers.specs.Tests.{pick, either}
 use Rattle.numbers.specs.Bytes.{bytesOf}
 use Rattle.numbers.proofs.Bytes.{length-bytesOf}
 use Rattle.hello.specs.Tlvs.{tlvBytes}
 use Rattle.hello.specs.Pieces.{Sub}
-use Rattle.hello.specs.Writing.{nicknameBytes, headOf, subBytes}
+use Rattle.hello.specs.Writing.{headOf, subBytes}
 use Rattle.hello_area.specs.Entries.{numbersIn, labelBytes, parametersBytes, mostOf, holderFor, takeSub, reach, subAt}
 use Rattle.hello_ends.proofs.Numbers.{numbers-length}
 use Rattle.hello_entry.specs.Kinds.{hasSection}
-use Rattle.hello_entry.specs.Bytes.{parametersAt, nicknameAt, labelAt, recordAt, numberAt, run}
+use Rattle.hello_entry.specs.Bytes.{parametersAt, run}
 use Rattle.hello_entry.proofs.Plain.{length-run}
-use Rattle.hello_entry.proofs.Shape.{subOf, headNumbers, itemNumbers, headAt, itemAt, entry-alone, Entry, entry-listed}
+use Rattle.hello_entry.proofs.Shape.{subOf, headNumbers, itemNumbers, headAt, itemAt, number-long, record-long, entry-alone, entry-listed}
 
 -- ---- bytes
 
@@ -37,15 +37,6 @@ two-long m n a b =
 parameters-long : (ns : List ℕ) (i : ℕ) → length (parametersBytes (parametersAt ns i)) ≡ 4
 unfolding parametersBytes
 parameters-long ns i = two-long 2 2 _ _
-
-nickname-long : (ns : List ℕ) (i : ℕ) → length (nicknameBytes (nicknameAt ns i)) ≡ 5
-unfolding nicknameBytes
-nickname-long ns i =
-    let n = nicknameAt ns i in
-    let l = length-append (bytesOf 1 (n .priority)) (bytesOf 2 (n .root) ++ bytesOf 2 (n .nickname)) in
-    let x = length-bytesOf 1 (n .priority) in
-    let y = two-long 2 2 (n .root) (n .nickname) in
-    omega arith
 
 -- ---- each type
 
@@ -74,16 +65,16 @@ module _ (k : ℕ) (area : List ℕ) (i : ℕ) (good : reach (takeSub k) (number
       record { few = few; inside = omega arith; ends = ends; long = omega arith }
 
   pub nicknames-counted : (k ≡ 22 → ⊥) → k ≡ 6 → Counted 0 0 3 5 49
-  unfolding headNumbers itemNumbers headAt itemAt pick recordAt
-  nicknames-counted d e = counted d 0 0 3 5 49 (rw e) (rw e) (rw e) (rw e) (λ j. rw e (nickname-long ns j))
+  unfolding headNumbers itemNumbers headAt itemAt pick
+  nicknames-counted d e = counted d 0 0 3 5 49 (rw e) (rw e) (rw e) (rw e) (λ j. rw e (record-long ns j))
 
   pub trees-counted : (k ≡ 22 → ⊥) → (k ≡ 6 → ⊥) → k ≡ 8 → Counted 1 2 1 2 123
-  unfolding headNumbers itemNumbers headAt itemAt pick numberAt
-  trees-counted d f e = counted d 1 2 1 2 123 (rw e) (rw e) (rw e) (rw e (length-bytesOf 2 _)) (λ j. rw e (length-bytesOf 2 _))
+  unfolding headNumbers itemNumbers headAt itemAt pick
+  trees-counted d f e = counted d 1 2 1 2 123 (rw e) (rw e) (rw e) (rw e (number-long 2 ns i)) (λ j. rw e (number-long 2 ns j))
 
   pub macs-counted : (k ≡ 22 → ⊥) → (k ≡ 6 → ⊥) → (k ≡ 8 → ⊥) → Counted 3 4 1 6 41
-  unfolding headNumbers itemNumbers headAt itemAt pick labelBytes numberAt
-  macs-counted d f e = counted d 3 4 1 6 41 (rw (ne-eqb k 22 d, ne-eqb k 6 f, ne-eqb k 8 e)) (rw (ne-eqb k 6 f, ne-eqb k 8 e)) (rw (ne-eqb k 6 f, ne-eqb k 8 e)) (rw (ne-eqb k 22 d, ne-eqb k 6 f, ne-eqb k 8 e) (length-bytesOf 4 _)) (λ j. rw (ne-eqb k 6 f, ne-eqb k 8 e) (length-bytesOf 6 _))
+  unfolding headNumbers itemNumbers headAt itemAt pick labelBytes
+  macs-counted d f e = counted d 3 4 1 6 41 (rw (ne-eqb k 22 d, ne-eqb k 6 f, ne-eqb k 8 e)) (rw (ne-eqb k 6 f, ne-eqb k 8 e)) (rw (ne-eqb k 6 f, ne-eqb k 8 e)) (rw (ne-eqb k 22 d, ne-eqb k 6 f, ne-eqb k 8 e) (length-bytesOf 4 _)) (λ j. rw (ne-eqb k 6 f, ne-eqb k 8 e) (number-long 6 ns j))
 
   -- ---- as the code has them
 
