@@ -1,6 +1,6 @@
 -- What a taker takes where it does not refuse, by the numbers at its place: how many numbers, and what they make.
 -- Assumes nothing.
-use Prim.Native.Nat.{ℕ, zero, suc, _+_, _-_, _*_, _<_, _≤_}
+use Prim.Native.Nat.{ℕ, zero, suc, _+_, _-_, _*_, _≤_}
 use mathlib.Core.Bool.{Bool, true, false}
 use mathlib.Core.List.{List, [], _∷_, _++_, flatMap}
 use mathlib.Core.Path.{_≡_, refl, sym, ap, _∙_}
@@ -9,7 +9,7 @@ use lib.Dec.{leb}
 use lib.ListN.{length, drop, getD, length-drop, length-append}
 use borrow.Author.Tests.{leb-true, leb-false}
 use Rattle.numbers.specs.Tests.{pick}
-use Rattle.numbers.specs.Result.{Result, refused, got, check, andThen}
+use Rattle.numbers.specs.Result.{Result, refused, got}
 use Rattle.numbers.proofs.Answers.{refused-got, got-got, then-got, check-got}
 use Rattle.hello.specs.Area.{Taken, Taker, taken, takeOne, then, takeMany}
 use Rattle.hello_area.specs.Entries.{via, endIn, reach}
@@ -132,13 +132,3 @@ reach-got p ns i h = go (leb i (length ns)) refl
     go : (c : Bool) → leb i (length ns) ≡ c → Good p ns i
     go true f = found (p (drop i ns)) refl (leb-true i (length ns) f)
     go false f = let r = reach-over p ns i (leb-false i (length ns) f) in absurd (omega arith)
-
-pub reach-plain : {A : Type 0} (p : Taker A) (ns : List ℕ) (i w : ℕ) (x : A) → Plain p ns i w x → reach p ns i ≤ length ns → (i + w ≤ length ns) × (reach p ns i ≡ i + w)
-reach-plain p ns i w x a h =
-    let g = reach-got p ns i h in
-    let t = a (g .took) (g .starts) (g .is) in
-    let q = t .inside in
-    let d = length-drop (i + w) ns in
-    let r : length (g .took .rest) ≡ length (drop (i + w) ns) = ap (λ (z : Taken _). length (z .rest)) (t .is) in
-    let e = g .ends in
-    (q, omega arith)

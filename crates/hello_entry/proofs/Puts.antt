@@ -1,11 +1,9 @@
 -- The sub-TLV of an entry by its type, and what the code of each type asks for.
 -- Assumes nothing.
-use Prim.Native.Nat.{ℕ, zero, suc, _+_, _-_, _*_, _/_, _^_, _<_, _≤_}
-use mathlib.Core.Bool.{Bool, true, false}
-use mathlib.Core.List.{List, [], _∷_, _++_}
+use Prim.Native.Nat.{ℕ, zero, suc, _+_, _*_, _≤_}
+use mathlib.Core.List.{List, [], _++_}
 use mathlib.Core.Path.{_≡_, refl, sym, ap, _∙_}
 use native.Mathlib.Omega.{arith}
-use lib.Dec.{eqb}
 use lib.ListN.{length, getD}
 use borrow.Author.Tests.{ne-eqb}
 use Rattle.numbers.specs.Tests.{pick}
@@ -14,10 +12,9 @@ use Rattle.hello.specs.Tlvs.{tlvBytes}
 use Rattle.hello.specs.Pieces.{Sub}
 use Rattle.hello.specs.Writing.{subBytes}
 use Rattle.hello_area.specs.Entries.{numbersIn, labelBytes, parametersBytes, takeSub, reach, subAt}
-use Rattle.hello_ends.proofs.Numbers.{numbers-length}
 use Rattle.hello_entry.specs.Bytes.{parametersAt, labelAt, recordAt, numberAt, run}
 use Rattle.hello_entry.proofs.Shape.{subOf, headNumbers, itemNumbers, headAt, itemAt, entry-alone, entry-listed}
-use Rattle.hello_entry.proofs.Counts.{alone-long, nicknames-counted, nicknames-few, nicknames-end, nicknames-long, trees-counted, trees-few, trees-end, trees-long, macs-counted, macs-few, macs-end, macs-long}
+use Rattle.hello_entry.proofs.Counts.{alone-long, nicknames-few, nicknames-end, nicknames-long, trees-few, trees-end, trees-long, macs-few, macs-end, macs-long}
 
 run-same : (f g : ℕ → List ℕ) → ((j : ℕ) → f j ≡ g j) → (w m i : ℕ) → run f w i m ≡ run g w i m
 unfolding run

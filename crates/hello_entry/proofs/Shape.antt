@@ -1,26 +1,24 @@
 -- An entry that is good, by the numbers at its place: the head, the count, and so many elements of as many numbers each.
 -- Assumes nothing.
-use Prim.Native.Nat.{ℕ, zero, suc, _+_, _-_, _*_, _<_, _≤_}
+use Prim.Native.Nat.{ℕ, _+_, _-_, _*_, _≤_}
 use mathlib.Core.Bool.{Bool, true, false}
-use mathlib.Core.List.{List, [], _∷_, _++_, flatMap}
+use mathlib.Core.List.{List, [], _++_, flatMap}
 use mathlib.Core.Path.{_≡_, refl, sym, ap, _∙_}
 use native.Mathlib.Omega.{arith}
-use lib.Dec.{leb, ltb, eqb}
+use lib.Dec.{leb, eqb}
 use lib.ListN.{length, drop, getD, length-drop, length-append}
-use borrow.Author.Tests.{eq-eqb, ne-eqb, eqb-true, leb-true, leb-false}
-use Rattle.numbers.specs.Tests.{pick, either}
+use borrow.Author.Tests.{ne-eqb, leb-true}
+use Rattle.numbers.specs.Tests.{pick}
 use Rattle.numbers.specs.Bytes.{bytesOf}
-use Rattle.numbers.specs.Result.{Result, refused, got, check, andThen}
-use Rattle.numbers.proofs.Answers.{refused-got, got-got, then-got, check-got}
+use Rattle.numbers.specs.Result.{got, check, andThen}
+use Rattle.numbers.proofs.Answers.{got-got, then-got, check-got}
 use Rattle.numbers.proofs.Bytes.{length-bytesOf}
-use Rattle.hello.specs.Tlvs.{tlvBytes}
 use Rattle.hello.specs.Pieces.{Sub}
-use Rattle.hello.specs.Contents.{Parameters, Nickname}
-use Rattle.hello.specs.Writing.{within, parametersGood, nicknameGood, nicknameBytes, headOf, subBytes}
+use Rattle.hello.specs.Writing.{within, parametersGood, nicknameGood, nicknameBytes}
 use Rattle.hello.specs.Area.{Taken, Taker, taken, takeOne, then, takeMany, takeParameters, takeNickname}
-use Rattle.hello_area.specs.Entries.{via, Label, takeLabel, labelGood, labelBytes, parametersBytes, takeHead, takeItem, mostOf, takeList, holderFor, takeSub, reach, subIn, subAt}
+use Rattle.hello_area.specs.Entries.{via, takeLabel, labelGood, labelBytes, parametersBytes, takeHead, takeItem, mostOf, takeList, holderFor, takeSub, reach, subIn, subAt}
 use Rattle.hello_entry.specs.Bytes.{parametersAt, nicknameAt, labelAt, recordAt, numberAt, run}
-use Rattle.hello_entry.proofs.Plain.{Took, Plain, took-as, plain-taken, plain-one, plain-then, plain-via, via-good, plain-pick, each, plain-many, each-run, Good, reach-got, reach-plain}
+use Rattle.hello_entry.proofs.Plain.{Took, Plain, plain-taken, plain-one, plain-then, plain-via, via-good, plain-pick, plain-many, each-run, reach-got}
 
 -- ---- the head
 
@@ -62,6 +60,21 @@ itemNumbers k = pick (eqb k 6) 3 (pick (eqb k 8) 1 1)
 
 unfoldable pub itemAt : ℕ → List ℕ → ℕ → List ℕ
 itemAt k ns i = pick (eqb k 6) (recordAt ns i) (pick (eqb k 8) (numberAt 2 ns i) (numberAt 6 ns i))
+
+pub number-long : (b : ℕ) (ns : List ℕ) (j : ℕ) → length (numberAt b ns j) ≡ b
+unfolding numberAt
+number-long b ns j = length-bytesOf b (getD ns j 0)
+
+pub record-long : (ns : List ℕ) (j : ℕ) → length (recordAt ns j) ≡ 5
+unfolding recordAt nicknameBytes
+record-long ns j =
+    let n = nicknameAt ns j in
+    let a = length-append (bytesOf 1 (n .priority)) (bytesOf 2 (n .root) ++ bytesOf 2 (n .nickname)) in
+    let b = length-append (bytesOf 2 (n .root)) (bytesOf 2 (n .nickname)) in
+    let x = length-bytesOf 1 (n .priority) in
+    let y = length-bytesOf 2 (n .root) in
+    let z = length-bytesOf 2 (n .nickname) in
+    omega arith
 
 plain-nickname : (ns : List ℕ) (i : ℕ) → Plain takeNickname ns i 3 (nicknameAt ns i)
 unfolding takeNickname nicknameAt

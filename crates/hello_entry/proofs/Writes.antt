@@ -1,13 +1,13 @@
 -- Bytes put into an area: the elements of a list one after the other, and the front of a sub-TLV as one number.
 -- Assumes nothing.
-use Prim.Native.Nat.{ℕ, zero, suc, _+_, _-_, _*_, _/_, _%_, _^_, _<_, _≤_}
+use Prim.Native.Nat.{ℕ, suc, _+_, _-_, _*_, _/_, _%_, _^_, _<_, _≤_}
 use mathlib.Core.Bool.{Bool, true, false}
 use mathlib.Core.List.{List, [], _∷_, _++_, append-nil, append-assoc}
 use mathlib.Core.Path.{_≡_, refl, sym, ap, _∙_}
 use native.Mathlib.Nat.{add-zero}
 use native.Mathlib.Omega.{arith}
 use lib.Dec.{leb, ltb, eqb}
-use lib.ListN.{length, take, drop, getD, length-append, take-append-drop}
+use lib.ListN.{length, take, getD, length-append, take-append-drop}
 use borrow.Author.Tests.{leb-true, ltb-true}
 use Rattle.numbers.specs.Tests.{pick, both}
 use Rattle.numbers.specs.Bytes.{bytesOf}
@@ -21,6 +21,7 @@ use Rattle.hello_area.specs.Entries.{numbersIn, labelGood, labelBytes, paramete
 use Rattle.hello_ends.proofs.Numbers.{numbers-length}
 use Rattle.hello_entry.specs.Bytes.{parametersAt, nicknameAt, labelAt, recordAt, numberAt, run}
 use Rattle.hello_entry.proofs.Plain.{length-run}
+use Rattle.hello_entry.proofs.Shape.{number-long, record-long}
 
 -- ---- places
 
@@ -76,21 +77,6 @@ module _ (f : ℕ → List ℕ) (w b : ℕ) (long : (j : ℕ) → length (f j) �
   left-done o j h =
       let z : m - j ≡ 0 = omega arith in
       rw z (paste-none o (at + b * j))
-
-pub number-long : (b : ℕ) (ns : List ℕ) (j : ℕ) → length (numberAt b ns j) ≡ b
-unfolding numberAt
-number-long b ns j = length-bytesOf b (getD ns j 0)
-
-pub record-long : (ns : List ℕ) (j : ℕ) → length (recordAt ns j) ≡ 5
-unfolding recordAt nicknameBytes
-record-long ns j =
-    let n = nicknameAt ns j in
-    let a = length-append (bytesOf 1 (n .priority)) (bytesOf 2 (n .root) ++ bytesOf 2 (n .nickname)) in
-    let b = length-append (bytesOf 2 (n .root)) (bytesOf 2 (n .nickname)) in
-    let x = length-bytesOf 1 (n .priority) in
-    let y = length-bytesOf 2 (n .root) in
-    let z = length-bytesOf 2 (n .nickname) in
-    omega arith
 
 -- numbers of b bytes
 module _ (ns : List ℕ) (i m : ℕ) (out : List ℕ) (at : ℕ) where

@@ -41,6 +41,13 @@ const MAC_BYTES: usize = 6;
 // How many numbers the record of a nickname has.
 const RECORD_NUMBERS: usize = 3;
 
+// Type and length in front of what stands in front of the list, the length without the list's bytes.
+const PARAMETERS_FRONT: u64 = 0x1604_0000_0000;
+
+const NICKNAMES_FRONT: u64 = 0x600;
+
+const TREES_FRONT: u64 = 0x802_0000;
+
 // The bytes of an entry as a sub-TLV.
 pub fn size(kind: u8, area: &[u8], i: usize) -> usize
     requires { ⌜ (hasSection kind ≡ true) × (reach (takeSub kind) (numbersIn (now area)) i ≤ length (numbersIn (now area))) ⌝ }
@@ -100,7 +107,7 @@ fn put_parameters(area: &[u8], i: usize, out: &mut [u8], at: usize)
     requires { ⌜ (parametersGood (parametersAt (numbersIn (now area)) i) ≡ true) × ((i + 2 ≤ length (numbersIn (now area))) × (at + 6 ≤ length (now out))) ⌝ }
     ensures { λ _. ⌜ now (out .exit) ≡ pasted (now (out .entry)) at (tlvBytes parametersType (parametersBytes (parametersAt (numbersIn (now (area .entry))) i))) ⌝ }
 {
-    let v = 0x1604_0000_0000 + number(area, i) * 0x1_0000 + number(area, i + 1);
+    let v = PARAMETERS_FRONT + number(area, i) * 0x1_0000 + number(area, i + 1);
     frame_copy::put_address(v, out, at);
 }
 
@@ -109,7 +116,7 @@ fn put_nicknames(area: &[u8], i: usize, out: &mut [u8], at: usize)
     ensures { λ _. ⌜ now (out .exit) ≡ pasted (now (out .entry)) at (tlvBytes nicknameType (run (recordAt (numbersIn (now (area .entry)))) 3 (i + 1) (getD (numbersIn (now (area .entry))) i 0))) ⌝ }
 {
     let m = number(area, i);
-    frame_copy::put_number(0x600 + 5 * m, 2, out, at);
+    frame_copy::put_number(NICKNAMES_FRONT + 5 * m, 2, out, at);
     put_records(area, i + 1, m as usize, out, at + 2);
 }
 
@@ -118,7 +125,7 @@ fn put_trees(area: &[u8], i: usize, out: &mut [u8], at: usize)
     ensures { λ _. ⌜ now (out .exit) ≡ pasted (now (out .entry)) at (tlvBytes treesType (numberAt 2 (numbersIn (now (area .entry))) i ++ run (numberAt 2 (numbersIn (now (area .entry)))) 1 (i + 2) (getD (numbersIn (now (area .entry))) (i + 1) 0))) ⌝ }
 {
     let m = number(area, i + 1);
-    let v = 0x802_0000 + m * 0x2_0000 + number(area, i);
+    let v = TREES_FRONT + m * 0x2_0000 + number(area, i);
     frame_copy::put_number(v, 4, out, at);
     put_tree_nicknames(area, i + 2, m as usize, out, at + 4);
 }
