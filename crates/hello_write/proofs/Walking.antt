@@ -241,6 +241,8 @@ pub has-23 : hasSection 23 ≡ true
 unfolding hasSection either
 has-23 = refl
 
+pub ruleset kinds = (has-22, has-6, has-8, has-23)
+
 pub first-ordered : (z : Walk) → z ≡ atFirst → z .cursor .start ≤ z .cursor .at
 first-ordered z e = rw e (omega arith)
 

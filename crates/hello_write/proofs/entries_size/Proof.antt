@@ -1,3 +1,5 @@
+-- `hello_write::entries_size` meets its contract. The invariant: the cursor, moved over what is left, is where the whole ends; and no number brings more than nine bytes.
+-- Assumes nothing.
 use Prim.Native.Nat.{_-_, _*_, _≤_}
 use mathlib.Core.Path.{_≡_}
 use Rattle.hello.specs.Area.{takeMany}
@@ -24,12 +26,6 @@ entry-size-requires c κs = ((search needs, search entry-good), (search needs, s
 next-requires : tie.Need-next-requires Inv-loop μ-loop
 next-requires c κs = search entry-good
 
-add-j : tie.Need-add-j Inv-loop μ-loop
-add-j c = search needs
-
-loop-less : tie.Need-loop-less Inv-loop μ-loop
-loop-less c = search needs
-
 loop-again : tie.Need-loop-again Inv-loop μ-loop
 loop-again c = ((search needs, (search (entry-ordered, entry-good), search (entry-most, entry-good))), (search (many-next, suffix-sub), search entries-next))
 
@@ -45,7 +41,7 @@ entries-size-spec =
     loop-holds
     entry-size-requires
     next-requires
-    add-j
-    loop-less
+    (λ c. search needs)
+    (λ c. search needs)
     loop-again
     returns)

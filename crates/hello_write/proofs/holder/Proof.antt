@@ -1,3 +1,5 @@
+-- `hello_write::holder` meets its contract: by type.
+-- Assumes nothing.
 use Rattle.hello_write.proofs.Walking.{holder-22, holder-23, holder-other}
 use borrow.Author.Needs.{needs}
 use Rattle.hello_write.proofs.holder.Statement.{statement}

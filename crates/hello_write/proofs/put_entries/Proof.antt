@@ -1,3 +1,5 @@
+-- `hello_write::put_entries` meets its contract. The invariant: what is left, placed at the cursor, is the whole placed.
+-- Assumes nothing.
 use Prim.Native.Nat.{_-_, _≤_}
 use mathlib.Core.Path.{_≡_, refl}
 use lib.ListN.{length}
@@ -25,17 +27,8 @@ put-entry-requires c κs = ((search needs, search entry-good), (search needs, se
 next-requires : tie.Need-next-requires Inv-loop μ-loop
 next-requires c κs = search entry-good
 
-add-j : tie.Need-add-j Inv-loop μ-loop
-add-j c = search needs
-
-loop-less : tie.Need-loop-less Inv-loop μ-loop
-loop-less c = search needs
-
 loop-again : tie.Need-loop-again Inv-loop μ-loop
 loop-again c = ((search needs, search (entry-ordered, entry-good)), (search (many-next, suffix-sub), (search entries-next, (search needs, search puts-next))))
-
-same-length : tie.Need-same-length Inv-loop μ-loop
-same-length c = search needs
 
 returns : tie.Need-returns Inv-loop μ-loop
 returns c = ((search entries-done, search entries-end), (search needs, search puts-done))
@@ -49,8 +42,8 @@ put-entries-spec =
     loop-holds
     put-entry-requires
     next-requires
-    add-j
-    loop-less
+    (λ c. search needs)
+    (λ c. search needs)
     loop-again
-    same-length
+    (λ c. search needs)
     returns)

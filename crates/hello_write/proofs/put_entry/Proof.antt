@@ -1,13 +1,9 @@
+-- `hello_write::put_entry` meets its contract: the room is made, and the sub-TLV put into it.
+-- Assumes nothing.
 use Rattle.hello_write.proofs.Walking.{entry-stepped, entry-two, entry-small, entry-head, entry-room, entry-behind, entry-end, entry-placed}
 use borrow.Author.Needs.{needs}
 use Rattle.hello_write.proofs.put_entry.Statement.{statement}
 use Rattle.hello_write.proofs.put_entry.Tie as tie
-
-holder-requires : tie.Need-holder-requires
-holder-requires c κs = search needs
-
-size-requires : tie.Need-size-requires
-size-requires c κs = search needs
 
 step-requires : tie.Need-step-requires
 step-requires c κs = (search needs, (search entry-small, search needs))
@@ -21,9 +17,6 @@ sub-put c = search entry-behind
 put-requires : tie.Need-put-requires
 put-requires c κs = (search needs, search entry-end)
 
-same-length : tie.Need-same-length
-same-length c = search needs
-
 returns : tie.Need-returns
 returns c = (search entry-stepped, search entry-placed)
 
@@ -31,11 +24,11 @@ pub put-entry-spec : {M : Type 1} → statement M
 put-entry-spec =
     tie.close
     (tie.spec
-    holder-requires
-    size-requires
+    (λ c κs. search needs)
+    (λ c κs. search needs)
     step-requires
     open-requires
     sub-put
     put-requires
-    same-length
+    (λ c. search needs)
     returns)

@@ -1,3 +1,5 @@
+-- `hello_write::section_size` meets its contract: the entries behind the count are those of the section.
+-- Assumes nothing.
 use Rattle.hello_write.proofs.Walking.{count-there, next-fits, section-entries, section-walked}
 use borrow.Author.Needs.{needs}
 use Rattle.hello_write.proofs.section_size.Statement.{statement}
