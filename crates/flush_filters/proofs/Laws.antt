@@ -92,7 +92,7 @@ lent-few n k keys slots h same e few = let z : length (take n k) ≡ n = length-
 -- ---- how the numbers are named
 
 macs-narrow : Narrow macs
-macs-narrow = record { sound = record { width = record { least = omega arith; most = omega arith; six = λ a b. refl }; top-some = omega arith }; top-le = omega arith; low-le = omega arith; high-le = omega arith }
+macs-narrow = record { sound = record { width = record { least = omega arith; most = omega arith; six = λ a b. refl }; modulus-some = omega arith }; modulus-le = omega arith; low-le = omega arith; high-le = omega arith }
 
 pub naming-fine : (f : Field) → f ≡ Fine → (d : Naming) → (d ≡ fineNaming) × Narrow (d .numbering) → (d ≡ namingOf f) × Narrow (d .numbering)
 unfolding namingOf

@@ -94,7 +94,7 @@ Near k p = (b : List ℕ) → k ≤ length b → p (take k b) ≡ p b
 module _ (w : Numbering) where
   number-near : (k : ℕ) (b : List ℕ) → w .size ≤ k → numberOf w (take k b) ≡ numberOf w b
   unfolding numberOf
-  number-near k b h = ap (λ (l : List ℕ). num l % w .top) (take-take (w .size) k b h)
+  number-near k b h = ap (λ (l : List ℕ). num l % w .modulus) (take-take (w .size) k b h)
 
   start-near : (b : List ℕ) → startOf w (take (2 * w .size) b) ≡ startOf w b
   unfolding startOf
@@ -174,6 +174,6 @@ module _ (w : Numbering) (x : ℕ) (v : List ℕ) where
 
 -- ---- a number without reserved bits
 
-pub number-small : (w : Numbering) (b : List ℕ) (n : ℕ) → n ≡ num (take (w .size) b) → n < w .top → n ≡ numberOf w b
+pub number-small : (w : Numbering) (b : List ℕ) (n : ℕ) → n ≡ num (take (w .size) b) → n < w .modulus → n ≡ numberOf w b
 unfolding numberOf
 number-small w b n e h = rw (← e) (sym (mod-eq-of-lt h))

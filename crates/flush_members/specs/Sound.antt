@@ -11,8 +11,8 @@ pub record Width (size : ℕ) : Type 0 where
 
 pub record Sound (w : Numbering) : Type 0 where
   pub width : Width (w .size)
-  pub top-some : 0 < w .top
+  pub modulus-some : 0 < w .modulus
 
 -- a numbering from its four numbers
 abbrev pub numbering : ℕ → ℕ → ℕ → ℕ → Numbering
-numbering size top low high = record { size = size; top = top; low = low; high = high }
+numbering size modulus low high = record { size = size; modulus = modulus; low = low; high = high }

@@ -11,28 +11,28 @@ use numbers::Numbering;
 // The numberings of a payload.
 const VLANS: Numbering = Numbering {
     size: 2,
-    top: 0x1000,
+    modulus: 0x1000,
     low: 1,
     high: 0xffe,
 };
 
 pub const FINES: Numbering = Numbering {
     size: 3,
-    top: 0x100_0000,
+    modulus: 0x100_0000,
     low: 0,
     high: 0xff_ffff,
 };
 
 pub const MACS: Numbering = Numbering {
     size: 6,
-    top: 0x1_0000_0000_0000,
+    modulus: 0x1_0000_0000_0000,
     low: 0,
     high: 0xffff_ffff_ffff,
 };
 
 const NICKNAMES: Numbering = Numbering {
     size: 2,
-    top: 0x1_0000,
+    modulus: 0x1_0000,
     low: 0,
     high: 0xffff,
 };
@@ -57,10 +57,10 @@ pub fn number_at(v: &[u8], at: usize, w: Numbering) -> u64
     ensures { λ r. ⌜ r ≡ numberOf w (drop at (now (v .entry))) ⌝ }
 {
     let n = leading(v, at, w.size);
-    if n < w.top {
+    if n < w.modulus {
         return n;
     }
-    n % w.top
+    n % w.modulus
 }
 
 // Whether the number at a place is x.
@@ -93,9 +93,9 @@ fn mac_block_filled(v: &[u8], at: usize) -> bool
 
 // Whether some block of a list has x in it. The numbering comes as its four numbers: so the compiler knows them at each call, and
 // makes a loop for each width.
-fn in_blocks(v: &[u8], size: usize, top: u64, low: u64, high: u64, x: u64) -> bool
-    requires { ⌜ Sound (numbering size top low high) ⌝ }
-    ensures { λ r. ⌜ r ≡ inBlocks (numbering size top low high) x (now (v .entry)) ⌝ }
+fn in_blocks(v: &[u8], size: usize, modulus: u64, low: u64, high: u64, x: u64) -> bool
+    requires { ⌜ Sound (numbering size modulus low high) ⌝ }
+    ensures { λ r. ⌜ r ≡ inBlocks (numbering size modulus low high) x (now (v .entry)) ⌝ }
 {
     if x < low {
         return false;
@@ -105,7 +105,7 @@ fn in_blocks(v: &[u8], size: usize, top: u64, low: u64, high: u64, x: u64) -> bo
     }
     let w = Numbering {
         size,
-        top,
+        modulus,
         low,
         high,
     };
@@ -121,13 +121,13 @@ fn in_blocks(v: &[u8], size: usize, top: u64, low: u64, high: u64, x: u64) -> bo
 }
 
 // Whether a list of numbers has x in it.
-fn in_list(v: &[u8], size: usize, top: u64, low: u64, high: u64, x: u64) -> bool
-    requires { ⌜ Sound (numbering size top low high) ⌝ }
-    ensures { λ r. ⌜ r ≡ inList (numbering size top low high) x (now (v .entry)) ⌝ }
+fn in_list(v: &[u8], size: usize, modulus: u64, low: u64, high: u64, x: u64) -> bool
+    requires { ⌜ Sound (numbering size modulus low high) ⌝ }
+    ensures { λ r. ⌜ r ≡ inList (numbering size modulus low high) x (now (v .entry)) ⌝ }
 {
     let w = Numbering {
         size,
-        top,
+        modulus,
         low,
         high,
     };
@@ -198,19 +198,19 @@ pub fn some_mac_block(v: &[u8]) -> bool
 pub fn in_vlan_blocks(v: &[u8], x: u64) -> bool
     ensures { λ r. ⌜ r ≡ inBlocks vlans x (now (v .entry)) ⌝ }
 {
-    in_blocks(v, VLANS.size, VLANS.top, VLANS.low, VLANS.high, x)
+    in_blocks(v, VLANS.size, VLANS.modulus, VLANS.low, VLANS.high, x)
 }
 
 pub fn in_fine_blocks(v: &[u8], x: u64) -> bool
     ensures { λ r. ⌜ r ≡ inBlocks fines x (now (v .entry)) ⌝ }
 {
-    in_blocks(v, FINES.size, FINES.top, FINES.low, FINES.high, x)
+    in_blocks(v, FINES.size, FINES.modulus, FINES.low, FINES.high, x)
 }
 
 pub fn in_mac_blocks(v: &[u8], x: u64) -> bool
     ensures { λ r. ⌜ r ≡ inBlocks macs x (now (v .entry)) ⌝ }
 {
-    in_blocks(v, MACS.size, MACS.top, MACS.low, MACS.high, x)
+    in_blocks(v, MACS.size, MACS.modulus, MACS.low, MACS.high, x)
 }
 
 pub fn in_nicknames(v: &[u8], x: u64) -> bool
@@ -219,7 +219,7 @@ pub fn in_nicknames(v: &[u8], x: u64) -> bool
     in_list(
         v,
         NICKNAMES.size,
-        NICKNAMES.top,
+        NICKNAMES.modulus,
         NICKNAMES.low,
         NICKNAMES.high,
         x,
@@ -229,13 +229,13 @@ pub fn in_nicknames(v: &[u8], x: u64) -> bool
 pub fn in_fines(v: &[u8], x: u64) -> bool
     ensures { λ r. ⌜ r ≡ inList fines x (now (v .entry)) ⌝ }
 {
-    in_list(v, FINES.size, FINES.top, FINES.low, FINES.high, x)
+    in_list(v, FINES.size, FINES.modulus, FINES.low, FINES.high, x)
 }
 
 pub fn in_macs(v: &[u8], x: u64) -> bool
     ensures { λ r. ⌜ r ≡ inList macs x (now (v .entry)) ⌝ }
 {
-    in_list(v, MACS.size, MACS.top, MACS.low, MACS.high, x)
+    in_list(v, MACS.size, MACS.modulus, MACS.low, MACS.high, x)
 }
 
 pub fn in_vlan_map(v: &[u8], x: u64) -> bool

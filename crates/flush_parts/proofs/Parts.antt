@@ -44,8 +44,8 @@ single-past w b x e = rw e
 number-small : (w : Numbering) (b : List ℕ) → Narrow w → numberOf w b < 2 ^ 48
 unfolding numberOf
 number-small w b h =
-    let p : num (take (w .size) b) % w .top < w .top = mod-lt (num (take (w .size) b)) (h .sound .top-some) in
-    let q = h .top-le in
+    let p : num (take (w .size) b) % w .modulus < w .modulus = mod-lt (num (take (w .size) b)) (h .sound .modulus-some) in
+    let q = h .modulus-le in
     omega arith
 
 pick-small : (t : Bool) (a b m : ℕ) → a < m → b < m → pick t a b < m

@@ -13,7 +13,7 @@ use Rattle.flush_members.specs.Sound.{Sound}
 -- a numbering of at most 48 bits
 pub record Narrow (w : Numbering) : Type 0 where
   pub sound : Sound w
-  pub top-le : w .top ≤ 2 ^ 48
+  pub modulus-le : w .modulus ≤ 2 ^ 48
   pub low-le : w .low < 2 ^ 48
   pub high-le : w .high < 2 ^ 48
 

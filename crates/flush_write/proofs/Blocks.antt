@@ -42,7 +42,7 @@ module _ (w : Numbering) where
   length-blocks bs = length-joined (2 * w .size) (blockBytes (w .size)) length-block bs
 
   -- the numbers of the width fit in its bytes
-  module _ (fits : w .high < w .top) (room : w .high < 256 ^ w .size) where
+  module _ (fits : w .high < w .modulus) (room : w .high < 256 ^ w .size) where
     number-first : (n : ℕ) (r : List ℕ) → n ≤ w .high → numberOf w (bytesOf (w .size) n ++ r) ≡ n
     unfolding numberOf
     number-first n r h =

@@ -131,7 +131,7 @@ abbrev pub blocksFrom : ℕ → ℕ → List ℕ → ℕ → List ℕ
 blocksFrom k size l from = blocksBytes size (blocksIn k (drop from l))
 
 abbrev sized : ℕ → Numbering
-sized size = record { size = size; top = 0; low = 0; high = 0 }
+sized size = record { size = size; modulus = 0; low = 0; high = 0 }
 
 length-one : (size : ℕ) (b : Block) → length (blockBytes size b) ≡ 2 * size
 length-one size b = length-block (sized size) b

@@ -177,13 +177,13 @@ module _ (l : List ℕ) (at : ℕ) where
 
 pub fines-by-last : LastByte fines
 fines-by-last = record {
-  sound = record { width = record { least = omega arith; most = omega arith; six = λ a b. absurd (b refl) }; top-some = omega arith };
+  sound = record { width = record { least = omega arith; most = omega arith; six = λ a b. absurd (b refl) }; modulus-some = omega arith };
   last = λ l at room small. fine-last l at room small;
 }
 
 pub macs-by-last : LastByte macs
 macs-by-last = record {
-  sound = record { width = record { least = omega arith; most = omega arith; six = λ a b. refl }; top-some = omega arith };
+  sound = record { width = record { least = omega arith; most = omega arith; six = λ a b. refl }; modulus-some = omega arith };
   last = λ l at room small. mac-last l at room small;
 }
 

@@ -107,13 +107,13 @@ fn pass_apart(v: &[u8], from: usize, w: Numbering, x: u64) -> usize
 }
 
 // Whether a list of numbers has x in it. The numbering comes as its four numbers, as in flush_members.
-fn in_list(v: &[u8], size: usize, top: u64, low: u64, high: u64, x: u64) -> bool
-    requires { ⌜ LastByte (numbering size top low high) ⌝ }
-    ensures { λ r. ⌜ r ≡ inList (numbering size top low high) x (now (v .entry)) ⌝ }
+fn in_list(v: &[u8], size: usize, modulus: u64, low: u64, high: u64, x: u64) -> bool
+    requires { ⌜ LastByte (numbering size modulus low high) ⌝ }
+    ensures { λ r. ⌜ r ≡ inList (numbering size modulus low high) x (now (v .entry)) ⌝ }
 {
     let w = Numbering {
         size,
-        top,
+        modulus,
         low,
         high,
     };
@@ -130,13 +130,13 @@ fn in_list(v: &[u8], size: usize, top: u64, low: u64, high: u64, x: u64) -> bool
 fn in_fines(v: &[u8], x: u64) -> bool
     ensures { λ r. ⌜ r ≡ inList fines x (now (v .entry)) ⌝ }
 {
-    in_list(v, FINES.size, FINES.top, FINES.low, FINES.high, x)
+    in_list(v, FINES.size, FINES.modulus, FINES.low, FINES.high, x)
 }
 
 fn in_macs(v: &[u8], x: u64) -> bool
     ensures { λ r. ⌜ r ≡ inList macs x (now (v .entry)) ⌝ }
 {
-    in_list(v, MACS.size, MACS.top, MACS.low, MACS.high, x)
+    in_list(v, MACS.size, MACS.modulus, MACS.low, MACS.high, x)
 }
 
 // ---- what one TLV says: the text of flush_tlvs, so that there it stays a part of the flush's loop

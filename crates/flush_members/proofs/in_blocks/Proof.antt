@@ -13,10 +13,10 @@ use Rattle.flush_members.proofs.in_blocks.Statement.{statement}
 use Rattle.flush_members.proofs.in_blocks.Tie as tie
 
 abbrev Inv-loop : tie.InvT-loop
-Inv-loop v size top low high x w k at₀ at = (0 < k) × ((at ≤ length v) × (inBlocks (numbering size top low high) x v ≡ anyOf (inBlock (numbering size top low high) x) (parts k (drop at v))))
+Inv-loop v size modulus low high x w k at₀ at = (0 < k) × ((at ≤ length v) × (inBlocks (numbering size modulus low high) x v ≡ anyOf (inBlock (numbering size modulus low high) x) (parts k (drop at v))))
 
 abbrev μ-loop : tie.MeasureT-loop
-μ-loop v size top low high x w k at₀ at = length v - at
+μ-loop v size modulus low high x w k at₀ at = length v - at
 
 returns : tie.Need-returns Inv-loop μ-loop
 returns c = search blocks-below

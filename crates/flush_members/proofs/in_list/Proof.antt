@@ -14,10 +14,10 @@ use Rattle.flush_members.proofs.in_list.Statement.{statement}
 use Rattle.flush_members.proofs.in_list.Tie as tie
 
 abbrev Inv-loop : tie.InvT-loop
-Inv-loop v size top low high x w at₀ at = (0 < size) × ((at ≤ length v) × (inList (numbering size top low high) x v ≡ anyOf (λ b. eqb (numberOf (numbering size top low high) b) x) (parts size (drop at v))))
+Inv-loop v size modulus low high x w at₀ at = (0 < size) × ((at ≤ length v) × (inList (numbering size modulus low high) x v ≡ anyOf (λ b. eqb (numberOf (numbering size modulus low high) b) x) (parts size (drop at v))))
 
 abbrev μ-loop : tie.MeasureT-loop
-μ-loop v size top low high x w at₀ at = length v - at
+μ-loop v size modulus low high x w at₀ at = length v - at
 
 loop-holds : tie.Need-loop-holds Inv-loop μ-loop
 unfolding inList

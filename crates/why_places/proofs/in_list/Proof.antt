@@ -15,10 +15,10 @@ use Rattle.why_places.proofs.in_list.Statement.{statement}
 use Rattle.why_places.proofs.in_list.Tie as tie
 
 abbrev Inv-loop : tie.InvT-loop
-Inv-loop v size top low high x w at₀ at = (0 < size) × ((at ≤ length v) × (inList (numbering size top low high) x v ≡ leftHas (numbering size top low high) x v at))
+Inv-loop v size modulus low high x w at₀ at = (0 < size) × ((at ≤ length v) × (inList (numbering size modulus low high) x v ≡ leftHas (numbering size modulus low high) x v at))
 
 abbrev μ-loop : tie.MeasureT-loop
-μ-loop v size top low high x w at₀ at = length v - at
+μ-loop v size modulus low high x w at₀ at = length v - at
 
 loop-holds : tie.Need-loop-holds Inv-loop μ-loop
 loop-holds c = (search width-some, (search needs, list-left _ _ _ ∙ c .pass-apart .ensures .1))
