@@ -64,7 +64,7 @@ pub fn general_fields(port: u64, f: &[u8]) -> Parsed
 pub fn stays_general(s: Settings, a: u64) -> bool
     ensures { λ r. ⌜ r ≡ staysGeneral s a ⌝ }
 {
-    frame_fields::is_reserved(a) | (a == s.port)
+    frame_settings::is_reserved(a) | (a == s.port)
 }
 
 // Writes the Compact frame: inner addresses and label, 22F3, header, content.
@@ -118,7 +118,7 @@ pub fn fill_compact(f: &[u8], p: Parts, out: &mut [u8]) -> u16
 pub fn compact(s: Settings, frame: &[u8], out: &mut [u8]) -> ConvertAnswer
     ensures { λ r. ⌜ onArea r (now (out .exit)) ≡ compacted s (now (frame .entry)) (now (out .entry)) ⌝ }
 {
-    if !frame_fields::settings_good(s) {
+    if !frame_settings::settings_good(s) {
         return ConvertAnswer::Refused(SETTINGS_BAD);
     }
     match general_fields(s.port, frame) {

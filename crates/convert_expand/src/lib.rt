@@ -59,7 +59,7 @@ fn tag_good(u: Outer) -> bool
 fn outer_good(s: Settings, u: Outer) -> bool
     ensures { λ r. ⌜ r ≡ outerGood s (outerAs u) ⌝ }
 {
-    frame_fields::settings_good(s) & (numbers::is_individual(u.source) & tag_good(u))
+    frame_settings::settings_good(s) & (numbers::is_individual(u.source) & tag_good(u))
 }
 
 // The bytes of the outer addresses and the tag.

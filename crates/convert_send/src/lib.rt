@@ -26,7 +26,7 @@ fn may_compact(on: bool, s: Settings, a: u64) -> bool
 pub fn send_where(on: bool, s: Settings, frame: &[u8], work: &mut [u8]) -> SendAnswer
     ensures { λ r. ⌜ onArea r (now (work .exit)) ≡ sentWhere on s (now (frame .entry)) (now (work .entry)) ⌝ }
 {
-    if !frame_fields::settings_good(s) {
+    if !frame_settings::settings_good(s) {
         return SendAnswer::Refused(SETTINGS_BAD);
     }
     if work.len() < COMPACT_ROOM {

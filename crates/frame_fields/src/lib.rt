@@ -1,4 +1,4 @@
-// The fields of a frame, one by one: settings, the destination in front, Ethertypes, the header's fields, and how many bytes a header, a
+// The fields of a frame, one by one: the destination in front, Ethertypes, the header's fields, and how many bytes a header, a
 // label and the outer part take.
 ghost use Prim.Native.Nat.{_+_, _-_, _/_, _%_, _^_, _<_, _≤_};
 ghost use mathlib.Core.Path.{_≡_};
@@ -6,31 +6,20 @@ ghost use lib.ListN.{length, drop};
 ghost use Rattle.numbers.specs.Bytes.{startsWith};
 ghost use Rattle.numbers.specs.Ranges.{vlanGood};
 ghost use Rattle.frame.specs.Formats.{outerLength};
-ghost use Rattle.frame.specs.Front.{trillGroup, controlAddress, reservedGroup};
 ghost use Rattle.frame.specs.Header.{versionOf, firstReserved, secondReserved, multicastOf, optionLength, hopCount, egressOf, ingressOf, fixedBytes, headerBytes, agrees, headerLength};
 ghost use Rattle.frame.specs.Labels.{tagBytes, low12, labelLength};
-ghost use Rattle.frame.specs.Settings.{addressesGood, secondsGood, numbersGood, laterGood, settingsGood};
 ghost use Rattle.frame_fields.specs.Meaning.{frontAs, frontAt, lengthAs};
 use frame::ADDRESSES_BYTES;
 use frame::ALL_RBRIDGES;
-use frame::COMPACT_ON;
 use frame::EGRESS_OFFSET;
 use frame::ETHERTYPE_BYTES;
 use frame::FINE_BYTES;
 use frame::FINE_ETHERTYPE;
-use frame::FIRST_CONTROL;
 use frame::FIRST_RESERVED_BIT;
 use frame::FIXED_HEADER_BYTES;
 use frame::HOP_COUNT_VALUES;
 use frame::INGRESS_OFFSET;
 use frame::LABEL_PART;
-use frame::LAST_CONTROL;
-use frame::LAST_TRILL_GROUP;
-use frame::LEAST_SECONDS;
-use frame::MOST_CONFIDENCE;
-use frame::MOST_MULTIHOMED;
-use frame::MOST_SECONDS;
-use frame::MOST_SMART;
 use frame::MULTICAST_BIT;
 use frame::MULTICAST_VALUES;
 use frame::OPTION_BYTES;
@@ -38,7 +27,6 @@ use frame::OPTION_LENGTH_BIT;
 use frame::OPTION_LENGTH_VALUES;
 use frame::RESERVED_VALUES;
 use frame::SECOND_RESERVED_BIT;
-use frame::Settings;
 use frame::TAG_BYTES;
 use frame::TAG_ETHERTYPE;
 use frame::TAGGED_ADDRESSES_BYTES;
@@ -47,7 +35,6 @@ use frame::TRILL_ETHERTYPE;
 use frame::UNTAGGED_OUTER_BYTES;
 use frame::VERSION_BIT;
 use frame::VERSION_VALUES;
-use frame::VLAN_REGISTRATION;
 use numbers::refusals::CUT_SHORT;
 use numbers::refusals::LABEL_BAD;
 use numbers::refusals::MULTICAST_DISAGREES;
@@ -69,60 +56,6 @@ pub enum Length {
     Bytes(usize),
 }
 
-fn addresses_good(s: Settings) -> bool
-    ensures { λ r. ⌜ r ≡ addressesGood s ⌝ }
-{
-    numbers::is_individual(s.port) & (numbers::is_individual(s.inner) & (s.port != s.inner))
-}
-
-fn seconds_good(n: u32) -> bool
-    ensures { λ r. ⌜ r ≡ secondsGood n ⌝ }
-{
-    (n == 0) | ((LEAST_SECONDS <= n) & (n <= MOST_SECONDS))
-}
-
-fn numbers_good(s: Settings) -> bool
-    ensures { λ r. ⌜ r ≡ numbersGood s ⌝ }
-{
-    numbers::nickname_good(s.nickname as u64)
-        & ((s.compact <= COMPACT_ON)
-            & ((s.confidence <= MOST_CONFIDENCE) & seconds_good(s.seconds)))
-}
-
-fn later_good(s: Settings) -> bool
-    ensures { λ r. ⌜ r ≡ laterGood s ⌝ }
-{
-    (s.multihomed <= MOST_MULTIHOMED) & (s.smart <= MOST_SMART)
-}
-
-// Refusal 1: whether the settings are within their ranges.
-pub fn settings_good(s: Settings) -> bool
-    ensures { λ r. ⌜ r ≡ settingsGood s ⌝ }
-{
-    addresses_good(s) & (numbers_good(s) & later_good(s))
-}
-
-// :40 to :4F.
-pub fn is_trill_group(a: u64) -> bool
-    ensures { λ r. ⌜ r ≡ trillGroup a ⌝ }
-{
-    (ALL_RBRIDGES <= a) & (a <= LAST_TRILL_GROUP)
-}
-
-// 01-80-C2-00-00-00 to 0F, and 21.
-fn is_control(a: u64) -> bool
-    ensures { λ r. ⌜ r ≡ controlAddress a ⌝ }
-{
-    ((FIRST_CONTROL <= a) & (a <= LAST_CONTROL)) | (a == VLAN_REGISTRATION)
-}
-
-// A group that stands in front of no Compact frame: one of TRILL's or a control address.
-pub fn is_reserved(a: u64) -> bool
-    ensures { λ r. ⌜ r ≡ reservedGroup a ⌝ }
-{
-    is_trill_group(a) | is_control(a)
-}
-
 // What the destination in front means for a port.
 pub fn front_of(port: u64, a: u64) -> Front
     ensures { λ r. ⌜ frontAs r ≡ frontAt port a ⌝ }
@@ -133,7 +66,7 @@ pub fn front_of(port: u64, a: u64) -> Front
     if a == ALL_RBRIDGES {
         return Front::Multicast;
     }
-    if is_reserved(a) {
+    if frame_settings::is_reserved(a) {
         return Front::Refused;
     }
     Front::Inner

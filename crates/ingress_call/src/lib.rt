@@ -243,7 +243,7 @@ fn put_general(
 pub fn ingress(s: Settings, map: &[u8], u: Given, f: &[u8], out: &mut [u8]) -> ConvertAnswer
     ensures { λ r. ⌜ onArea r (now (out .exit)) ≡ ingressed s (now (map .entry)) u (now (f .entry)) (now (out .entry)) ⌝ }
 {
-    if !frame_fields::settings_good(s) {
+    if !frame_settings::settings_good(s) {
         return ConvertAnswer::Refused(SETTINGS_BAD);
     }
     if !given_good(u) {

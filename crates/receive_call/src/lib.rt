@@ -133,7 +133,7 @@ pub fn receive_port(
 ) -> ReadAnswer
     ensures { λ r. ⌜ onBoth r (now (table .exit)) (now (out .exit)) ≡ portReceived s (now (map .entry)) (now (f .entry)) (now (table .entry)) (now (out .entry)) ⌝ }
 {
-    if !frame_fields::settings_good(s) {
+    if !frame_settings::settings_good(s) {
         return ReadAnswer::Refused(SETTINGS_BAD);
     }
     if !table_records::table_good(table) {
@@ -172,7 +172,7 @@ fn act_unmapped(s: Settings, f: &[u8], p: Parts, table: &mut [u8], out: &mut [u8
 pub fn receive(s: Settings, f: &[u8], table: &mut [u8], out: &mut [u8]) -> ReadAnswer
     ensures { λ r. ⌜ onBoth r (now (table .exit)) (now (out .exit)) ≡ received s (now (f .entry)) (now (table .entry)) (now (out .entry)) ⌝ }
 {
-    if !frame_fields::settings_good(s) {
+    if !frame_settings::settings_good(s) {
         return ReadAnswer::Refused(SETTINGS_BAD);
     }
     if !table_records::table_good(table) {

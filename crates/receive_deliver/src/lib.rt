@@ -145,7 +145,7 @@ pub fn deliver(
     requires { ⌜ (settingsGood s ≡ true) × (PartsOf (now f) p × ValuesOf (fieldsIn (now f) p) v) ⌝ }
     ensures { λ r. ⌜ onBoth r (now (table .exit)) (now (out .exit)) ≡ settled (λ n. onBoth (answer.Refused n) (now (table .entry)) (now (out .entry))) (delivery (nativeAs tag (fieldsIn (now (f .entry)) p)) defaultLife s (fieldsIn (now (f .entry)) p) (now (table .entry)) (now (out .entry))) ⌝ }
 {
-    if frame_fields::is_trill_group(v.dst) {
+    if frame_settings::is_trill_group(v.dst) {
         return ReadAnswer::Refused(NOT_CHANNEL);
     }
     if tag_missing(tag) {

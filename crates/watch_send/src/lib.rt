@@ -24,7 +24,7 @@ pub struct SentBy {
 fn send_where(on: bool, s: Settings, frame: &[u8], work: &mut [u8]) -> SendAnswer
     ensures { λ r. ⌜ onArea r (now (work .exit)) ≡ sentWhere on s (now (frame .entry)) (now (work .entry)) ⌝ }
 {
-    if !frame_fields::settings_good(s) {
+    if !frame_settings::settings_good(s) {
         return SendAnswer::Refused(SETTINGS_BAD);
     }
     if work.len() < COMPACT_ROOM {

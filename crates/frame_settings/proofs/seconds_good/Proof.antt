@@ -1,10 +1,10 @@
--- `frame_fields::seconds_good` meets its contract: the tests are the definition's.
+-- `frame_settings::seconds_good` meets its contract: the tests are the definition's.
 -- Assumes nothing.
 use mathlib.Core.Path.{refl}
 use Rattle.numbers.specs.Tests.{both, either, between}
 use Rattle.frame.specs.Settings.{secondsGood}
-use Rattle.frame_fields.proofs.seconds_good.Statement.{statement}
-use Rattle.frame_fields.proofs.seconds_good.Tie as tie
+use Rattle.frame_settings.proofs.seconds_good.Statement.{statement}
+use Rattle.frame_settings.proofs.seconds_good.Tie as tie
 
 returns : tie.Need-returns
 unfolding secondsGood either between both

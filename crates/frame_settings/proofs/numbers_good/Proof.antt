@@ -1,10 +1,10 @@
--- `frame_fields::numbers_good` meets its contract: the tests are the definition's.
+-- `frame_settings::numbers_good` meets its contract: the tests are the definition's.
 -- Assumes nothing.
 use Rattle.numbers.specs.Tests.{both}
 use Rattle.frame.specs.Settings.{numbersGood}
 use borrow.Author.Needs.{needs}
-use Rattle.frame_fields.proofs.numbers_good.Statement.{statement}
-use Rattle.frame_fields.proofs.numbers_good.Tie as tie
+use Rattle.frame_settings.proofs.numbers_good.Statement.{statement}
+use Rattle.frame_settings.proofs.numbers_good.Tie as tie
 
 returns : tie.Need-returns
 unfolding numbersGood both

@@ -1,10 +1,10 @@
--- `frame_fields::is_reserved` meets its contract: the tests are the definition's.
+-- `frame_settings::is_reserved` meets its contract: the tests are the definition's.
 -- Assumes nothing.
 use Rattle.numbers.specs.Tests.{either}
 use Rattle.frame.specs.Front.{reservedGroup}
 use borrow.Author.Needs.{needs}
-use Rattle.frame_fields.proofs.is_reserved.Statement.{statement}
-use Rattle.frame_fields.proofs.is_reserved.Tie as tie
+use Rattle.frame_settings.proofs.is_reserved.Statement.{statement}
+use Rattle.frame_settings.proofs.is_reserved.Tie as tie
 
 returns : tie.Need-returns
 unfolding reservedGroup either

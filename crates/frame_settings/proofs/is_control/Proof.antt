@@ -1,10 +1,10 @@
--- `frame_fields::is_control` meets its contract: the tests are the definition's.
+-- `frame_settings::is_control` meets its contract: the tests are the definition's.
 -- Assumes nothing.
 use mathlib.Core.Path.{refl}
 use Rattle.numbers.specs.Tests.{both, either, between}
 use Rattle.frame.specs.Front.{controlAddress}
-use Rattle.frame_fields.proofs.is_control.Statement.{statement}
-use Rattle.frame_fields.proofs.is_control.Tie as tie
+use Rattle.frame_settings.proofs.is_control.Statement.{statement}
+use Rattle.frame_settings.proofs.is_control.Tie as tie
 
 returns : tie.Need-returns
 unfolding controlAddress between both either

@@ -1,9 +1,9 @@
--- `frame_fields::later_good` meets its contract: the tests are the definition's.
+-- `frame_settings::later_good` meets its contract: the tests are the definition's.
 -- Assumes nothing.
 use Rattle.numbers.specs.Tests.{both}
 use Rattle.frame.specs.Settings.{laterGood}
-use Rattle.frame_fields.proofs.later_good.Statement.{statement}
-use Rattle.frame_fields.proofs.later_good.Tie as tie
+use Rattle.frame_settings.proofs.later_good.Statement.{statement}
+use Rattle.frame_settings.proofs.later_good.Tie as tie
 
 returns : tie.Need-returns
 unfolding laterGood both

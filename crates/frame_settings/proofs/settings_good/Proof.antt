@@ -1,10 +1,10 @@
--- `frame_fields::settings_good` meets its contract: the tests are the definition's.
+-- `frame_settings::settings_good` meets its contract: the tests are the definition's.
 -- Assumes nothing.
 use Rattle.numbers.specs.Tests.{both}
 use Rattle.frame.specs.Settings.{settingsGood}
 use borrow.Author.Needs.{needs}
-use Rattle.frame_fields.proofs.settings_good.Statement.{statement}
-use Rattle.frame_fields.proofs.settings_good.Tie as tie
+use Rattle.frame_settings.proofs.settings_good.Statement.{statement}
+use Rattle.frame_settings.proofs.settings_good.Tie as tie
 
 returns : tie.Need-returns
 unfolding settingsGood both
