@@ -22,6 +22,7 @@
 //! | tests/formats.rs | receive, compact, flush, spoilt: the examples of docs/FORMATS.md |
 //! | tests/driver.rs | all, through the port driver |
 //! | tests/map.rs | receive_port, ingress, and receive and compact beside them |
+//! | tests/pairs.rs | receive_port, ingress, beside the program `replay`, which lends the map as a slice of pairs |
 //! | tests/lists.rs | receive_port, compact, lookup, age, spoilt: whole call lists |
 //! | tests/pages.rs | all, with areas against memory that cannot be accessed |
 //! | tests/words.rs | all, with typed answers; words that are no answers |

@@ -13,8 +13,8 @@ use crate::run::{self, Answers};
 use crate::watched;
 
 /// What the program's input and table hold at most, and its output or working area.
-const ROOM: usize = 1024;
-const AREA: usize = 9216;
+pub const ROOM: usize = 1024;
+pub const AREA: usize = 9216;
 /// How many vectors of one answer are kept, of those with an area over 1,024 bytes, and how many vectors there are at least.
 const OF_EACH: usize = 16;
 const LONG_OF_EACH: usize = 3;
@@ -143,7 +143,8 @@ pub const ANSWERS: &[(u8, Answers)] = &[
     (REPORT, run::REPORT),
     (HELLO_READ, run::HELLO),
 ];
-pub(crate) fn settings_bytes(settings: &Settings) -> Vec<u8> {
+
+pub fn settings_bytes(settings: &Settings) -> Vec<u8> {
     let mut bytes = Vec::new();
     bytes.extend(settings.port.to_be_bytes());
     bytes.extend(settings.inner.to_be_bytes());
@@ -154,7 +155,7 @@ pub(crate) fn settings_bytes(settings: &Settings) -> Vec<u8> {
     bytes
 }
 
-fn encapsulation_bytes(given: &Encapsulation) -> Vec<u8> {
+pub fn encapsulation_bytes(given: &Encapsulation) -> Vec<u8> {
     let mut bytes = Vec::new();
     bytes.extend(given.outer_destination.to_be_bytes());
     bytes.extend(given.outer_source.to_be_bytes());
@@ -518,11 +519,11 @@ struct Replay {
     answers: BTreeMap<(u8, u8), usize>,
 }
 
-fn hex(bytes: &[u8]) -> String {
+pub fn hex(bytes: &[u8]) -> String {
     bytes.iter().map(|byte| format!("{byte:02x}")).collect()
 }
 
-fn input_line(number: u8, body: &[u8]) -> String {
+pub fn input_line(number: u8, body: &[u8]) -> String {
     format!("{number:02x} {:04x} {}\n", body.len(), hex(body))
 }
 
