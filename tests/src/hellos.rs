@@ -76,6 +76,101 @@ pub fn contents(random: &mut Random) -> Contents {
     }
 }
 
+/// One of the contents' numbers over its field, or a list over what a TLV holds; what it is.
+pub fn spoil(random: &mut Random, contents: &mut Contents) -> &'static str {
+    let wide = |random: &mut Random, bits: u32| 1 << random.between(bits.into(), 63);
+    let parameters = contents.parameters.as_mut().expect("contents have them");
+    match random.below(12) {
+        0 => {
+            parameters.holding |= wide(random, 16);
+            "holding time"
+        }
+        1 => {
+            parameters.flags |= wide(random, 16);
+            "flags"
+        }
+        at @ 2..=4 => {
+            let mut record = Nickname {
+                priority: 0,
+                root_priority: 0,
+                nickname: 0,
+            };
+            match at {
+                2 => record.priority = wide(random, 8),
+                3 => record.root_priority = wide(random, 16),
+                _ => record.nickname = wide(random, 16),
+            }
+            let mut list = nicknames(random);
+            list.truncate(48);
+            let place = random.length(0, list.len());
+            list.insert(place, record);
+            contents.nicknames.push(list);
+            ["priority", "root priority", "nickname"][at as usize - 2]
+        }
+        5 => {
+            contents.nicknames.push(vec![
+                Nickname {
+                    priority: 0,
+                    root_priority: 0,
+                    nickname: 0,
+                };
+                50
+            ]);
+            "50 records"
+        }
+        6 => {
+            let mut tree = trees(random);
+            tree.nicknames.truncate(122);
+            let number = wide(random, 16);
+            match random.below(2) {
+                0 => tree.start = number,
+                _ => tree.nicknames.push(number),
+            }
+            contents.trees.push(tree);
+            "a number of a tree"
+        }
+        7 => {
+            contents.trees.push(Trees {
+                start: 1,
+                nicknames: vec![1; 124],
+            });
+            "124 nicknames of trees"
+        }
+        8 => {
+            let mut mac = smart_mac(random);
+            match random.below(2) {
+                0 => mac.fine = random.pick(&[2, 3, 1 << 32, u64::MAX]),
+                _ => mac.multihomed = random.pick(&[2, 3, 1 << 32, u64::MAX]),
+            }
+            contents.macs.push(mac);
+            "F or M"
+        }
+        9 => {
+            let mut mac = smart_mac(random);
+            mac.fine = 0;
+            mac.label = 1 << random.between(12, 23);
+            contents.macs.push(mac);
+            "a label of more than 12 bits with F 0"
+        }
+        10 => {
+            let mut mac = smart_mac(random);
+            mac.label = wide(random, 24);
+            contents.macs.push(mac);
+            "a label of more than 24 bits"
+        }
+        _ => {
+            let mut mac = smart_mac(random);
+            mac.macs.truncate(40);
+            match random.below(2) {
+                0 => mac.macs.push(wide(random, 48)),
+                _ => mac.macs = vec![1; 42],
+            }
+            contents.macs.push(mac);
+            "a MAC, or 42 of them"
+        }
+    }
+}
+
 /// A piece: type, length, value.
 fn piece(kind: u8, value: &[u8]) -> Vec<u8> {
     let mut bytes = vec![kind, value.len() as u8];

@@ -15,6 +15,7 @@
 //! | tests/why.rs | why, and flush beside it |
 //! | tests/report.rs | report, and the program `morning_report` |
 //! | tests/hello.rs | hello_read |
+//! | tests/hello_write.rs | hello_write, and hello_read with what it wrote |
 //! | tests/write.rs | write_flush, and flush with what it wrote |
 //! | tests/receive.rs | receive |
 //! | tests/convert.rs | compact, expand, send |
