@@ -463,3 +463,27 @@ fn a_list_as_long_as_a_tlv_holds_is_written_and_a_longer_one_is_25() {
 fn the_header_passes_null_areas() {
     c_program::compile_and_run("null_hello_write.c");
 }
+
+/// The fuzz target of writing, without libFuzzer, on random contents.
+#[test]
+fn the_fuzz_target_of_hello_write_finds_nothing_on_random_inputs() {
+    let mut random = run::random("the_fuzz_target_of_hello_write_finds_nothing_on_random_inputs");
+    c_program::fuzz_target("hello_write", 400, || {
+        let mut contents = hellos::contents(&mut random);
+        let length = contents.write().map_or(0, |out| out.len());
+        match random.below(8) {
+            0 => drop(hellos::spoil(&mut random, &mut contents)),
+            1 => contents.parameters = None,
+            _ => {}
+        }
+        let mut area = contents.area();
+        if random.one_in(6) {
+            generate::change_one_byte(&mut random, &mut area);
+        }
+        let room = match random.one_in(4) {
+            true => random.number() as u16,
+            false => generate::area_length(&mut random, length) as u16,
+        };
+        [&room.to_be_bytes()[..], &area].concat()
+    });
+}
