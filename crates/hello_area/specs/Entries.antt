@@ -1,6 +1,6 @@
 -- The contents area entry by entry: each entry is taken as the sub-TLV that it is written as, or is 25; one shape for all types.
 -- Assumes nothing.
-use Prim.Native.Nat.{ℕ, _+_, _-_, _*_, _%_, _^_}
+use Prim.Native.Nat.{ℕ, zero, suc, _+_, _-_, _*_, _%_, _^_}
 use mathlib.Core.Bool.{Bool}
 use mathlib.Core.List.{List, [], _∷_, _++_, map, flatMap}
 use lib.Dec.{leb, ltb, eqb}
@@ -105,3 +105,16 @@ endFrom p ns i = endIn ns (p (drop i ns))
 -- the same from any place: past the end it stays so
 unfoldable pub reach : {A : Type 0} → Taker A → List ℕ → ℕ → ℕ
 reach p ns i = pick (leb i (length ns)) (endFrom p ns i) (1 + length ns)
+
+-- the sub-TLV that the entry at the number i is; one without a value where it is malformed
+unfoldable pub subIn : ℕ → Result (Taken Sub) → Sub
+subIn k (refused m) = record { holder = holderFor k; kind = k; value = [] }
+subIn k (got t) = t .value
+
+unfoldable pub subAt : ℕ → List ℕ → ℕ → Sub
+subAt k ns i = subIn k (takeSub k (drop i ns))
+
+-- the sub-TLVs of m entries, the first at the number i
+unfoldable pub subsAt : ℕ → List ℕ → ℕ → ℕ → List Sub
+subsAt k ns i zero = []
+subsAt k ns i (suc m) = subAt k ns i ∷ subsAt k ns (reach (takeSub k) ns i) m

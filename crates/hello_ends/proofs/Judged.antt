@@ -91,7 +91,7 @@ only-section k = only-counted (takeSub k) (only-sub k)
 suffix-section : (k : ℕ) → Suffix (takeCounted (takeSub k))
 suffix-section k = suffix-counted (takeSub k) (suffix-sub k)
 
-only-subs : Only takeSubs
+pub only-subs : Only takeSubs
 unfolding takeSubs
 only-subs = only-both _ _ (only-section 22) (only-both _ _ (only-section 6) (only-both _ _ (only-section 8) (only-section 23)))
 

@@ -27,7 +27,7 @@ fn size(area: &[u8]) -> usize
 }
 
 // The number at a place.
-fn number(area: &[u8], i: usize) -> u64
+pub fn number(area: &[u8], i: usize) -> u64
     requires { ⌜ i < length (numbersIn (now area)) ⌝ }
     ensures { λ r. ⌜ r ≡ getD (numbersIn (now (area .entry))) i 0 ⌝ }
 {

@@ -1,94 +1,106 @@
-// The place of the next sub-TLV of a Smart-Hello that is written.
-ghost use Prim.Native.Nat.{_+_, _-_, _*_, _<_, _≤_};
-ghost use mathlib.Core.List.{flatMap};
+// The cursor of a Smart-Hello that is written: the TLV that is open, and the place of the next sub-TLV.
+ghost use Prim.Native.Nat.{_+_, _-_, _*_, _^_, _<_, _≤_};
 ghost use mathlib.Core.Path.{_≡_};
-ghost use lib.ListN.{length};
-ghost use Rattle.numbers.specs.Bytes.{bytesOf};
+ghost use lib.ListN.{length, set};
 ghost use Rattle.frame_copy.specs.Areas.{pasted};
-ghost use Rattle.hello_put.specs.Placing.{holderOf, opening, takes, placedOut, placedStart, placedAt, numbersAt};
+ghost use Rattle.hello.specs.Writing.{headOf};
+ghost use Rattle.hello_put.specs.Placing.{takes, stepped, opening, opened};
 
-// Where the TLV starts that takes it, and where it goes itself.
-pub struct Place {
+const CAPABILITY: u8 = 242;
+
+// Router ID and flags of a TLV 242; flags and application of a TLV 251.
+const CAPABILITY_HEAD: usize = 5;
+
+const GENINFO_HEAD: usize = 3;
+
+// Type and length of a TLV, and the most bytes of its value.
+const TLV_HEAD: usize = 2;
+
+const LONGEST_VALUE: usize = 255;
+
+// The type of the TLV that is open (0: none), where it starts, and where the next sub-TLV goes if it takes it.
+pub struct Cursor {
+    pub holder: u8,
     pub start: usize,
     pub at: usize,
 }
 
-fn holder(capability: bool) -> u8
-    ensures { λ r. ⌜ r ≡ holderOf capability ⌝ }
+// The bytes of a TLV's value in front of its sub-TLVs.
+fn head_size(h: u8) -> usize
+    ensures { λ r. ⌜ (r ≡ length (headOf h)) × (r ≤ 5) ⌝ }
 {
-    if capability {
-        return 242;
+    if h == CAPABILITY {
+        return CAPABILITY_HEAD;
     }
-    251
+    GENINFO_HEAD
 }
 
-// How long the head of a TLV is, with its type and length.
-fn opening_size(capability: bool) -> usize
-    ensures { λ r. ⌜ (r ≡ length (opening (holderOf capability) 0)) × (r ≤ 7) ⌝ }
+// The TLV that is open takes a sub-TLV.
+fn takes_it(c: Cursor, h: u8, size: usize) -> bool
+    requires { ⌜ (c .start ≤ c .at) × ((c .at < 3 * 2 ^ 62) × (size ≤ 255)) ⌝ }
+    ensures { λ r. ⌜ r ≡ takes c h size ⌝ }
 {
-    if capability {
-        return 7;
+    if c.holder != h {
+        return false;
     }
-    5
+    c.at + size <= c.start + (TLV_HEAD + LONGEST_VALUE)
+}
+
+// The cursor after a sub-TLV.
+pub fn step(c: Cursor, h: u8, size: usize) -> Cursor
+    requires { ⌜ (c .start ≤ c .at) × ((c .at < 3 * 2 ^ 62) × (size ≤ 255)) ⌝ }
+    ensures { λ r. ⌜ r ≡ stepped c h size ⌝ }
+{
+    if takes_it(c, h, size) {
+        return Cursor {
+            holder: h,
+            start: c.start,
+            at: c.at + size,
+        };
+    }
+    Cursor {
+        holder: h,
+        start: c.at,
+        at: c.at + (TLV_HEAD + head_size(h)) + size,
+    }
 }
 
 // A new TLV up to its sub-TLVs, as one number.
-fn open_tlv(out: &mut [u8], at: usize, capability: bool, size: usize)
-    requires { ⌜ (at + 7 ≤ length (now out)) × (size ≤ 250) ⌝ }
-    ensures { λ _. ⌜ now (out .exit) ≡ pasted (now (out .entry)) at (opening (holderOf capability) size) ⌝ }
+fn open_tlv(out: &mut [u8], at: usize, h: u8, size: usize)
+    requires { ⌜ (at + (2 + length (headOf h)) ≤ length (now out)) × (length (headOf h) + size ≤ 255) ⌝ }
+    ensures { λ _. ⌜ now (out .exit) ≡ pasted (now (out .entry)) at (opening h size) ⌝ }
 {
+    let k = h as u64;
     let n = size as u64;
-    if capability {
+    if h == CAPABILITY {
         frame_copy::put_number(
-            0xF2 * 0x1_0000_0000_0000 + (5 + n) * 0x100_0000_0000,
+            k * 0x1_0000_0000_0000 + (5 + n) * 0x100_0000_0000,
             7,
             out,
             at,
         );
         return;
     }
-    frame_copy::put_number(0xFB * 0x1_0000_0000 + (3 + n) * 0x100_0000 + 1, 5, out, at);
+    frame_copy::put_number(k * 0x1_0000_0000 + (3 + n) * 0x100_0000 + 1, 5, out, at);
 }
 
-// The TLV that is open takes it.
-fn takes_it(out: &[u8], start: usize, at: usize, h: u8, size: usize) -> bool
-    requires { ⌜ (start + 2 ≤ at) × ((at ≤ length (now out)) × (size ≤ 250)) ⌝ }
-    ensures { λ r. ⌜ r ≡ takes (now (out .entry)) start at h size ⌝ }
+// The length byte of the TLV from start to at counts a sub-TLV more.
+fn grow_tlv(out: &mut [u8], start: usize, at: usize, size: usize)
+    requires { ⌜ ((start ≤ at) × (2 ≤ size)) × ((at + size ≤ start + 257) × (at + size ≤ length (now out))) ⌝ }
+    ensures { λ _. ⌜ now (out .exit) ≡ set (now (out .entry)) (start + 1) (at + size - (start + 2)) ⌝ }
 {
-    if out[start] != h {
-        return false;
-    }
-    at - (start + 2) + size <= 255
+    let n = at + size - (start + TLV_HEAD);
+    out[start + 1] = n as u8;
 }
 
-pub fn make_room(out: &mut [u8], start: usize, at: usize, capability: bool, size: usize) -> Place
-    requires { ⌜ (start + 2 ≤ at) × ((at + 7 ≤ length (now out)) × (size ≤ 250)) ⌝ }
-    ensures { λ r. ⌜ (r .start ≡ placedStart (now (out .entry)) start at (holderOf capability) size) × ((r .at ≡ placedAt (now (out .entry)) start at (holderOf capability) size) × (now (out .exit) ≡ placedOut (now (out .entry)) start at (holderOf capability) size)) ⌝ }
+// Makes the room of a sub-TLV: the length byte counts it, or a new TLV is opened.
+pub fn open(out: &mut [u8], c: Cursor, h: u8, size: usize)
+    requires { ⌜ ((c .start ≤ c .at) × ((2 ≤ size) × (length (headOf h) + size ≤ 255))) × (stepped c h size .at ≤ length (now out)) ⌝ }
+    ensures { λ _. ⌜ now (out .exit) ≡ opened (now (out .entry)) c h size ⌝ }
 {
-    let h = holder(capability);
-    if takes_it(out, start, at, h, size) {
-        let n = at - (start + 2) + size;
-        out[start + 1] = n as u8;
-        return Place {
-            start: start,
-            at: at,
-        };
+    if takes_it(c, h, size) {
+        grow_tlv(out, c.start, c.at, size);
+        return;
     }
-    open_tlv(out, at, capability, size);
-    Place {
-        start: at,
-        at: at + opening_size(capability),
-    }
-}
-
-// The MACs of a Smart-MAC: numbers of 8 bytes from a contents area, as 6 bytes each.
-pub fn put_macs(area: &[u8], from: usize, count: usize, out: &mut [u8], at: usize)
-    requires { ⌜ (from + 8 * count ≤ length (now area)) × (at + 6 * count ≤ length (now out)) ⌝ }
-    ensures { λ _. ⌜ now (out .exit) ≡ pasted (now (out .entry)) at (flatMap (bytesOf 6) (numbersAt (now (area .entry)) from count)) ⌝ }
-{
-    let mut i = 0;
-    while i < count {
-        frame_copy::put_address(numbers::be8(area, from + 8 * i), out, at + 6 * i);
-        i += 1;
-    }
+    open_tlv(out, c.at, h, size);
 }

@@ -18,7 +18,7 @@ ghost use Rattle.why.specs.Why.{why};
 ghost use Rattle.why.specs.Words.{whyWord};
 ghost use Rattle.flush_write.specs.Areas.{flushWritten};
 ghost use Rattle.flush_write.specs.Words.{writeWord};
-ghost use Rattle.hello.specs.Calls.{readCall};
+ghost use Rattle.hello.specs.Calls.{readCall, writeCall};
 ghost use Rattle.hello.specs.Words.{helloWord};
 ghost use Rattle.receive.specs.Receive.{portReceived, received};
 ghost use Rattle.receive.specs.Words.{readWord, LabelFits};
@@ -481,7 +481,7 @@ pub extern "C" fn shinglebar_write_flush(
     write_word(flush_write_call::write_flush(nicknames, vlans, fine, macs, out))
 }
 
-// The length of a Smart-Hello's contents has 56 bits in the word.
+// The length of a Smart-Hello, or of its contents, has 56 bits in the word.
 fn hello_word(a: HelloAnswer) -> u64
     ensures { λ r. ⌜ r ≡ helloWord a ⌝ }
 {
@@ -496,4 +496,11 @@ pub extern "C" fn shinglebar_hello_read(payload: &[u8], contents: &mut [u8]) -> 
     ensures { λ r. ⌜ onArea r (now (contents .exit)) ≡ areaAs helloWord (readCall (now (payload .entry)) (now (contents .entry))) ⌝ }
 {
     hello_word(hello_read::hello_read(payload, contents))
+}
+
+#[no_mangle]
+pub extern "C" fn shinglebar_hello_write(contents: &[u8], out: &mut [u8]) -> u64
+    ensures { λ r. ⌜ onArea r (now (out .exit)) ≡ areaAs helloWord (writeCall (now (contents .entry)) (now (out .entry))) ⌝ }
+{
+    hello_word(hello_write::hello_write(contents, out))
 }

@@ -1,0 +1,36 @@
+-- `hello_entry::put_smart_mac` meets its contract: type, length and label, and the MACs behind them.
+-- Assumes nothing.
+use Rattle.hello_entry.proofs.Writes.{place-fits, macs-written}
+use borrow.Author.Needs.{needs}
+use Rattle.hello_entry.proofs.put_smart_mac.Statement.{statement}
+use Rattle.hello_entry.proofs.put_smart_mac.Tie as tie
+
+add-number : tie.Need-add-number
+add-number c = search (place-fits, needs)
+
+add-put-macs : tie.Need-add-put-macs
+add-put-macs c = search (place-fits, needs)
+
+returns : tie.Need-returns
+returns c = search macs-written
+
+pub put-smart-mac-spec : {M : Type 1} → statement M
+put-smart-mac-spec =
+    tie.close
+    (tie.spec
+    add-number
+    (λ c κs. search needs)
+    (λ c κs. search needs)
+    (λ c. search needs)
+    (λ c. search needs)
+    (λ c. search needs)
+    (λ c. search needs)
+    (λ c. search needs)
+    (λ c κs. search needs)
+    (λ c. search needs)
+    (λ c κs. search needs)
+    add-put-macs
+    (λ c. search needs)
+    (λ c κs. search needs)
+    (λ c. search needs)
+    returns)

@@ -1,0 +1,4 @@
+-- Laws of the writing call.
+pub mod Taking
+pub mod Walking
+pub mod Calls

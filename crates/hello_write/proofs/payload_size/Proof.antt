@@ -1,0 +1,32 @@
+-- `hello_write::payload_size` meets its contract: each section starts where the one before it ends.
+-- Assumes nothing.
+use Rattle.hello_write.proofs.Walking.{kinds, first-ordered, first-most, at-22, at-6, at-8, at-23, all-walked}
+use borrow.Author.Needs.{needs}
+use Rattle.hello_write.proofs.payload_size.Statement.{statement}
+use Rattle.hello_write.proofs.payload_size.Tie as tie
+
+section-size-requires : tie.Need-section-size-requires
+section-size-requires c κs = ((search kinds, search at-22), (search first-ordered, search first-most))
+
+section-size-requires-2 : tie.Need-section-size-requires-2
+section-size-requires-2 c κs = ((search kinds, search at-6), (search needs, search needs))
+
+section-size-requires-3 : tie.Need-section-size-requires-3
+section-size-requires-3 c κs = ((search kinds, search at-8), (search needs, search needs))
+
+section-size-requires-4 : tie.Need-section-size-requires-4
+section-size-requires-4 c κs = ((search kinds, search at-23), (search needs, search needs))
+
+returns : tie.Need-returns
+returns c = search all-walked
+
+pub payload-size-spec : {M : Type 1} → statement M
+payload-size-spec =
+    tie.close
+    (tie.spec
+    (λ c κs. search needs)
+    section-size-requires
+    section-size-requires-2
+    section-size-requires-3
+    section-size-requires-4
+    returns)

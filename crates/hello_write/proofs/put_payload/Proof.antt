@@ -1,0 +1,20 @@
+-- `hello_write::put_payload` meets its contract: each section starts where the one before it ends.
+-- Assumes nothing.
+use Rattle.hello_write.proofs.Walking.{kinds, back-8, back-23, room-8, room-23, all-placed}
+use borrow.Author.Needs.{needs}
+use Rattle.hello_write.proofs.put_payload.Statement.{statement}
+use Rattle.hello_write.proofs.put_payload.Tie as tie
+
+put-section-requires : tie.Need-put-section-requires
+put-section-requires c κs = ((search kinds, search back-8), (search needs, search room-8))
+
+put-section-requires-2 : tie.Need-put-section-requires-2
+put-section-requires-2 c κs = ((search kinds, search back-23), (search needs, search room-23))
+
+returns : tie.Need-returns
+returns c = search all-placed
+
+pub put-payload-spec : {M : Type 1} → statement M
+put-payload-spec =
+    tie.close
+    (tie.spec (λ c κs. search needs) put-section-requires put-section-requires-2 (λ c. search needs) returns)

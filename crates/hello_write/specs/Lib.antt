@@ -1,0 +1,2 @@
+-- Writing a Smart-Hello, section by section.
+pub mod Sections

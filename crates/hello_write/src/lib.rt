@@ -1,0 +1,187 @@
+// The call that writes a Smart-Hello: the contents area is judged, then the room, and then the payload is written, section by section.
+ghost use Prim.Native.Nat.{_+_, _*_, _^_, _<_, _≤_};
+ghost use mathlib.Core.Bool.{true};
+ghost use mathlib.Core.Path.{_≡_};
+ghost use lib.ListN.{length};
+ghost use Rattle.numbers.specs.After.{onArea};
+ghost use Rattle.hello.specs.Pieces.{parametersType, nicknameType};
+ghost use Rattle.hello.specs.Area.{takeMany};
+ghost use Rattle.hello.specs.Calls.{writeCall};
+ghost use Rattle.hello_area.specs.Entries.{numbersIn, holderFor, takeSub, takeSubs, reach, subAt, subsAt};
+ghost use Rattle.hello_entry.specs.Kinds.{hasSection};
+ghost use Rattle.hello_put.specs.Placing.{unopened, steppedBy, placed, steppedAll, placedAll};
+ghost use Rattle.hello_write.specs.Sections.{sectionAt, sectionEnd, subsIn, frontIn, atFirst, walked};
+use hello::HelloAnswer;
+use hello_put::Cursor;
+use numbers::refusals::AREA_SHORT;
+
+// The types of the sections.
+const PARAMETERS: u8 = 22;
+
+const SMART_MAC: u8 = 23;
+
+const NICKNAME: u8 = 6;
+
+const TREES: u8 = 8;
+
+// The TLVs that hold sub-TLVs.
+const CAPABILITY: u8 = 242;
+
+const GENINFO: u8 = 251;
+
+// The cursor of what is written, and the number of the contents area that comes next.
+pub struct Walk {
+    pub cursor: Cursor,
+    pub next: usize,
+}
+
+// The TLV that holds sub-TLVs of a type.
+fn holder(kind: u8) -> u8
+    ensures { λ r. ⌜ r ≡ holderFor kind ⌝ }
+{
+    if kind == PARAMETERS {
+        return GENINFO;
+    }
+    if kind == SMART_MAC {
+        return GENINFO;
+    }
+    CAPABILITY
+}
+
+// The cursor after an entry.
+fn entry_size(kind: u8, area: &[u8], i: usize, c: Cursor) -> Cursor
+    requires { ⌜ ((hasSection kind ≡ true) × (reach (takeSub kind) (numbersIn (now area)) i ≤ length (numbersIn (now area)))) × ((c .start ≤ c .at) × (c .at < 3 * 2 ^ 62)) ⌝ }
+    ensures { λ r. ⌜ r ≡ steppedBy c (subAt kind (numbersIn (now (area .entry))) i) ⌝ }
+{
+    hello_put::step(c, holder(kind), hello_entry::size(kind, area, i))
+}
+
+// So many entries of a section.
+fn entries_size(kind: u8, area: &[u8], i: usize, m: usize, c: Cursor) -> Walk
+    requires { ⌜ ((hasSection kind ≡ true) × (reach (takeMany (takeSub kind) m) (numbersIn (now area)) i ≤ length (numbersIn (now area)))) × ((c .start ≤ c .at) × (c .at ≤ 9 * i)) ⌝ }
+    ensures { λ r. ⌜ ((r .cursor ≡ steppedAll c (subsAt kind (numbersIn (now (area .entry))) i m)) × (r .next ≡ reach (takeMany (takeSub kind) m) (numbersIn (now (area .entry))) i)) × ((r .cursor .start ≤ r .cursor .at) × (r .cursor .at ≤ 9 * r .next)) ⌝ }
+{
+    let mut d = c;
+    let mut at = i;
+    let mut j = 0;
+    while j < m {
+        d = entry_size(kind, area, at, d);
+        at = hello_entry::next(kind, area, at);
+        j += 1;
+    }
+    Walk {
+        cursor: d,
+        next: at,
+    }
+}
+
+// A section, behind its count.
+fn section_size(kind: u8, area: &[u8], w: Walk) -> Walk
+    requires { ⌜ ((hasSection kind ≡ true) × (sectionEnd kind (numbersIn (now area)) (w .next) ≤ length (numbersIn (now area)))) × ((w .cursor .start ≤ w .cursor .at) × (w .cursor .at ≤ 9 * w .next)) ⌝ }
+    ensures { λ r. ⌜ (r ≡ walked kind (numbersIn (now (area .entry))) w) × ((r .cursor .start ≤ r .cursor .at) × (r .cursor .at ≤ 9 * r .next)) ⌝ }
+{
+    let m = hello_ends::number(area, w.next) as usize;
+    entries_size(kind, area, w.next + 1, m, w.cursor)
+}
+
+// The walk before the first section.
+fn at_first() -> Walk
+    ensures { λ r. ⌜ r ≡ atFirst ⌝ }
+{
+    Walk {
+        cursor: Cursor {
+            holder: 0,
+            start: 0,
+            at: 0,
+        },
+        next: 0,
+    }
+}
+
+// How long the payload is.
+fn payload_size(area: &[u8]) -> usize
+    requires { ⌜ reach takeSubs (numbersIn (now area)) 0 ≤ length (numbersIn (now area)) ⌝ }
+    ensures { λ r. ⌜ r ≡ steppedAll unopened (subsIn (numbersIn (now (area .entry)))) .at ⌝ }
+{
+    let a = section_size(PARAMETERS, area, at_first());
+    let b = section_size(NICKNAME, area, a);
+    let c = section_size(TREES, area, b);
+    let d = section_size(SMART_MAC, area, c);
+    d.cursor.at
+}
+
+// Writes an entry as its sub-TLV, and gives the cursor after it.
+fn put_entry(kind: u8, area: &[u8], i: usize, c: Cursor, out: &mut [u8]) -> Cursor
+    requires { ⌜ ((hasSection kind ≡ true) × (reach (takeSub kind) (numbersIn (now area)) i ≤ length (numbersIn (now area)))) × ((c .start ≤ c .at) × (steppedBy c (subAt kind (numbersIn (now area)) i) .at ≤ length (now out))) ⌝ }
+    ensures { λ r. ⌜ (r ≡ steppedBy c (subAt kind (numbersIn (now (area .entry))) i)) × (now (out .exit) ≡ placed (now (out .entry)) c (subAt kind (numbersIn (now (area .entry))) i)) ⌝ }
+{
+    let h = holder(kind);
+    let n = hello_entry::size(kind, area, i);
+    let d = hello_put::step(c, h, n);
+    hello_put::open(out, c, h, n);
+    hello_entry::put(kind, area, i, out, d.at - n);
+    d
+}
+
+// So many entries of a section.
+fn put_entries(kind: u8, area: &[u8], i: usize, m: usize, c: Cursor, out: &mut [u8]) -> Walk
+    requires { ⌜ ((hasSection kind ≡ true) × (reach (takeMany (takeSub kind) m) (numbersIn (now area)) i ≤ length (numbersIn (now area)))) × ((c .start ≤ c .at) × (steppedAll c (subsAt kind (numbersIn (now area)) i m) .at ≤ length (now out))) ⌝ }
+    ensures { λ r. ⌜ ((r .cursor ≡ steppedAll c (subsAt kind (numbersIn (now (area .entry))) i m)) × (r .next ≡ reach (takeMany (takeSub kind) m) (numbersIn (now (area .entry))) i)) × ((r .cursor .start ≤ r .cursor .at) × (now (out .exit) ≡ placedAll (now (out .entry)) c (subsAt kind (numbersIn (now (area .entry))) i m))) ⌝ }
+{
+    let mut d = c;
+    let mut at = i;
+    let mut j = 0;
+    while j < m {
+        d = put_entry(kind, area, at, d, out);
+        at = hello_entry::next(kind, area, at);
+        j += 1;
+    }
+    Walk {
+        cursor: d,
+        next: at,
+    }
+}
+
+// A section, behind its count.
+fn put_section(kind: u8, area: &[u8], w: Walk, out: &mut [u8]) -> Walk
+    requires { ⌜ ((hasSection kind ≡ true) × (sectionEnd kind (numbersIn (now area)) (w .next) ≤ length (numbersIn (now area)))) × ((w .cursor .start ≤ w .cursor .at) × (walked kind (numbersIn (now area)) w .cursor .at ≤ length (now out))) ⌝ }
+    ensures { λ r. ⌜ (r ≡ walked kind (numbersIn (now (area .entry))) w) × ((r .cursor .start ≤ r .cursor .at) × (now (out .exit) ≡ placedAll (now (out .entry)) (w .cursor) (sectionAt kind (numbersIn (now (area .entry))) (w .next)))) ⌝ }
+{
+    let m = hello_ends::number(area, w.next) as usize;
+    put_entries(kind, area, w.next + 1, m, w.cursor, out)
+}
+
+// The first two sections.
+fn put_front(area: &[u8], out: &mut [u8]) -> Walk
+    requires { ⌜ (reach takeSubs (numbersIn (now area)) 0 ≤ length (numbersIn (now area))) × (steppedAll unopened (subsIn (numbersIn (now area))) .at ≤ length (now out)) ⌝ }
+    ensures { λ r. ⌜ (r ≡ walked nicknameType (numbersIn (now (area .entry))) (walked parametersType (numbersIn (now (area .entry))) atFirst)) × ((r .cursor .start ≤ r .cursor .at) × (now (out .exit) ≡ placedAll (now (out .entry)) unopened (frontIn (numbersIn (now (area .entry)))))) ⌝ }
+{
+    let w = put_section(PARAMETERS, area, at_first(), out);
+    put_section(NICKNAME, area, w, out)
+}
+
+// Writes the payload.
+fn put_payload(area: &[u8], out: &mut [u8])
+    requires { ⌜ (reach takeSubs (numbersIn (now area)) 0 ≤ length (numbersIn (now area))) × (steppedAll unopened (subsIn (numbersIn (now area))) .at ≤ length (now out)) ⌝ }
+    ensures { λ _. ⌜ now (out .exit) ≡ placedAll (now (out .entry)) unopened (subsIn (numbersIn (now (area .entry)))) ⌝ }
+{
+    let b = put_front(area, out);
+    let c = put_section(TREES, area, b, out);
+    put_section(SMART_MAC, area, c, out);
+}
+
+// Writes the Smart-Hello of a contents area.
+pub fn hello_write(contents: &[u8], out: &mut [u8]) -> HelloAnswer
+    ensures { λ r. ⌜ onArea r (now (out .exit)) ≡ writeCall (now (contents .entry)) (now (out .entry)) ⌝ }
+{
+    let j = hello_ends::judge(contents);
+    if j != 0 {
+        return HelloAnswer::Refused(j);
+    }
+    let n = payload_size(contents);
+    if out.len() < n {
+        return HelloAnswer::Refused(AREA_SHORT);
+    }
+    put_payload(contents, out);
+    HelloAnswer::Written(n)
+}
