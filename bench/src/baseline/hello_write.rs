@@ -106,6 +106,11 @@ impl Judge {
         if count > MOST_NICKNAMES {
             return None;
         }
+        // the next one's place does not wait for the load
+        if count == 0 {
+            size.add(CAPABILITY, CAPABILITY_HEAD, 0);
+            return Some(());
+        }
         let count = count as usize;
         let at = self.take(3 * count)?;
         let (mut first, mut others) = (0, 0);
@@ -172,9 +177,11 @@ struct Pen {
 
 impl Pen {
     /// The head of a sub-TLV, behind that of a TLV where none is open that takes it. Eight bytes have room: a sub-TLV of a GENINFO has six.
+    /// A TLV gets its length when the next one is opened, and the last one at the end.
     #[inline(always)]
     unsafe fn sub(&mut self, holder: u8, head: usize, kind: u8, value: usize) {
         if self.holder != holder || self.used + 2 + value > MOST {
+            *self.open.add(1) = self.used as u8;
             self.holder = holder;
             self.used = head;
             self.open = self.at;
@@ -184,9 +191,8 @@ impl Pen {
             self.at = self.at.add(2 + head);
         }
         self.used += 2 + value;
-        *self.open.add(1) = self.used as u8;
-        *self.at = kind;
-        *self.at.add(1) = value as u8;
+        let front = u16::from(kind) | (value as u16) << 8;
+        self.at.cast::<u16>().write_unaligned(front.to_le());
         self.at = self.at.add(2);
     }
 
@@ -222,15 +228,13 @@ impl Pen {
         self.at = self.at.add(2 * count);
     }
 
+    /// Records, one at least.
     #[inline(always)]
     unsafe fn records(&mut self, from: *const u8, count: usize) {
         let record = |index: usize| {
             let at = from.add(3 * NUMBER * index);
             raw(at, 0) >> 56 | raw(at, 1) >> 48 << 8 | raw(at, 2) >> 48 << 24
         };
-        if count == 0 {
-            return;
-        }
         for index in 0..count - 1 {
             self.wide(record(index), 5);
         }
@@ -284,9 +288,14 @@ pub unsafe extern "C" fn hello_write(
     let mut at = contents.add(4 * NUMBER);
     for _ in 0..number(contents, 3) {
         let count = number(at, 0) as usize;
+        at = at.add(NUMBER);
+        if count == 0 {
+            pen.sub(CAPABILITY, CAPABILITY_HEAD, NICKNAME, 0);
+            continue;
+        }
         pen.sub(CAPABILITY, CAPABILITY_HEAD, NICKNAME, 5 * count);
-        pen.records(at.add(NUMBER), count);
-        at = at.add(NUMBER * (1 + 3 * count));
+        pen.records(at, count);
+        at = at.add(NUMBER * 3 * count);
     }
     let count = number(at, 0);
     at = at.add(NUMBER);
@@ -309,5 +318,6 @@ pub unsafe extern "C" fn hello_write(
         pen.addresses(at.add(4 * NUMBER), count);
         at = at.add(NUMBER * (4 + count));
     }
+    *pen.open.add(1) = pen.used as u8;
     WRITTEN | (size.length as u64) << 8
 }

@@ -77,9 +77,23 @@ pub fn run(report: &Report) {
         "hello read: 9,000 bytes of empty TLVs (worst)",
         &skipped,
     );
-    for (name, payload) in payloads() {
+    for (name, payload) in written() {
         write(report, &format!("hello write: {name}"), &contents(&payload));
     }
+}
+
+/// Payloads as they are written, by name.
+fn written() -> Vec<(&'static str, Vec<u8>)> {
+    let one = tlv(GENINFO, &vec![piece(23, &value(4 + 6)); 21]);
+    let none = tlv(CAPABILITY, &vec![piece(6, &[]); 125]);
+    let mut all = payloads();
+    all.truncate(4);
+    all.push(("9,000 bytes, a MAC in a sub-TLV", payload(LONG, &one)));
+    all.push((
+        "9,000 bytes of empty sub-TLVs (worst)",
+        payload(LONG, &none),
+    ));
+    all
 }
 
 /// The contents of a payload.
