@@ -18,5 +18,6 @@ int write_command(const struct options *options);
 int why_command(const struct options *options);
 int report_command(const struct options *options);
 int hello_command(const struct options *options);
+int hello_write_command(const struct options *options);
 
 #endif

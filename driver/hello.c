@@ -26,22 +26,38 @@ static void parameters(struct shinglebar_contents *it)
     line_out(&line);
 }
 
-static void nickname_record(struct shinglebar_contents *it)
+static void nickname_record(struct shinglebar_contents *it, int first)
 {
     uint64_t priority = shinglebar_contents_next(it), root = shinglebar_contents_next(it);
     uint64_t nickname = shinglebar_contents_next(it);
     if (line.json) {
+        json_open(&line, NULL, "{");
         json_hex(&line, "nickname", nickname, 4);
         json_number(&line, "priority", priority);
         json_number(&line, "tree_root_priority", root);
-    } else {
-        text_put(&line, "nickname ");
-        text_hex(&line, nickname, 4);
-        text_put(&line, ", priority ");
-        text_number(&line, priority);
-        text_put(&line, ", tree root priority ");
-        text_number(&line, root);
+        json_close(&line, "}");
+        return;
     }
+    text_put(&line, first ? " " : "; nickname ");
+    text_hex(&line, nickname, 4);
+    text_put(&line, ", priority ");
+    text_number(&line, priority);
+    text_put(&line, ", tree root priority ");
+    text_number(&line, root);
+}
+
+/* The records of a Nickname sub-TLV, which may have none. */
+static void nicknames(struct shinglebar_contents *it)
+{
+    uint64_t count = shinglebar_contents_next(it);
+    if (line.json)
+        json_open(&line, "nicknames", "[");
+    else
+        text_put(&line, count == 0 ? "nickname none" : "nickname");
+    for (uint64_t at = 0; at < count; at++)
+        nickname_record(it, at == 0);
+    if (line.json)
+        json_close(&line, "]");
     line_out(&line);
 }
 
@@ -106,12 +122,11 @@ int hello_command(const struct options *options)
     if (shinglebar_is_refusal(answer))
         return bad_data("refused %u: %s", shinglebar_refusal(answer), shinglebar_refusal_string(answer));
     struct shinglebar_contents it = shinglebar_contents_of(contents, shinglebar_hello_length(answer));
-    uint64_t count, records;
+    uint64_t count;
     shinglebar_contents_next(&it);
     parameters(&it);
     for (count = shinglebar_contents_next(&it); count > 0; count--)
-        for (records = shinglebar_contents_next(&it); records > 0; records--)
-            nickname_record(&it);
+        nicknames(&it);
     for (count = shinglebar_contents_next(&it); count > 0; count--)
         trees(&it);
     for (count = shinglebar_contents_next(&it); count > 0; count--)

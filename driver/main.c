@@ -52,6 +52,8 @@ int main(int count, char **words)
         return report_command(&options);
     case HELLO:
         return hello_command(&options);
+    case HELLO_WRITE:
+        return hello_write_command(&options);
     }
     return 2;
 }

@@ -15,7 +15,7 @@
 /* A capture, with the settings of its port, may be named or left out. */
 #define MAY_HAVE_CAPTURE WHY
 #define WITH_PAIR (LOOKUP | SET | UNSET)
-#define WITH_ANY (WITH_SETTINGS | WITH_TABLE | WRITE | HELLO)
+#define WITH_ANY (WITH_SETTINGS | WITH_TABLE | WRITE | HELLO | HELLO_WRITE)
 #define RFC6325_CONFIDENCE 32
 /* A configured record is not displaced by a learned one whatever its confidence; the highest says so. */
 #define SET_CONFIDENCE 255
@@ -94,6 +94,8 @@ static const struct option OPTIONS[] = {
     {"--fgl", "N", "of the address only the record with this fine-grained label", NUMBER, WHY, 0, AT(label), 0, 0xFFFFFF},
     {"--hex", "DIGITS", "the payload of a flush in hexadecimal digits, in place of a capture", BYTES, WHY, 0, AT(digits), 0, 0},
     {"--hex", "DIGITS", "the payload of a Smart-Hello in hexadecimal digits", BYTES, HELLO, HELLO, AT(digits), 0, 0},
+    {"--text", "FILE", "the contents, lines as `hello` prints them; - is standard input", TEXT, HELLO_WRITE, HELLO_WRITE,
+     AT(text), 0, 0},
     {"--ingress", "HEX", "the ingress nickname of the flush of --hex", NICKNAME, WHY, 0, AT(ingress), 0, 0xFFFF},
     {"--by", "SECONDS", "the seconds that have passed, 0 to 65535", NUMBER, AGE, AGE, AT(by), 0, 65535},
     {"--no-ageing", NULL, "no time passes for the table", FLAG, RECEIVE | WHY, 0, AT(no_ageing), 0, 0},
@@ -163,8 +165,18 @@ static const struct {
      "count; then the free and the spoilt slots. It is what the program `morning_report` prints of the records. Exit status 1\n"
      "if the file is no table: its report is `refused 2`.\n"},
     {HELLO, "hello", "tells what the payload of a Smart-Hello says",
-     "A line for the holding time and flags, one for each nickname, each list of trees and each list of addresses, in the\n"
-     "order of the payload for each kind. Exit status 1 if it is refused.\n"},
+     "A line for the holding time and flags, one for each list of nicknames, of trees and of addresses, in the order of the\n"
+     "payload for each kind. Exit status 1 if it is refused.\n"},
+    {HELLO_WRITE, "hello-write", "writes the payload of a Smart-Hello from such lines",
+     "Prints the payload in hexadecimal digits, as `hello --hex` takes it. The lines are those of `hello`, a sub-TLV each, in\n"
+     "any order of the kinds; empty ones, and what follows a #, mean nothing:\n"
+     "  holding time 30 s, flags 0000\n"
+     "  nickname 1234, priority 64, tree root priority 32768; nickname 1235, priority 1, tree root priority 0\n"
+     "  trees from 1: 1234 1235\n"
+     "  VLAN 10, multihomed: 02-00-00-00-00-01 02-00-00-00-00-02\n"
+     "  FGL 11259375: 02-00-00-00-00-03\n"
+     "Exit status 1 if a line is in another form or they are refused: a number over its field, a list that no TLV holds, the\n"
+     "holding time not there once.\n"},
     {SEND, "send", "sends the General frames of a capture out of a Linux interface",
      "Needs CAP_NET_RAW. The settings are the far port's: a frame is compacted where it may be, if --compact is on.\n"
      "While the watch of --watch has seconds left, which `live` on the same machine writes, no frame is compacted.\n"},
@@ -186,7 +198,7 @@ static void help_all(FILE *to)
 {
     fputs("A port driver over the Shinglebar library.\n\n", to);
     for (size_t i = 0; i < COMMAND_COUNT; i++)
-        fprintf(to, "  %s %-8s %s\n", PROGRAM, COMMANDS[i].name, COMMANDS[i].help);
+        fprintf(to, "  %s %-11s %s\n", PROGRAM, COMMANDS[i].name, COMMANDS[i].help);
     fprintf(to,
             "\n`%s help COMMAND` lists a command's options, `--version` tells the version.\n"
             "Exit status: 0 done, 1 bad data, a failing file or interface, or nothing found, 2 bad usage, 3 frames lost.\n",
@@ -240,8 +252,12 @@ int read_number(const char *text, uint64_t *value)
     return strncmp(text, "0x", 2) == 0 ? read_digits(text + 2, 16, value) : read_digits(text, 10, value);
 }
 
-/* Twelve digits, with the same mark between each two or none. */
-static int read_address(const char *text, uint64_t *value)
+int read_hex(const char *text, uint64_t *value)
+{
+    return read_digits(strncmp(text, "0x", 2) == 0 ? text + 2 : text, 16, value);
+}
+
+int read_address(const char *text, uint64_t *value)
 {
     char digits[13] = "";
     char mark = strlen(text) == 17 ? text[2] : '\0';
@@ -335,7 +351,7 @@ static int take_value(const struct option *option, const char *text, struct opti
         return take_block(option, text, (struct list *)place);
     case NICKNAMES:
     case NICKNAME:
-        if (!read_digits(strncmp(text, "0x", 2) == 0 ? text + 2 : text, 16, &value) || value > option->most)
+        if (!read_hex(text, &value) || value > option->most)
             return bad_usage("%s takes up to four hexadecimal digits, not `%s`", option->name, text);
         if (option->form == NICKNAMES)
             return list_put((struct list *)place, value, option->least), 0;

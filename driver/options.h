@@ -24,7 +24,8 @@ enum command {
     INGRESS = 4096,
     WHY = 8192,
     REPORT = 16384,
-    HELLO = 32768
+    HELLO = 32768,
+    HELLO_WRITE = 65536
 };
 
 /* The payload of a flush or a Smart-Hello, at most as long as a frame has room for. */
@@ -69,12 +70,19 @@ struct options {
     uint32_t slot;
     int has_slot;
     int has_label;
-    /* A payload that was given as digits. */
+    /* A payload that was given as digits, and a file of lines that are to become one. */
     struct payload digits;
+    const char *text;
 };
 
 /* A number, decimal or hexadecimal after 0x, at most 2^48: 1, or 0 if the text is none. */
 int read_number(const char *text, uint64_t *value);
+
+/* The same, hexadecimal also without 0x. */
+int read_hex(const char *text, uint64_t *value);
+
+/* An address of twelve digits, with the same mark between each two or none: 1, or 0 if the text is none. */
+int read_address(const char *text, uint64_t *value);
 
 /* Reads the command line: -1 if the command is to be carried out, else the exit status (help, or bad usage, which is said). */
 int options_read(int count, char **words, struct options *options);

@@ -6,8 +6,9 @@
 #include <stddef.h>
 #include <stdint.h>
 
-/* More than the longest line: lists are cut to a few of their parts. What does not fit is left out. */
-#define TEXT_ROOM 16384
+/* More than the longest line, the digits of a payload as long as a frame: lists are cut to a few of their parts. What does not fit is
+ * left out. */
+#define TEXT_ROOM 20480
 
 struct text {
     int json;

@@ -183,6 +183,11 @@ enum shinglebar_hello_read_kind {
     SHINGLEBAR_HELLO_READ_WRITTEN = 64
 };
 
+enum shinglebar_hello_write_kind {
+    /* shinglebar_hello_length */
+    SHINGLEBAR_HELLO_WRITE_WRITTEN = 64
+};
+
 enum shinglebar_write_flush_kind {
     /* shinglebar_written_length */
     SHINGLEBAR_WRITE_FLUSH_WRITTEN = 64
@@ -470,6 +475,12 @@ uint64_t shinglebar_send(uint64_t port, uint64_t inner, uint32_t nickname, uint3
  * without Smart-Parameters, then 16. struct shinglebar_contents goes through such an area. */
 uint64_t shinglebar_hello_read(const uint8_t *payload, size_t payload_len, uint8_t *contents, size_t contents_len);
 
+/* Writes the payload of a Smart-Hello from such contents: Smart-Parameters, nicknames, trees, Smart-MACs, as many
+ * in a TLV as it holds. Answers 25 for contents of another form, a number over its field (with F 0 a label of more
+ * than 12 bits), over 49 records, 123 nicknames of trees or 41 MACs in one; then 26, then 16. What is written may be
+ * longer than the payload that was read: sorted by kind, sub-TLVs can fill their TLVs less well. */
+uint64_t shinglebar_hello_write(const uint8_t *contents, size_t contents_len, uint8_t *out, size_t out_len);
+
 /* Writes the payload of an Address Flush from four lists, each number most significant byte first:
  * nicknames of 2 bytes (none: the sender), blocks of VLANs (start 2, end 2), of fine-grained labels (4, 4)
  * and of MACs (8, 8; none: every MAC). At most 255 in a list, at least one block of labels. Lists that
@@ -610,7 +621,7 @@ static inline size_t shinglebar_written_length(uint64_t result)
     return (size_t)((result >> 8) & 0xFFFFu);
 }
 
-/* Of SHINGLEBAR_HELLO_READ_WRITTEN: the bytes written to the area. */
+/* Of SHINGLEBAR_HELLO_READ_WRITTEN and SHINGLEBAR_HELLO_WRITE_WRITTEN: the bytes written to the area. */
 static inline size_t shinglebar_hello_length(uint64_t result)
 {
     return (size_t)(result >> 8);
@@ -896,6 +907,13 @@ static inline uint64_t shinglebar_hello_read_any(const uint8_t *payload, size_t 
 {
     return shinglebar_hello_read(shinglebar_const_area(payload, payload_len), payload_len,
                                  shinglebar_area(contents, contents_len), contents_len);
+}
+
+static inline uint64_t shinglebar_hello_write_any(const uint8_t *contents, size_t contents_len, uint8_t *out,
+                                                  size_t out_len)
+{
+    return shinglebar_hello_write(shinglebar_const_area(contents, contents_len), contents_len,
+                                  shinglebar_area(out, out_len), out_len);
 }
 
 /* The numbers of a contents area that are left, and whether one was asked for that is not there. */

@@ -6,9 +6,9 @@
 pub use shinglebar::exports::{
     shinglebar_age, shinglebar_compact, shinglebar_expand, shinglebar_flush,
     shinglebar_flush_portion, shinglebar_flush_vlan_only, shinglebar_free_slot,
-    shinglebar_hello_read, shinglebar_ingress, shinglebar_lookup, shinglebar_receive,
-    shinglebar_receive_port, shinglebar_report, shinglebar_send, shinglebar_spoilt, shinglebar_why,
-    shinglebar_widen, shinglebar_write_flush,
+    shinglebar_hello_read, shinglebar_hello_write, shinglebar_ingress, shinglebar_lookup,
+    shinglebar_receive, shinglebar_receive_port, shinglebar_report, shinglebar_send,
+    shinglebar_spoilt, shinglebar_why, shinglebar_widen, shinglebar_write_flush,
 };
 
 pub type Lookup = unsafe extern "C" fn(
@@ -66,7 +66,7 @@ pub type Receive = unsafe extern "C" fn(
     out_len: usize,
 ) -> u64;
 
-/// Of widen, report and hello_read.
+/// Of widen, report, hello_read and hello_write.
 pub type Widen =
     unsafe extern "C" fn(old: *const u8, old_len: usize, out: *mut u8, out_len: usize) -> u64;
 

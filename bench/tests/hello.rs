@@ -1,9 +1,9 @@
-//! The hand-written reading of Smart-Hellos is the library's on random payloads, in areas with and without room.
+//! The hand-written reading and writing of Smart-Hellos are the library's on random payloads and contents, in areas with and without room.
 //!
 //! SHINGLEBAR_SEED and SHINGLEBAR_CASES set the seed and the count.
 
 use shinglebar_bench::baseline;
-use shinglebar_bench::library::{shinglebar_hello_read, Widen};
+use shinglebar_bench::library::{shinglebar_hello_read, shinglebar_hello_write, Widen};
 use shinglebar_bench::random::Random;
 
 fn number_of(variable: &str, otherwise: u64) -> u64 {
@@ -89,6 +89,108 @@ fn the_hand_written_reading_is_the_library_s() {
         for room in [length, length - 1, random.between(0, length), 1 << 14] {
             let ours = call(shinglebar_hello_read, &payload, room);
             let theirs = call(baseline::hello_read, &payload, room);
+            assert!(
+                ours == theirs,
+                "seed {seed}: {:#x} and {:#x}",
+                ours.0,
+                theirs.0
+            );
+            counts[match ours.0 & 0xFF {
+                16 => 0,
+                25 => 1,
+                26 => 2,
+                _ => 3,
+            }] += 1;
+        }
+    }
+    assert!(counts.iter().all(|&count| count > cases / 10), "{counts:?}");
+}
+
+/// A count, which is now and then one that no TLV holds.
+fn length(random: &mut Random, most: u64) -> u64 {
+    match random.between(0, 40) {
+        0 => most + 1,
+        1..=3 => most,
+        4..=8 => random.between(0, most),
+        _ => random.between(0, 4),
+    }
+}
+
+/// A number of so many bits, and now and then one more.
+fn field(random: &mut Random, bits: u32) -> u64 {
+    match random.one_in(800) {
+        true => 1 << random.between(bits.into(), 63),
+        false => random.between(0, (1 << bits) - 1),
+    }
+}
+
+/// The numbers of a contents area, mostly good ones.
+fn numbers(random: &mut Random) -> Vec<u64> {
+    let mut all = vec![if random.one_in(8) { 0 } else { 1 }];
+    if random.one_in(60) {
+        all[0] = 2;
+    }
+    for _ in 0..all[0] {
+        all.extend([field(random, 16), field(random, 16)]);
+    }
+    let count = random.between(0, 4);
+    all.push(count);
+    for _ in 0..count {
+        let records = length(random, 49);
+        all.push(records);
+        for _ in 0..records {
+            all.extend([field(random, 8), field(random, 16), field(random, 16)]);
+        }
+    }
+    let count = random.between(0, 4);
+    all.push(count);
+    for _ in 0..count {
+        let trees = length(random, 123);
+        all.extend([field(random, 16), trees]);
+        all.extend((0..trees).map(|_| field(random, 16)));
+    }
+    let count = random.between(0, 4);
+    all.push(count);
+    for _ in 0..count {
+        let fine = field(random, 1);
+        let macs = length(random, 41);
+        let bits = if fine == 1 { 24 } else { 12 };
+        all.extend([fine, field(random, 1), field(random, bits), macs]);
+        all.extend((0..macs).map(|_| field(random, 48)));
+    }
+    if random.one_in(20) {
+        let at = random.between(0, all.len() as u64 - 1) as usize;
+        all[at] = match random.between(0, 3) {
+            0 => u64::MAX,
+            1 => u64::MAX / 3 + 1,
+            2 => 1 << random.between(0, 63),
+            _ => random.between(0, 60),
+        };
+    }
+    all
+}
+
+#[test]
+fn the_hand_written_writing_is_the_library_s() {
+    let first = number_of("SHINGLEBAR_SEED", 1);
+    let cases = number_of("SHINGLEBAR_CASES", 30_000);
+    let mut counts = [0; 4];
+    for seed in first..first + cases {
+        let mut random = Random::new(seed);
+        let mut contents: Vec<u8> = numbers(&mut random)
+            .iter()
+            .flat_map(|number| number.to_be_bytes())
+            .collect();
+        if random.one_in(20) {
+            contents.truncate(random.between(0, contents.len() as u64) as usize);
+        } else if random.one_in(40) {
+            contents.extend(bytes(&mut random, 8));
+        }
+        let (word, _) = call(shinglebar_hello_write, &contents, 1 << 14);
+        let length = if word & 0xFF == 64 { word >> 8 } else { 11 };
+        for room in [length, length - 1, random.between(0, length), 1 << 14] {
+            let ours = call(shinglebar_hello_write, &contents, room);
+            let theirs = call(baseline::hello_write, &contents, room);
             assert!(
                 ours == theirs,
                 "seed {seed}: {:#x} and {:#x}",

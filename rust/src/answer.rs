@@ -10,7 +10,7 @@
 //! | why | 64 free, 65 spoilt, 66 configured, 67 nickname, 68 label, 69 MAC not meant | |
 //! | why | 70 cleared | 8..15 nickname place, 16 sender, 17 label by a TLV, 18..39 label place, 40..61 MAC place, 63 every MAC |
 //! | compact, expand, ingress, widen, write_flush, report | 64 written | 8..23 length |
-//! | hello_read | 64 written | 8..63 length |
+//! | hello_read, hello_write | 64 written | 8..63 length |
 //! | send, send_watched | 64 compacted | 8..23 length |
 //! | send, send_watched | 65 the frame itself | |
 //! | lookup | 64 found | 8..23 nickname |
@@ -40,6 +40,8 @@ const REFUSED_REPORT: u16 = 10;
 const REPORTS: RangeInclusive<u16> = 16..=REPORT_LENGTH_MAX as u16;
 /// The bytes of contents that have Smart-Parameters and nothing else: six numbers.
 const LEAST_CONTENTS: u64 = 48;
+/// The bytes of a Smart-Hello that has nothing else: a TLV of 9 bytes.
+const LEAST_HELLO: u64 = 11;
 /// The records of a table that can be cleared, and its slots.
 const COUNTS: RangeInclusive<u16> = 0..=4096;
 const SLOTS: RangeInclusive<u16> = 0..=4095;
@@ -257,6 +259,13 @@ pub struct Reported {
 #[derive(Clone, Copy, Debug, PartialEq, Eq, Hash)]
 pub struct ReadHello {
     /// The bytes written, a multiple of 8.
+    pub length: usize,
+}
+
+/// The payload of a Smart-Hello starts the output area.
+#[derive(Clone, Copy, Debug, PartialEq, Eq, Hash)]
+pub struct WrittenHello {
+    /// The bytes written.
     pub length: usize,
 }
 
@@ -641,6 +650,21 @@ impl Answer for ReadHello {
         let length = word >> 8;
         let whole = length % 8 == 0 && length >= LEAST_CONTENTS;
         (kind(word) == 64 && whole).then_some(ReadHello {
+            length: usize::try_from(length).ok()?,
+        })
+    }
+
+    fn word(&self) -> u64 {
+        with_length(64, self.length)
+    }
+}
+
+impl Answer for WrittenHello {
+    const REFUSALS: &'static [Refusal] = ReadHello::REFUSALS;
+
+    fn from_word(word: u64) -> Option<WrittenHello> {
+        let length = word >> 8;
+        (kind(word) == 64 && length >= LEAST_HELLO).then_some(WrittenHello {
             length: usize::try_from(length).ok()?,
         })
     }

@@ -176,6 +176,13 @@ extern "C" {
         contents_len: usize,
     ) -> u64;
 
+    pub fn shinglebar_hello_write(
+        contents: *const u8,
+        contents_len: usize,
+        out: *mut u8,
+        out_len: usize,
+    ) -> u64;
+
     pub fn shinglebar_write_flush(
         nicknames: *const u8,
         nicknames_len: usize,

@@ -9,7 +9,7 @@ use core::fmt;
 use crate::{answered, raw, Mac, ReadHello, Refusal};
 
 /// The bytes of a number of an area.
-const NUMBER: usize = 8;
+pub(crate) const NUMBER: usize = 8;
 
 /// Reads the payload of a Smart-Hello into its contents area. For each kind of sub-TLV the contents have those of the payload in
 /// order; whatever else is in it is skipped.

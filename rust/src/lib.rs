@@ -19,7 +19,7 @@
 //! | [`send_watched`], [`Watch`] | the same at a port that stops compacting when the link looks shared |
 //! | [`lookup`], [`age`], [`spoilt`], [`free_slot`] | the address table |
 //! | [`report`] | writes the morning report of a table |
-//! | [`hello_read`] | reads the payload of a Smart-Hello into its contents |
+//! | [`hello_read`], [`hello_write`] | read the payload of a Smart-Hello into its contents, and write one |
 //! | [`widen`] | makes an older table, of records of 14 bytes, one of 15 |
 //! | [`write_flush`] | writes the payload of an Address Flush |
 //!
@@ -68,6 +68,7 @@ mod answer;
 #[allow(unsafe_code)]
 pub mod exports;
 mod hello;
+mod hello_write;
 pub mod raw;
 mod refusal;
 mod values;
@@ -77,9 +78,10 @@ mod write;
 pub use answer::{
     decode, encode, Aged, Answer, Compacted, Expanded, Flushed, Found, FreeSlot, Ingressed,
     LabelBy, Learning, MacBy, NicknameBy, Portioned, ReadHello, Received, ReceivedAtPort, Reported,
-    Sent, Spoilt, UnknownWord, Why, Widened, Written,
+    Sent, Spoilt, UnknownWord, Why, Widened, Written, WrittenHello,
 };
 pub use hello::{hello_read, Contents, NicknameRecord, Nicknames, SmartMac, Trees};
+pub use hello_write::{hello_write, ContentsWriter};
 pub use refusal::Refusal;
 pub use values::{CampusLabel, Encapsulation, Label, Mac, Outer, Pair, PortVlan, Settings};
 pub use watch::{send_watched, Event, Left, Watch};

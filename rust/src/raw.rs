@@ -333,6 +333,21 @@ pub fn hello_read(payload: &[u8], contents: &mut [u8]) -> u64 {
     }
 }
 
+/// Writes the payload of a Smart-Hello from a contents area.
+#[inline]
+pub fn hello_write(contents: &[u8], out: &mut [u8]) -> u64 {
+    // SAFETY: two slices: neither is null, each is as long as said, and the one that is lent for
+    // writing overlaps nothing, being `&mut`.
+    unsafe {
+        exports::shinglebar_hello_write(
+            contents.as_ptr(),
+            contents.len(),
+            out.as_mut_ptr(),
+            out.len(),
+        )
+    }
+}
+
 /// Names the lowest spoilt slot.
 #[inline]
 pub fn spoilt(table: &[u8]) -> u64 {

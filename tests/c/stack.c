@@ -246,10 +246,19 @@ static uint64_t call_report(void)
     return shinglebar_report(table, sizeof table, text, sizeof text);
 }
 
+static uint8_t hello_contents[16 * PAYLOAD_MAX];
+static size_t hello_contents_length;
+static uint8_t hello_written[2 * PAYLOAD_MAX];
+
 static uint64_t call_hello_read(void)
 {
-    static uint8_t contents[16 * PAYLOAD_MAX];
-    return shinglebar_hello_read(payload, payload_length, contents, sizeof contents);
+    return shinglebar_hello_read(payload, payload_length, hello_contents, sizeof hello_contents);
+}
+
+/* With what was read before. */
+static uint64_t call_hello_write(void)
+{
+    return shinglebar_hello_write(hello_contents, hello_contents_length, hello_written, sizeof hello_written);
 }
 
 static uint64_t call_age(void)
@@ -435,13 +444,17 @@ static void make_hello(size_t room)
 static void hellos(void)
 {
     static const size_t ROOMS[] = {11, 100, 300, 1000, 9000, PAYLOAD_MAX};
-    size_t read = 0, took, r;
+    size_t read = 0, written = 0, took, r;
     for (r = 0; r < sizeof ROOMS / sizeof ROOMS[0]; r++) {
         make_hello(ROOMS[r]);
         took = taken("hello_read", call_hello_read, SHINGLEBAR_HELLO_READ_WRITTEN);
         read = took > read ? took : read;
+        hello_contents_length = shinglebar_hello_length(call_hello_read());
+        took = taken("hello_write", call_hello_write, SHINGLEBAR_HELLO_WRITE_WRITTEN);
+        written = took > written ? took : written;
     }
     within("hello_read", read, SHINGLEBAR_STACK_MAX_WITHOUT_FLUSH);
+    within("hello_write", written, SHINGLEBAR_STACK_MAX_WITHOUT_FLUSH);
 }
 
 /* Reading without a flush and ingress, with maps of so many pairs. */

@@ -6,6 +6,7 @@
 use shinglebar::{
     decode, encode, raw, Aged, Answer, Compacted, Expanded, Flushed, Found, FreeSlot, Ingressed,
     Portioned, ReadHello, Received, ReceivedAtPort, Reported, Sent, Spoilt, Why, Widened, Written,
+    WrittenHello,
 };
 
 use crate::lend::Lend;
@@ -202,6 +203,14 @@ pub fn hello_read(lender: &mut impl Lend, payload: &[u8], contents: &mut [u8]) -
         [("payload", payload)],
         [("contents area", contents)],
         |[payload], [contents]| raw::hello_read(payload, contents),
+    ))
+}
+
+pub fn hello_write(lender: &mut impl Lend, contents: &[u8], out: &mut [u8]) -> u64 {
+    known::<WrittenHello>(lender.lend(
+        [("contents area", contents)],
+        [("output area", out)],
+        |[contents], [out]| raw::hello_write(contents, out),
     ))
 }
 

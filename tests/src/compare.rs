@@ -347,6 +347,20 @@ pub fn hello_read(lender: &mut impl Lend, payload: &[u8], contents: &mut [u8]) -
     paper
 }
 
+pub fn hello_write(lender: &mut impl Lend, contents: &[u8], out: &mut [u8]) -> u64 {
+    let mut after = out.to_vec();
+    let library = boundary::hello_write(lender, contents, &mut after);
+    let paper = reference::hello_write(contents, out);
+    assert!(
+        library == paper && after == out,
+        "hello_write: {}{}contents {}",
+        words(library, paper),
+        difference("output area", &after, out),
+        hex(contents)
+    );
+    paper
+}
+
 pub fn write_flush(
     lender: &mut impl Lend,
     nicknames: &[u8],

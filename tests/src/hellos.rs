@@ -76,6 +76,101 @@ pub fn contents(random: &mut Random) -> Contents {
     }
 }
 
+/// One of the contents' numbers over its field, or a list over what a TLV holds; what it is.
+pub fn spoil(random: &mut Random, contents: &mut Contents) -> &'static str {
+    let wide = |random: &mut Random, bits: u32| 1 << random.between(bits.into(), 63);
+    let parameters = contents.parameters.as_mut().expect("contents have them");
+    match random.below(12) {
+        0 => {
+            parameters.holding |= wide(random, 16);
+            "holding time"
+        }
+        1 => {
+            parameters.flags |= wide(random, 16);
+            "flags"
+        }
+        at @ 2..=4 => {
+            let mut record = Nickname {
+                priority: 0,
+                root_priority: 0,
+                nickname: 0,
+            };
+            match at {
+                2 => record.priority = wide(random, 8),
+                3 => record.root_priority = wide(random, 16),
+                _ => record.nickname = wide(random, 16),
+            }
+            let mut list = nicknames(random);
+            list.truncate(48);
+            let place = random.length(0, list.len());
+            list.insert(place, record);
+            contents.nicknames.push(list);
+            ["priority", "root priority", "nickname"][at as usize - 2]
+        }
+        5 => {
+            contents.nicknames.push(vec![
+                Nickname {
+                    priority: 0,
+                    root_priority: 0,
+                    nickname: 0,
+                };
+                50
+            ]);
+            "50 records"
+        }
+        6 => {
+            let mut tree = trees(random);
+            tree.nicknames.truncate(122);
+            let number = wide(random, 16);
+            match random.below(2) {
+                0 => tree.start = number,
+                _ => tree.nicknames.push(number),
+            }
+            contents.trees.push(tree);
+            "a number of a tree"
+        }
+        7 => {
+            contents.trees.push(Trees {
+                start: 1,
+                nicknames: vec![1; 124],
+            });
+            "124 nicknames of trees"
+        }
+        8 => {
+            let mut mac = smart_mac(random);
+            match random.below(2) {
+                0 => mac.fine = random.pick(&[2, 3, 1 << 32, u64::MAX]),
+                _ => mac.multihomed = random.pick(&[2, 3, 1 << 32, u64::MAX]),
+            }
+            contents.macs.push(mac);
+            "F or M"
+        }
+        9 => {
+            let mut mac = smart_mac(random);
+            mac.fine = 0;
+            mac.label = 1 << random.between(12, 23);
+            contents.macs.push(mac);
+            "a label of more than 12 bits with F 0"
+        }
+        10 => {
+            let mut mac = smart_mac(random);
+            mac.label = wide(random, 24);
+            contents.macs.push(mac);
+            "a label of more than 24 bits"
+        }
+        _ => {
+            let mut mac = smart_mac(random);
+            mac.macs.truncate(40);
+            match random.below(2) {
+                0 => mac.macs.push(wide(random, 48)),
+                _ => mac.macs = vec![1; 42],
+            }
+            contents.macs.push(mac);
+            "a MAC, or 42 of them"
+        }
+    }
+}
+
 /// A piece: type, length, value.
 fn piece(kind: u8, value: &[u8]) -> Vec<u8> {
     let mut bytes = vec![kind, value.len() as u8];
@@ -190,11 +285,6 @@ fn grouped(random: &mut Random) -> Vec<u8> {
     let mut tlvs: Vec<(u8, Vec<u8>)> = Vec::new();
     let apart = random.one_in(2);
     for (holder, sub) in subs {
-        let head: &[u8] = if holder == GENINFO {
-            &[0, 0, 1]
-        } else {
-            &[0; 5]
-        };
         let split = apart && random.one_in(3);
         // the first TLV of this kind that has room, whatever stands between
         let room = tlvs
@@ -202,7 +292,7 @@ fn grouped(random: &mut Random) -> Vec<u8> {
             .find(|(kind, value)| *kind == holder && value.len() + sub.len() <= 255 && !split);
         match room {
             Some((_, value)) => value.extend(sub),
-            None => tlvs.push((holder, [head, &sub].concat())),
+            None => tlvs.push((holder, [head(holder), &sub].concat())),
         }
     }
     tlvs.iter()
@@ -213,16 +303,139 @@ fn grouped(random: &mut Random) -> Vec<u8> {
 /// The sub-TLVs of a written payload with the type of their TLV.
 fn subs_of(written: &[u8]) -> Vec<(u8, Vec<u8>)> {
     let mut found = Vec::new();
-    let mut rest = written;
-    while let [holder, length, after @ ..] = rest {
-        let (value, next) = after.split_at(usize::from(*length));
-        let mut subs = &value[if *holder == GENINFO { 3 } else { 5 }..];
-        while !subs.is_empty() {
-            let (sub, left) = subs.split_at(2 + usize::from(subs[1]));
-            found.push((*holder, sub.to_vec()));
-            subs = left;
+    for (holder, value) in pieces_of(written) {
+        for (kind, value) in pieces_of(&value[head(holder).len()..]) {
+            found.push((holder, piece(kind, value)));
         }
-        rest = next;
     }
     found
+}
+
+/// The TLVs or sub-TLVs of bytes that hold whole ones: type and value.
+fn pieces_of(mut bytes: &[u8]) -> Vec<(u8, &[u8])> {
+    let mut found = Vec::new();
+    while let [kind, length, rest @ ..] = bytes {
+        let (value, next) = rest.split_at(usize::from(*length));
+        found.push((*kind, value));
+        bytes = next;
+    }
+    found
+}
+
+/// What the writer puts at the start of a TLV.
+fn head(holder: u8) -> &'static [u8] {
+    match holder {
+        GENINFO => &[0, 0, 1],
+        _ => &[0; 5],
+    }
+}
+
+/// Whether a payload that can be read is "as the writer's": nothing in it is skipped, and order, grouping and all that the contents don't
+/// hold are those of the writer.
+pub fn is_plain(payload: &[u8]) -> bool {
+    let tlvs = pieces_of(payload);
+    let mut ranks = Vec::new();
+    for (holder, value) in &tlvs {
+        if ![CAPABILITY, GENINFO].contains(holder) || !value.starts_with(head(*holder)) {
+            return false;
+        }
+        let subs = pieces_of(&value[head(*holder).len()..]);
+        if subs.is_empty() {
+            return false;
+        }
+        for (kind, value) in subs {
+            ranks.push(match (*holder, kind) {
+                (GENINFO, 22) => 0,
+                (CAPABILITY, 6) => 1,
+                (CAPABILITY, 8) => 2,
+                (GENINFO, 23) if no_reserved_bits(value) => 3,
+                _ => return false,
+            });
+        }
+    }
+    // the first sub-TLV of a TLV would not have gone into the one before
+    let full = tlvs.windows(2).all(|two| {
+        let [(before, value), (holder, next)] = two else {
+            return true;
+        };
+        let first = &next[head(*holder).len()..];
+        before != holder || value.len() + 2 + usize::from(first[1]) > 255
+    });
+    full && ranks.is_sorted()
+}
+
+/// F, M, 6 reserved bits, and with F 0 only the low 12 bits of the label.
+fn no_reserved_bits(smart_mac: &[u8]) -> bool {
+    let [first, high, middle, ..] = smart_mac else {
+        return false;
+    };
+    first & 0x3F == 0 && (first & 0x80 != 0 || (*high == 0 && middle & 0xF0 == 0))
+}
+
+/// Makes a payload of the writer one that is read the same or nearly, but is not the writer's, mostly; what was done.
+pub fn disturb(random: &mut Random, payload: &mut Vec<u8>) -> &'static str {
+    let mut tlvs: Vec<(u8, Vec<u8>)> = pieces_of(payload)
+        .iter()
+        .map(|(kind, value)| (*kind, value.to_vec()))
+        .collect();
+    let at = random.length(0, tlvs.len() - 1);
+    let other = (at + 1) % tlvs.len();
+    let front = head(tlvs[at].0).len();
+    let done = match random.below(7) {
+        0 => {
+            // not the application, and no address
+            let place = random.length(0, front - 1);
+            match tlvs[at].0 {
+                GENINFO => tlvs[at].1[0] = random.pick(&[0x01, 0x02, 0x10, 0x80]),
+                _ => tlvs[at].1[place] = random.byte(),
+            }
+            "a flag of a TLV"
+        }
+        1 => {
+            if let Some((_, value)) = tlvs.iter_mut().rev().find(|(kind, _)| *kind == GENINFO) {
+                // the first sub-TLV of the last one
+                value[5] |= random.pick(&[0x01, 0x20, 0x3F]);
+            }
+            "a reserved bit"
+        }
+        2 => {
+            let kind = random.pick(&[CAPABILITY, GENINFO, 145]);
+            tlvs.insert(at, (kind, head(kind).to_vec()));
+            "a TLV more"
+        }
+        3 => {
+            if tlvs[at].1.len() <= 250 {
+                tlvs[at].1.extend([random.pick(&[0, 7, 24]), 0]);
+            }
+            "a sub-TLV more"
+        }
+        4 => {
+            tlvs.swap(at, other);
+            "two TLVs in the other order"
+        }
+        5 => {
+            let (one, two) = (tlvs[at].clone(), tlvs[other].clone());
+            let more = &two.1[head(two.0).len()..];
+            if at != other && one.0 == two.0 && one.1.len() + more.len() <= 255 {
+                tlvs[at].1.extend(more);
+                tlvs.remove(other);
+            }
+            "two TLVs made one"
+        }
+        _ => {
+            let value = tlvs[at].1.clone();
+            let (first, rest) = value[front..].split_at(2 + usize::from(value[front + 1]));
+            if !rest.is_empty() {
+                let kind = tlvs[at].0;
+                tlvs[at].1 = [head(kind), first].concat();
+                tlvs.insert(at + 1, (kind, [head(kind), rest].concat()));
+            }
+            "a TLV made two"
+        }
+    };
+    *payload = tlvs
+        .iter()
+        .flat_map(|(kind, value)| piece(*kind, value))
+        .collect();
+    done
 }

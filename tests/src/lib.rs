@@ -15,6 +15,7 @@
 //! | tests/why.rs | why, and flush beside it |
 //! | tests/report.rs | report, and the program `morning_report` |
 //! | tests/hello.rs | hello_read |
+//! | tests/hello_write.rs | hello_write, and hello_read with what it wrote |
 //! | tests/write.rs | write_flush, and flush with what it wrote |
 //! | tests/receive.rs | receive |
 //! | tests/convert.rs | compact, expand, send |
@@ -22,6 +23,7 @@
 //! | tests/formats.rs | receive, compact, flush, spoilt: the examples of docs/FORMATS.md |
 //! | tests/driver.rs | all, through the port driver |
 //! | tests/map.rs | receive_port, ingress, and receive and compact beside them |
+//! | tests/pairs.rs | receive_port, ingress, beside the program `replay`, which lends the map as a slice of pairs |
 //! | tests/lists.rs | receive_port, compact, lookup, age, spoilt: whole call lists |
 //! | tests/pages.rs | all, with areas against memory that cannot be accessed |
 //! | tests/words.rs | all, with typed answers; words that are no answers |

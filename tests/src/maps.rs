@@ -125,10 +125,15 @@ impl Defect {
 }
 
 fn map_of(random: &mut Random, pool: &Pool, count: usize) -> Vec<u8> {
+    mostly_good(random, pool, count, 8)
+}
+
+/// A map of so many pairs, one in so many of them with a defect.
+pub fn mostly_good(random: &mut Random, pool: &Pool, count: usize, bad: u64) -> Vec<u8> {
     let pairs = good_pairs(random, pool, count);
     let enough = |defect: Defect| pairs.len() > usize::from(defect.takes_two());
     let defect = random.pick(&Defect::ALL);
-    if random.one_in(8) && enough(defect) {
+    if random.one_in(bad) && enough(defect) {
         let at = match random.below(3) {
             0 => 0,
             1 => pairs.len() / 2,

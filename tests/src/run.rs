@@ -225,13 +225,22 @@ fn from_environment(name: &str) -> Option<u64> {
     }
 }
 
+/// The only case to run, where one is given.
+pub fn only() -> Option<u64> {
+    from_environment("SHINGLEBAR_CASE")
+}
+
 /// The seed given, or one of the time.
 fn seed() -> u64 {
-    from_environment("SHINGLEBAR_SEED").unwrap_or_else(|| {
+    given_seed().unwrap_or_else(|| {
         let time = SystemTime::now().duration_since(UNIX_EPOCH);
         let nanoseconds = time.map_or(0, |time| time.as_nanos() as u64);
         Random::new(nanoseconds).number()
     })
+}
+
+fn given_seed() -> Option<u64> {
+    from_environment("SHINGLEBAR_SEED")
 }
 
 /// The random numbers of a test that has no cases to count.
@@ -251,12 +260,35 @@ pub fn cases(
     share: u64,
     answers: Answers,
     situations: &[&'static str],
+    case: impl FnMut(&mut Random, &mut Tally),
+) {
+    cases_from(seed(), name, share, answers, situations, case);
+}
+
+/// The same with a seed of the test's own, unless another is given.
+pub fn cases_of_seed(
+    seed: u64,
+    name: &'static str,
+    share: u64,
+    answers: Answers,
+    situations: &[&'static str],
+    case: impl FnMut(&mut Random, &mut Tally),
+) {
+    let seed = given_seed().unwrap_or(seed);
+    cases_from(seed, name, share, answers, situations, case);
+}
+
+fn cases_from(
+    seed: u64,
+    name: &'static str,
+    share: u64,
+    answers: Answers,
+    situations: &[&'static str],
     mut case: impl FnMut(&mut Random, &mut Tally),
 ) {
-    let seed = seed();
     let asked = from_environment("SHINGLEBAR_CASES").unwrap_or(DEFAULT_CASES);
     let count = (asked / share).max(1);
-    let only = from_environment("SHINGLEBAR_CASE");
+    let only = only();
     say(&format!("{name}: seed {seed}, {count} cases\n"));
 
     let mut tally = Tally::new();

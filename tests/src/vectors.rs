@@ -13,8 +13,8 @@ use crate::run::{self, Answers};
 use crate::watched;
 
 /// What the program's input and table hold at most, and its output or working area.
-const ROOM: usize = 1024;
-const AREA: usize = 9216;
+pub const ROOM: usize = 1024;
+pub const AREA: usize = 9216;
 /// How many vectors of one answer are kept, of those with an area over 1,024 bytes, and how many vectors there are at least.
 const OF_EACH: usize = 16;
 const LONG_OF_EACH: usize = 3;
@@ -88,6 +88,10 @@ enum Call {
         room: usize,
         payload: Vec<u8>,
     },
+    HelloWrite {
+        room: usize,
+        contents: Vec<u8>,
+    },
     Write {
         nicknames: Vec<u8>,
         vlans: Vec<u8>,
@@ -121,6 +125,7 @@ const VLAN_ONLY: u8 = 0x27;
 const WHY: u8 = 0x28;
 const REPORT: u8 = 0x2E;
 const HELLO_READ: u8 = 0x2D;
+const HELLO_WRITE: u8 = 0x3D;
 
 /// The calls' numbers, and the answers that each must give in some vector.
 pub const ANSWERS: &[(u8, Answers)] = &[
@@ -142,8 +147,10 @@ pub const ANSWERS: &[(u8, Answers)] = &[
     (WHY, run::WHY),
     (REPORT, run::REPORT),
     (HELLO_READ, run::HELLO),
+    (HELLO_WRITE, run::HELLO),
 ];
-pub(crate) fn settings_bytes(settings: &Settings) -> Vec<u8> {
+
+pub fn settings_bytes(settings: &Settings) -> Vec<u8> {
     let mut bytes = Vec::new();
     bytes.extend(settings.port.to_be_bytes());
     bytes.extend(settings.inner.to_be_bytes());
@@ -154,7 +161,7 @@ pub(crate) fn settings_bytes(settings: &Settings) -> Vec<u8> {
     bytes
 }
 
-fn encapsulation_bytes(given: &Encapsulation) -> Vec<u8> {
+pub fn encapsulation_bytes(given: &Encapsulation) -> Vec<u8> {
     let mut bytes = Vec::new();
     bytes.extend(given.outer_destination.to_be_bytes());
     bytes.extend(given.outer_source.to_be_bytes());
@@ -281,6 +288,7 @@ impl Call {
             Call::Why { .. } => WHY,
             Call::Report { .. } => REPORT,
             Call::HelloRead { .. } => HELLO_READ,
+            Call::HelloWrite { .. } => HELLO_WRITE,
             Call::Write { .. } => WRITE,
             Call::ReceivePort { .. } => RECEIVE_PORT,
             Call::Ingress { .. } => INGRESS,
@@ -298,6 +306,7 @@ impl Call {
             | Call::Write { room, .. }
             | Call::Report { room }
             | Call::HelloRead { room, .. }
+            | Call::HelloWrite { room, .. }
             | Call::ReceivePort { room, .. }
             | Call::Ingress { room, .. } => *room,
             Call::Flush { .. }
@@ -393,6 +402,7 @@ impl Call {
             } => [&ingress.to_be_bytes()[..], &slot.to_be_bytes(), payload].concat(),
             Call::Report { room } => length(*room).to_vec(),
             Call::HelloRead { room, payload } => [&length(*room)[..], payload].concat(),
+            Call::HelloWrite { room, contents } => [&length(*room)[..], contents].concat(),
             Call::Portion {
                 ingress,
                 payload,
@@ -486,6 +496,9 @@ impl Call {
             } => reference::why(*ingress, payload, *slot, table),
             Call::Report { room } => reference::report(table, &mut area[..*room]),
             Call::HelloRead { room, payload } => reference::hello_read(payload, &mut area[..*room]),
+            Call::HelloWrite { room, contents } => {
+                reference::hello_write(contents, &mut area[..*room])
+            }
             Call::Write {
                 nicknames,
                 vlans,
@@ -518,11 +531,11 @@ struct Replay {
     answers: BTreeMap<(u8, u8), usize>,
 }
 
-fn hex(bytes: &[u8]) -> String {
+pub fn hex(bytes: &[u8]) -> String {
     bytes.iter().map(|byte| format!("{byte:02x}")).collect()
 }
 
-fn input_line(number: u8, body: &[u8]) -> String {
+pub fn input_line(number: u8, body: &[u8]) -> String {
     format!("{number:02x} {:04x} {}\n", body.len(), hex(body))
 }
 
@@ -797,6 +810,65 @@ fn offer_hello(replay: &mut Replay) {
     }
 }
 
+/// Writing Smart-Hellos (2026-13): the contents of the request, in areas with and without room, cut, too long and without parameters, and
+/// any.
+fn offer_hello_write(replay: &mut Replay) {
+    const NUMBERS: [u64; 19] = [
+        1,
+        30,
+        0,
+        1,
+        1,
+        0x40,
+        0x8000,
+        0x1234,
+        1,
+        1,
+        2,
+        0x1234,
+        0x1235,
+        1,
+        0,
+        1,
+        10,
+        1,
+        0x0200_0000_0001,
+    ];
+    let area =
+        |numbers: &[u64]| -> Vec<u8> { numbers.iter().flat_map(|n| n.to_be_bytes()).collect() };
+    let good = area(&NUMBERS);
+    let without = area(&[&[0], &NUMBERS[3..]].concat());
+    let mut wide = NUMBERS;
+    wide[16] = 0x1000;
+    for (room, contents) in [
+        (50, &good[..]),
+        (49, &good),
+        (60, &good),
+        (60, &good[..151]),
+        (60, &good[..144]),
+        (60, &area(&wide)),
+        (60, &without),
+        (0, &without),
+        (60, &area(&[&NUMBERS[..], &[0]].concat())),
+        (0, &[]),
+    ] {
+        let contents = contents.to_vec();
+        replay.offer(p1(), &Call::HelloWrite { room, contents });
+    }
+    for case in 0..400 {
+        let random = &mut Random::for_case(2614, case);
+        let mut found = hellos::contents(random);
+        match random.below(6) {
+            0 => drop(hellos::spoil(random, &mut found)),
+            1 => found.parameters = None,
+            _ => {}
+        }
+        let room = generate::area_length(random, found.write().map_or(0, |written| written.len()));
+        let contents = found.area();
+        replay.offer(p1(), &Call::HelloWrite { room, contents });
+    }
+}
+
 /// Flushes to write (2026-03): the two of the request; both sides of a full TLV of each kind; one short area; what is refused.
 fn write_calls() -> Vec<Call> {
     let many = |count: u64, width: usize| -> Vec<u8> {
@@ -965,7 +1037,15 @@ pub fn files() -> (String, String) {
     offer_portions(&mut replay);
     offer_vlan_only(&mut replay);
     let mut case = 0;
-    while !replay.is_whole(&[WRITE, RECEIVE_PORT, INGRESS, WHY, REPORT, HELLO_READ]) {
+    while !replay.is_whole(&[
+        WRITE,
+        RECEIVE_PORT,
+        INGRESS,
+        WHY,
+        REPORT,
+        HELLO_READ,
+        HELLO_WRITE,
+    ]) {
         assert!(
             case < 1_000_000,
             "an answer is missing: {:?}",
@@ -1007,7 +1087,7 @@ pub fn files() -> (String, String) {
         replay.offer(table, call);
     }
     let mut case = 0;
-    while !replay.is_whole(&[WHY, REPORT, HELLO_READ]) {
+    while !replay.is_whole(&[WHY, REPORT, HELLO_READ, HELLO_WRITE]) {
         assert!(
             case < 1_000_000,
             "an answer is missing: {:?}",
@@ -1022,6 +1102,7 @@ pub fn files() -> (String, String) {
     offer_why(&mut replay);
     offer_report(&mut replay);
     offer_hello(&mut replay);
+    offer_hello_write(&mut replay);
     assert!(
         replay.is_whole(&[]),
         "an answer is missing: {:?}",

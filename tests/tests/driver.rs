@@ -12,11 +12,13 @@ use std::time::{Duration, Instant};
 
 use shinglebar_tests::captures::{self, Form, PORT, USUAL};
 use shinglebar_tests::generate;
+use shinglebar_tests::hellos;
 use shinglebar_tests::maps;
 use shinglebar_tests::random::Random;
 use shinglebar_tests::reference::{
     self, write, Encapsulation, Entry, Label, OLD_RECORD, RECORD, TABLE,
 };
+use shinglebar_tests::run;
 
 /// The options of the settings `captures::PORT`.
 const SETTINGS: [&str; 8] = [
@@ -2143,8 +2145,9 @@ fn each_command_has_help_on_each_of_its_options() {
         "--confidence",
         "--seconds",
     ];
-    let commands: [(&str, &[&str], bool); 16] = [
+    let commands: [(&str, &[&str], bool); 17] = [
         ("hello", &["--hex", "--json"], false),
+        ("hello-write", &["--text", "--json"], false),
         ("report", &["--table", "--json"], false),
         (
             "receive",
@@ -2936,6 +2939,132 @@ fn hello_tells_what_a_smart_hello_says() {
         let output = run_in(&folder, &["hello", "--hex", digits]);
         assert!(text(&output.stderr).contains(refused));
         assert_eq!(output.status.code(), Some(1));
+    }
+}
+
+fn upper_hex(bytes: &[u8]) -> String {
+    bytes.iter().map(|byte| format!("{byte:02X}")).collect()
+}
+
+/// Document 02, 2026-13: what `hello` prints, `hello-write` makes a payload of: the one that it was, where the writer made that.
+#[test]
+fn hello_write_makes_the_payload_of_what_hello_prints() {
+    let folder = folder("hello_write");
+    let mut random = run::random("hello_write_makes_the_payload_of_what_hello_prints");
+    let mut otherwise = 0;
+    for case in 0..60 {
+        let payload = match case % 2 {
+            0 => hellos::contents(&mut random).write().expect("contents"),
+            _ => hellos::payload(&mut random).0,
+        };
+        let Ok(contents) = reference::Contents::read(&payload) else {
+            continue;
+        };
+        let written = contents.write().expect("what was read");
+        otherwise += usize::from(written != payload);
+        let said = good(&run_in(&folder, &["hello", "--hex", &upper_hex(&payload)]));
+        fs::write(folder.join("said"), &said).expect("lines");
+        let words = ["hello-write", "--text", "said"];
+        let digits = good(&run_in(&folder, &words));
+        assert_eq!(digits, upper_hex(&written) + "\n");
+        // the same facts, and from standard input in another order of the kinds
+        let object = good(&run_in(&folder, &[&words[..], &["--json"]].concat()));
+        let expected = format!(
+            "{{\"payload_bytes\":{},\"payload\":\"{}\"}}\n",
+            written.len(),
+            digits.trim()
+        );
+        assert_eq!(object, expected);
+        let kind = |line: &&str| line.starts_with("nickname");
+        let (first, rest): (Vec<&str>, Vec<&str>) = said.lines().partition(kind);
+        fs::write(folder.join("said"), [rest, first].concat().join("\n")).expect("lines");
+        let line = "\"$@\" <said";
+        assert_eq!(
+            good(&shell_in(&folder, line, &["hello-write", "--text", "-"])),
+            digits
+        );
+    }
+    assert!(otherwise > 5);
+}
+
+#[test]
+fn hello_write_takes_remarks_and_addresses_in_any_form() {
+    let folder = folder("hello_write_lines");
+    let lines = "# a console\n\n  holding  time 0x1E s, flags 5 # seconds\r\nVLAN 10: 02:00:00:00:00:01 020000000002\nFGL 11259375, multihomed:\n\
+                 nickname none\nnickname 0x1, priority 0, tree root priority 1; nickname FFFF, priority 255, tree root priority 65535\n\
+                 trees from 7:\n";
+    fs::write(folder.join("said"), lines).expect("lines");
+    let digits = good(&run_in(&folder, &["hello-write", "--text", "said"]));
+    assert_eq!(
+        digits,
+        "FB090000011604001E0005F21700000000000600060A0000010001FFFFFFFFFF08020007\
+         FB1B00000117100000000A0200000000010200000000021704C0ABCDEF\n"
+    );
+}
+
+#[test]
+fn hello_write_refuses_other_lines_and_what_cannot_be_written() {
+    let folder = folder("hello_write_bad");
+    let words = ["hello-write", "--text", "said"];
+    bad(&run_in(&folder, &words), 1, "said: No such file");
+    bad(&run_in(&folder, &words[..1]), 2, "--text FILE is needed");
+    let first = "holding time 30 s, flags 0000\n";
+    let macs = |count: usize| format!("VLAN 10:{}\n", " 02-00-00-00-00-01".repeat(count));
+    let many = |line: &str, count: usize| format!("{first}{}", line.repeat(count));
+    let trees = |count: usize| format!("{first}trees from 1:{}\n", " 1234".repeat(count));
+    let record = "nickname 1234, priority 1, tree root priority 2; ";
+    let records =
+        |count: usize| format!("{first}{}\n", record.repeat(count).trim_end_matches("; "));
+    let line = |line: &str| format!("{first}{line}\n");
+    for (lines, said) in [
+        (String::new(), "refused 26: "),
+        (macs(1), "refused 26: "),
+        (macs(42), "refused 25: "),
+        (many(first, 1), "refused 25: "),
+        (line("VLAN 4096:"), "refused 25: "),
+        (line("FGL 16777216:"), "refused 25: "),
+        (line("trees from 65536:"), "refused 25: "),
+        (line("trees from 1: 12345"), "refused 25: "),
+        (
+            line("nickname 1234, priority 256, tree root priority 0"),
+            "refused 25: ",
+        ),
+        ("holding time 65536 s, flags 0\n".into(), "refused 25: "),
+        (records(50), "refused 25: "),
+        (trees(124), "refused 25: "),
+        (many(&macs(42), 1), "refused 25: "),
+        (many(&macs(41), 36), "more than a frame has room for"),
+        (many(&macs(41), 400), "more than a frame has room for"),
+        (
+            line("trees of 1: 1234"),
+            "said: line 2 is not a line of `hello`",
+        ),
+        (line("nickname 1234"), "said: line 2 is not"),
+        (
+            line("nickname 1234, priority 1, tree root priority 2; 1235"),
+            "said: line 2 is not",
+        ),
+        (line("nickname none, priority 1"), "said: line 2 is not"),
+        (line("VLAN: 02-00-00-00-00-01"), "said: line 2 is not"),
+        (line("VLAN 10: 02-00-00-00-00"), "said: line 2 is not"),
+        (
+            line("VLAN 10: multihomed multihomed"),
+            "said: line 2 is not",
+        ),
+        (line("vlan 10:"), "said: line 2 is not"),
+        ("holding time 30 s\n".into(), "said: line 1 is not"),
+        (
+            "holding time 30 s, flags 0000 1\n".into(),
+            "said: line 1 is not",
+        ),
+        (line(&"#".repeat(30_000)), "said: line 2 is not"),
+    ] {
+        fs::write(folder.join("said"), &lines).expect("lines");
+        bad(&run_in(&folder, &words), 1, said);
+    }
+    for lines in [records(49), trees(123), many(&macs(41), 35)] {
+        fs::write(folder.join("said"), &lines).expect("lines");
+        good(&run_in(&folder, &words));
     }
 }
 

@@ -269,3 +269,23 @@ fn a_payload_as_long_as_a_frame_is_read() {
 fn the_header_passes_null_areas_and_walks_through_contents() {
     c_program::compile_and_run("null_hello.c");
 }
+
+/// The fuzz target of reading, without libFuzzer, on random payloads.
+#[test]
+fn the_fuzz_target_of_hello_finds_nothing_on_random_inputs() {
+    let mut random = run::random("the_fuzz_target_of_hello_finds_nothing_on_random_inputs");
+    c_program::fuzz_target("hello", 400, || {
+        let (mut payload, _) = hellos::payload(&mut random);
+        if random.one_in(6) && !payload.is_empty() {
+            generate::change_one_byte(&mut random, &mut payload);
+        }
+        let room = match random.one_in(4) {
+            true => random.number() as u16,
+            false => {
+                let read = Contents::read(&payload).map_or(0, |contents| contents.area().len());
+                generate::area_length(&mut random, read) as u16
+            }
+        };
+        [&room.to_be_bytes()[..], &payload].concat()
+    });
+}

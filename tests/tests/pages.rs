@@ -388,6 +388,31 @@ fn hello_read_touches_only_what_it_is_lent() {
     );
 }
 
+#[test]
+fn hello_write_touches_only_what_it_is_lent() {
+    let mut both = Pages::both();
+    run::cases(
+        "hello_write_touches_only_what_it_is_lent",
+        3 * SHARE,
+        run::HELLO,
+        &[],
+        |random, tally| {
+            let mut contents = hellos::contents(random);
+            if random.one_in(20) {
+                contents.parameters = None;
+            }
+            for numbers in variants(random, contents.area()) {
+                let written = Contents::of_area(&numbers).and_then(|found| found.write());
+                let length = generate::area_length(random, written.map_or(0, |out| out.len()));
+                let out = random.bytes(length);
+                for pages in &mut both {
+                    tally.word(compare::hello_write(pages, &numbers, &mut out.clone()));
+                }
+            }
+        },
+    );
+}
+
 /// How a program ends that makes an access.
 fn end_of(access: Access) -> ExitStatus {
     Command::new(env!("CARGO_BIN_EXE_access"))

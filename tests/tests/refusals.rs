@@ -120,6 +120,34 @@ fn hello_read_refuses_in_its_order() {
     }
 }
 
+/// 25 of any number is before 26, and both are before 16.
+#[test]
+fn hello_write_refuses_in_its_order() {
+    for (numbers, word) in [
+        (&[1, 30, 0, 0, 0, 0][..], 64 | 11 << 8),
+        (&[0, 0, 0, 0], 26),
+        (&[0, 0, 0, 1, 0, 0, 10, 0], 26),
+        (&[0, 0, 0, 1, 0, 0, 0x1000, 0], 25),
+        (&[0, 0, 0, 1, 0, 2, 10, 0], 25),
+        (&[0, 0, 0, 0, 0], 25),
+        (&[0, 0, 0], 25),
+        (&[2, 30, 0, 30, 0, 0, 0, 0], 25),
+        (&[1, 1 << 16, 0, 0, 0, 0], 25),
+        (&[1, 30, 0, 0, 0, 1], 25),
+        (&[1, 30, 0, 0, 0, 1, 0, 0, 0x1000, 0], 25),
+        (&[], 25),
+    ] {
+        let contents: Vec<u8> = numbers.iter().flat_map(|n: &u64| n.to_be_bytes()).collect();
+        for room in [0, 10, 11, 12] {
+            let mut out = vec![0xEE; room];
+            let expected = if word > 26 && room < 11 { 16 } else { word };
+            let called = raw::hello_write(&contents, &mut out);
+            assert_eq!(called, expected, "{numbers:?}, {room}");
+            assert!(called > 26 || out == vec![0xEE; room]);
+        }
+    }
+}
+
 /// What makes a call fail the test of a step; the number is that of `row`, which is another one where the
 /// step refers to it.
 struct Fault {

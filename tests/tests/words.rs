@@ -3,10 +3,10 @@
 //! taken for any.
 
 use shinglebar::{
-    decode, encode, raw, Aged, Answer, CampusLabel, Compacted, Contents, Encapsulation, Expanded,
-    Flushed, Found, Ingressed, Label, LabelBy, Learning, Mac, MacBy, NicknameBy, NicknameRecord,
-    Outer, Pair, PortVlan, Portioned, ReadHello, Received, ReceivedAtPort, Refusal, Reported, Sent,
-    Settings, Spoilt, Why, Widened,
+    decode, encode, raw, Aged, Answer, CampusLabel, Compacted, Contents, ContentsWriter,
+    Encapsulation, Expanded, Flushed, Found, Ingressed, Label, LabelBy, Learning, Mac, MacBy,
+    NicknameBy, NicknameRecord, Outer, Pair, PortVlan, Portioned, ReadHello, Received,
+    ReceivedAtPort, Refusal, Reported, Sent, Settings, Spoilt, Why, Widened, WrittenHello,
 };
 use shinglebar_tests::generate::{self, Pool};
 use shinglebar_tests::hellos;
@@ -164,6 +164,12 @@ impl Packed for Widened {
 impl Packed for Reported {
     fn packed(&self) -> u64 {
         value(64, self.length)
+    }
+}
+
+impl Packed for WrittenHello {
+    fn packed(&self) -> u64 {
+        64 + 0x100 * self.length as u64
     }
 }
 
@@ -556,6 +562,76 @@ fn typed_hello_read_gives_what_the_paper_says() {
     );
 }
 
+#[test]
+fn typed_hello_write_gives_what_the_paper_says() {
+    run::cases(
+        "typed_hello_write_gives_what_the_paper_says",
+        4,
+        run::HELLO,
+        &["made by ContentsWriter"],
+        |random, tally| {
+            let mut contents = hellos::contents(random);
+            match random.below(8) {
+                0 => contents.parameters = None,
+                1 => drop(hellos::spoil(random, &mut contents)),
+                _ => {
+                    assert_eq!(made(&contents), contents.area());
+                    tally.situation("made by ContentsWriter");
+                }
+            }
+            let numbers = contents.area();
+            let length = generate::area_length(random, contents.write().map_or(0, |out| out.len()));
+            let mut out = random.bytes(length);
+            let mut paper_out = out.clone();
+            let outcome = shinglebar::hello_write(&numbers, &mut out);
+            let paper = reference::hello_write(&numbers, &mut paper_out);
+            assert_eq!(packed(outcome), paper, "{outcome:?}");
+            assert!(out == paper_out);
+            tally.word(paper);
+        },
+    );
+}
+
+/// The area that a writer makes of contents whose numbers have their fields' sizes; in an area that is a byte short it makes none.
+fn made(contents: &reference::Contents) -> Vec<u8> {
+    let mut area = vec![0xEE; contents.area().len()];
+    let short = area.len() - 1;
+    assert_eq!(fill(&mut area[..short], contents), None);
+    assert_eq!(fill(&mut area, contents), Some(area.len()));
+    area
+}
+
+fn fill(area: &mut [u8], contents: &reference::Contents) -> Option<usize> {
+    let given = contents.parameters.expect("contents have them");
+    let mut writer = ContentsWriter::new(area, given.holding as u16, given.flags as u16);
+    writer.nicknames(contents.nicknames.len());
+    for records in &contents.nicknames {
+        let record = |record: &reference::Nickname| NicknameRecord {
+            priority: record.priority as u8,
+            root_priority: record.root_priority as u16,
+            nickname: record.nickname as u16,
+        };
+        writer.nickname(&records.iter().map(record).collect::<Vec<_>>());
+    }
+    writer.trees(contents.trees.len());
+    for trees in &contents.trees {
+        let nicknames: Vec<u16> = trees
+            .nicknames
+            .iter()
+            .map(|&number| number as u16)
+            .collect();
+        writer.tree(trees.start as u16, &nicknames);
+    }
+    writer.macs(contents.macs.len());
+    for smart in &contents.macs {
+        let mac = |&number: &u64| Mac::from_number(number).expect("a MAC");
+        let macs: Vec<Mac> = smart.macs.iter().map(mac).collect();
+        let label = smart.label as u32;
+        writer.mac(smart.fine == 1, smart.multihomed == 1, label, &macs);
+    }
+    writer.length()
+}
+
 /// What the typed contents show, as the second implementation has it.
 fn as_reference(contents: &Contents) -> reference::Contents {
     let record = |record: NicknameRecord| reference::Nickname {
@@ -762,6 +838,7 @@ fn a_word_that_is_no_answer_is_not_taken_for_one() {
     check_words::<Widened>("widen", run::WIDEN, &[bits(64, ONE_VALUE, 0x0F40)]);
     check_words::<Reported>("report", run::REPORT, &[bits(64, ONE_VALUE, 0x1940)]);
     check_words::<ReadHello>("hello_read", run::HELLO, &[bits(64, !0x7FF, 0x3040)]);
+    check_words::<WrittenHello>("hello_write", run::HELLO, &[bits(64, !0xFF, 0x0B40)]);
 }
 
 #[test]
@@ -797,6 +874,8 @@ fn values_that_no_answer_has_are_not_taken_for_one() {
     assert!(!report(0) && !report(9) && report(10) && !report(11) && !report(15));
     assert!(report(16) && report(25) && report(36_880) && !report(36_881));
     let contents = |length: u64| decode::<ReadHello>(64 | length << 8).is_ok();
+    let hello = |length: u64| decode::<WrittenHello>(64 | length << 8).is_ok();
+    assert!(!hello(0) && !hello(10) && hello(11) && hello(12));
     assert!(!contents(0) && !contents(40) && contents(48) && !contents(49) && contents(56));
 }
 
@@ -864,4 +943,6 @@ fn empty_slices_are_areas_too() {
     assert_eq!(raw::report(&[], &mut [0; 10]), 64 | 10 << 8);
     assert_eq!(raw::hello_read(&[], &mut []), 26);
     assert_eq!(raw::hello_read(&[0], &mut []), 25);
+    assert_eq!(raw::hello_write(&[], &mut []), 25);
+    assert_eq!(raw::hello_write(&[0; 32], &mut []), 26);
 }

@@ -1,4 +1,4 @@
-//! Smart-Hellos: 41 MACs, and 9,000 bytes of each kind and of what is skipped.
+//! Smart-Hellos: 41 MACs, and 9,000 bytes of each kind and of what is skipped; and the payloads written from what was read of them.
 
 use crate::baseline;
 use crate::buffer::Buffer;
@@ -9,6 +9,11 @@ use crate::report::Report;
 const READ: Pair<Widen> = Pair {
     ours: library::shinglebar_hello_read,
     baseline: baseline::hello_read,
+};
+
+const WRITE: Pair<Widen> = Pair {
+    ours: library::shinglebar_hello_write,
+    baseline: baseline::hello_write,
 };
 
 /// The bytes of a payload that a frame brings.
@@ -72,6 +77,32 @@ pub fn run(report: &Report) {
         "hello read: 9,000 bytes of empty TLVs (worst)",
         &skipped,
     );
+    for (name, payload) in written() {
+        write(report, &format!("hello write: {name}"), &contents(&payload));
+    }
+}
+
+/// Payloads as they are written, by name.
+fn written() -> Vec<(&'static str, Vec<u8>)> {
+    let one = tlv(GENINFO, &vec![piece(23, &value(4 + 6)); 21]);
+    let none = tlv(CAPABILITY, &vec![piece(6, &[]); 125]);
+    let mut all = payloads();
+    all.truncate(4);
+    all.push(("9,000 bytes, a MAC in a sub-TLV", payload(LONG, &one)));
+    all.push((
+        "9,000 bytes of empty sub-TLVs (worst)",
+        payload(LONG, &none),
+    ));
+    all
+}
+
+/// The contents of a payload.
+fn contents(payload: &[u8]) -> Vec<u8> {
+    let mut contents = vec![0; 8 * LONG];
+    let word = shinglebar::raw::hello_read(payload, &mut contents);
+    assert_eq!(word & 0xFF, 64);
+    contents.truncate((word >> 8) as usize);
+    contents
 }
 
 fn read(report: &Report, name: &str, payload: &[u8]) {
@@ -86,6 +117,25 @@ fn read(report: &Report, name: &str, payload: &[u8]) {
             read(
                 payload.as_ptr(),
                 payload.len(),
+                lent.out.as_mut_ptr(),
+                lent.out.len(),
+            )
+        },
+    );
+}
+
+fn write(report: &Report, name: &str, contents: &[u8]) {
+    let contents: &[u8] = &Buffer::input(contents);
+    report.row(
+        name,
+        WRITE,
+        Areas::new(&[], &vec![0xEE; 2 * LONG]),
+        |word| word & 0xFF == 64,
+        // SAFETY: the areas do not overlap and are as long as said.
+        |write, lent| unsafe {
+            write(
+                contents.as_ptr(),
+                contents.len(),
                 lent.out.as_mut_ptr(),
                 lent.out.len(),
             )

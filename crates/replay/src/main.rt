@@ -548,6 +548,26 @@ fn replay_hello(b: &[u8], table: &[u8], area: &mut [u8]) -> bool {
     true
 }
 
+// 3d: the output area's length, the contents area.
+fn write_hello(b: &[u8], table: &[u8], out: &mut [u8])
+    requires { ⌜ 2 ≤ length (now b) ⌝ }
+{
+    let word = shinglebar::shinglebar_hello_write(&b[2..], out);
+    print_call(word, table, out);
+}
+
+fn replay_hello_write(b: &[u8], table: &[u8], area: &mut [u8]) -> bool {
+    if b.len() < 2 {
+        return false;
+    }
+    let n = numbers::be2(b, 0) as usize;
+    if area.len() < n {
+        return false;
+    }
+    write_hello(b, table, &mut area[0..n]);
+    true
+}
+
 // 2e: the output area's length.
 fn write_report(table: &[u8], out: &mut [u8]) {
     let word = shinglebar::shinglebar_report(table, out);
@@ -566,7 +586,7 @@ fn replay_report(b: &[u8], table: &[u8], area: &mut [u8]) -> bool {
     true
 }
 
-// The calls of document 02 that are numbered 20 and the request.
+// The calls of document 02 that are numbered 20 and the request, a second one of it 30 and the request.
 fn replay_numbered(kind: u64, b: &[u8], table: &mut [u8], area: &mut [u8]) -> bool {
     if kind == WRITE {
         return replay_write(b, table, area);
@@ -588,6 +608,9 @@ fn replay_numbered(kind: u64, b: &[u8], table: &mut [u8], area: &mut [u8]) -> bo
     }
     if kind == 0x2e {
         return replay_report(b, table, area);
+    }
+    if kind == 0x3d {
+        return replay_hello_write(b, table, area);
     }
     false
 }
