@@ -116,7 +116,7 @@ fn free_word(a: FreeAnswer) -> u64
 pub extern "C" fn shinglebar_free_slot(table: &[u8]) -> u64
     ensures { λ r. ⌜ r ≡ freeWord (freeAnswered (now (table .entry))) ⌝ }
 {
-    free_word(table_search::free_slot(table))
+    free_word(table_free::free_slot(table))
 }
 
 fn widen_word(a: WidenAnswer) -> u64

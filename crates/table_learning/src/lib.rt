@@ -66,7 +66,7 @@ fn into_free(e: Entry, table: &mut [u8]) -> Learning
     requires { ⌜ Fits e ⌝ }
     ensures { λ r. ⌜ onTable r (now (table .exit)) ≡ intoFree (lowest freeSlot (now (table .entry))) e (now (table .entry)) ⌝ }
 {
-    let search = table_search::find_free(table);
+    let search = table_free::find_free(table);
     let place = search.place;
     match place {
         Place::At(k) => {

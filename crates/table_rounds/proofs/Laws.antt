@@ -3,7 +3,7 @@
 use Prim.Native.Nat.{ℕ, zero, suc, _+_, _-_, _*_, _/_, _^_, _<_, _≤_}
 use mathlib.Core.Bool.{Bool, true, false, not, _&&_}
 use mathlib.Core.List.{List, _++_}
-use mathlib.Core.Path.{_≡_, sym, ap, _∙_}
+use mathlib.Core.Path.{_≡_, refl, sym, ap, _∙_}
 use native.Mathlib.Decide.{ℕ-discrete, decLt}
 use native.Mathlib.Nat.{zero-add, add-sub-cancel-left}
 use native.Mathlib.Omega.{arith}
@@ -12,8 +12,9 @@ use lib.ListN.{length, take, drop, take-append-drop}
 use borrow.Author.Tests.{eqb-false, ltb-true, not-true, not-false}
 use Rattle.numbers.proofs.Truth.{and-both, both-true}
 use Rattle.table.specs.Record.{recordOf, freeState}
-use Rattle.table.specs.Slots.{slotBytes, slotAt, onSlots}
-use Rattle.table.proofs.Slots.{Keeps, on-step}
+use Rattle.table.specs.Slots.{slotBytes, slotAt, onSlots, firstSlot}
+use Rattle.table.specs.declared.Place.the-variants.{Nowhere}
+use Rattle.table.proofs.Slots.{Local, Keeps, on-step, search-next}
 use Rattle.table_rounds.specs.Rounds.{InOther, fourSlots, NoneOfFour, Passed}
 
 module _ (P : List ℕ → Type 0) (t : List ℕ) (from : ℕ) where
@@ -83,3 +84,14 @@ module _ (f : List ℕ → List ℕ) (keeps : Keeps f) (t u : List ℕ) (i : ℕ
           let m : slotBytes * k + slotBytes - slotBytes * k ≡ slotBytes = add-sub-cancel-left (slotBytes * k) slotBytes in
           let here : take (slotBytes * k + slotBytes - slotBytes * k) (drop (slotBytes * k) u) ≡ f (take (slotBytes * k + slotBytes - slotBytes * k) (drop (slotBytes * k) u)) = rw m (same k (omega arith) (omega arith)) in
           rw next (sym (whole (slotBytes * k) (slotBytes * k + slotBytes - slotBytes * k)) ∙ on-step f keeps t 0 k k (omega arith) (omega arith) u (go d (omega arith)) _ here)
+
+-- slots that a round excludes are passed by
+pub past : (p : List ℕ → Bool) → Local p → (P : List ℕ → Type 0) → ((r : List ℕ) → (P r → ⊥) → false ≡ p r)
+    → (t : List ℕ) (i j : ℕ) → i ≤ j → Passed P i j t → firstSlot p i t ≡ Nowhere → firstSlot p j t ≡ Nowhere
+past p near P other t i j h passed so-far = let far : j - i + i ≡ j = omega arith in rw far at (go (j - i) (omega arith))
+  where
+    go : (d : ℕ) → d + i ≤ j → firstSlot p (d + i) t ≡ Nowhere
+    go zero b = rw (zero-add i) so-far
+    go (suc d) b =
+        let next : suc d + i ≡ d + i + 1 = omega arith in
+        rw next (search-next p near t (d + i) (go d (omega arith)) false (other (drop (slotBytes * (d + i)) t) (passed (d + i) (omega arith) (omega arith))) refl)

@@ -1,11 +1,11 @@
--- `table_search::free_slot` meets its contract: refused, found, or none; slots and records unpacked are at most 4,096.
+-- `table_free::free_slot` meets its contract: refused, found, or none; slots and records unpacked are at most 4,096.
 -- Assumes nothing.
 use native.Mathlib.Omega.{arith}
 use borrow.Author.Tests.{not-true, not-false}
-use Rattle.table_search.proofs.Laws.{free-refused, free-found, free-full, unpacked-fits, slot-fits}
+use Rattle.table_free.proofs.Laws.{free-refused, free-found, free-full, unpacked-fits, slot-fits}
 use borrow.Author.Needs.{needs}
-use Rattle.table_search.proofs.free_slot.Statement.{statement}
-use Rattle.table_search.proofs.free_slot.Tie as tie
+use Rattle.table_free.proofs.free_slot.Statement.{statement}
+use Rattle.table_free.proofs.free_slot.Tie as tie
 
 returns : tie.Need-returns
 returns c = search (free-refused, not-true)

@@ -1,4 +1,4 @@
--- `table_search::find_free` meets its contract. The invariant: none of the first `j` slots is free, and those of state 0 are counted.
+-- `table_free::find_free` meets its contract. The invariant: none of the first `j` slots is free, and those of state 0 are counted.
 -- Assumes nothing.
 use Prim.Native.Nat.{_≤_, _-_}
 use mathlib.Core.Path.{_≡_, refl}
@@ -8,10 +8,10 @@ use Rattle.table.specs.FreeSlot.{stateFree}
 use Rattle.table.specs.Learning.{freeSlot}
 use Rattle.table.specs.declared.Place.the-variants.{Nowhere}
 use Rattle.table.proofs.Slots.{count-few}
-use Rattle.table_search.proofs.Laws.{free-hit, free-on, spoilt-on, spoilt-few, free-end}
+use Rattle.table_free.proofs.Laws.{free-hit, free-on, spoilt-on, spoilt-few, free-end}
 use borrow.Author.Needs.{needs}
-use Rattle.table_search.proofs.find_free.Statement.{statement}
-use Rattle.table_search.proofs.find_free.Tie as tie
+use Rattle.table_free.proofs.find_free.Statement.{statement}
+use Rattle.table_free.proofs.find_free.Tie as tie
 
 abbrev Inv-loop : tie.InvT-loop
 Inv-loop t n j₀ unpacked₀ j unpacked = (j ≤ n) × ((unpacked ≡ countSlots stateFree 0 j t) × (firstSlot freeSlot j t ≡ Nowhere))

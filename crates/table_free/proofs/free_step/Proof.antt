@@ -1,9 +1,9 @@
--- `table_search::free_step` meets its contract: a record in another state is neither free nor counted; one of state 0 is counted.
+-- `table_free::free_step` meets its contract: a record in another state is neither free nor counted; one of state 0 is counted.
 -- Assumes nothing.
-use Rattle.table_search.proofs.Laws.{step-other, step-counted}
+use Rattle.table_free.proofs.Laws.{step-other, step-counted}
 use borrow.Author.Needs.{needs}
-use Rattle.table_search.proofs.free_step.Statement.{statement}
-use Rattle.table_search.proofs.free_step.Tie as tie
+use Rattle.table_free.proofs.free_step.Statement.{statement}
+use Rattle.table_free.proofs.free_step.Tie as tie
 
 returns : tie.Need-returns
 returns c = step-other _ _ (c .before .state-at .ensures) _ (c .if1 .taken)
