@@ -1,6 +1,6 @@
 -- Sub-TLVs placed one after the other: cursor and area stand for what the definition has closed, and the TLV that it has open.
 -- Assumes nothing.
-use Prim.Native.Nat.{ℕ, zero, suc, _+_, _-_, _<_, _≤_}
+use Prim.Native.Nat.{ℕ, _+_, _-_, _<_, _≤_}
 use mathlib.Core.Bool.{Bool, true, false}
 use mathlib.Core.List.{List, [], _∷_, _++_, append-assoc}
 use mathlib.Core.Path.{_≡_, refl, sym, ap, _∙_}
@@ -17,7 +17,7 @@ use Rattle.frame_copy.proofs.Copying.{paste-after}
 use Rattle.hello.specs.Tlvs.{tlvBytes}
 use Rattle.hello.specs.Pieces.{Sub}
 use Rattle.hello.specs.Writing.{headOf, subBytes, joins, grouped, tlvsOf}
-use Rattle.hello.proofs.Loops.{loop-joins, loop-new, loop-end, grown}
+use Rattle.hello.proofs.Loops.{loop-joins, loop-new, grown}
 use Rattle.hello_put.specs.declared.Cursor.{Cursor}
 use Rattle.hello_put.specs.Placing.{unopened, takes, stepped, opening, opened, steppedBy, placed, steppedAll, placedAll}
 use Rattle.hello_put.proofs.Laws.{step-grows}
