@@ -27,7 +27,7 @@ use table::SLOT_BYTES;
 // Up to so many marks find room in the smaller areas, which are cheaper to make.
 const FEW: usize = 64;
 
-const SOME: usize = 1536;
+const SOME: usize = 512;
 
 // How a message names the numbers of a field.
 fn naming_of(field: Field) -> Naming
