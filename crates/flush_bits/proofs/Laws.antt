@@ -137,7 +137,7 @@ module _ (s : List ℕ) (i m : ℕ) (h : i < length s) (x : ℕ) where
 
 -- ---- numbers added
 
-either-none : (a : Bool) → either a false ≡ a
+pub either-none : (a : Bool) → either a false ≡ a
 unfolding either
 either-none true = refl
 either-none false = refl

@@ -4,8 +4,9 @@ ghost use mathlib.Core.Bool.{true, false};
 ghost use mathlib.Core.Path.{_≡_};
 ghost use lib.Bits.{bitOr};
 ghost use lib.ListN.{length, getD, set};
+ghost use Rattle.numbers.specs.Tests.{pick};
 ghost use Rattle.numbers.specs.Numberings.{bitAt};
-ghost use Rattle.flush_bits.specs.Ranged.{maskOf, Ranged};
+ghost use Rattle.flush_bits.specs.Ranged.{maskOf, Ranged, Widened};
 
 // Whether x is in the set.
 pub fn has(s: &[u8], x: u64) -> bool
@@ -85,4 +86,27 @@ pub fn add_one(s: &mut [u8], x: usize)
     ensures { λ _. ⌜ Ranged (now (s .entry)) (now (s .exit)) x (x + 1) ⌝ }
 {
     add_part(s, x, x + 1);
+}
+
+// The high bit of a byte, or none.
+fn high_if(b: bool) -> u64
+    ensures { λ r. ⌜ r ≡ pick b 128 0 ⌝ }
+{
+    if b { 128 } else { 0 }
+}
+
+// Bit k of a byte, or none.
+fn bit_if(k: usize, b: bool) -> u8
+    requires { ⌜ k < 8 ⌝ }
+    ensures { λ r. ⌜ r ≡ pick b 128 0 / 2 ^ k ⌝ }
+{
+    (high_if(b) >> k) as u8
+}
+
+// Adds number k where b is true. There is no branch on b.
+pub fn add_if(s: &mut [u8], k: usize, b: bool)
+    requires { ⌜ k < 8 * length (now s) ⌝ }
+    ensures { λ _. ⌜ Widened (now (s .entry)) (now (s .exit)) k b ⌝ }
+{
+    add_byte(s, k / 8, bit_if(k % 8, b));
 }

@@ -5,12 +5,11 @@ use Prim.Native.Nat.{ℕ, zero, suc, _+_, _-_, _*_, _/_, _^_, _≤_, _<_}
 use mathlib.Core.Bool.{Bool, true, false}
 use mathlib.Core.List.{List, [], _∷_}
 use mathlib.Core.Path.{_≡_, refl, sym, ap, _∙_}
-use native.Mathlib.Decide.{decLt}
-use native.Mathlib.Nat.{lt-of-le-of-lt}
+use native.Mathlib.Decide.{decLt, ℕ-discrete}
 use native.Mathlib.Numerals.{add-one}
 use native.Mathlib.Omega.{arith}
 use lib.Dec.{leb}
-use borrow.Author.Tests.{le-leb, lt-leb}
+use borrow.Author.Tests.{le-leb, lt-leb, eq-eqb, ne-eqb}
 use lib.ListN.{length, take, drop, getD, length-drop, drop-of-length-le}
 use lib.Seq.{length-take-le, getD-take, getD-drop}
 use Rattle.numbers.specs.Tests.{both, either}
@@ -18,12 +17,12 @@ use Rattle.numbers.specs.Numberings.{bitAt, inMap}
 use Rattle.numbers.specs.declared.Numbering.{Numbering}
 use Rattle.numbers.proofs.Truth.{both-left, both-right, both-pass, not-true-false}
 use Rattle.flush.proofs.Lists.{false-true}
-use Rattle.flush_bits.specs.Ranged.{Ranged}
+use Rattle.flush_bits.specs.Ranged.{Ranged, Widened}
 use Rattle.flush_bits.proofs.Laws.{either-all}
 use Rattle.flush_sort.specs.Sorting.{All, Sorted}
 use Rattle.flush_sort.proofs.Laws.{all-at, either-none}
 use Rattle.flush_buckets.specs.Buckets.{bucketOf, aloneOf, Nears, keySlots}
-use Rattle.flush_intervals.specs.Hits.{Splits, Searched, Hits, HitsTo, GroupHit}
+use Rattle.flush_intervals.specs.Hits.{Splits, Searched, Hits, HitsTo}
 use Rattle.flush_intervals.proofs.Ranges.{all-map, sorted-below, sorted-above}
 
 -- ---- where a list is split
@@ -39,14 +38,6 @@ module _ (l : List ℕ) (y r : ℕ) (s : Splits l y r) where
       let d : length (drop r l) ≡ length l - r = length-drop r l in
       let z : r + (i - r) ≡ i = omega arith in
       rw (getD-drop r l (i - r) 0, z) at (all-at (λ v. y ≤ v) (drop r l) (i - r) (s .above) (omega arith))
-
-  -- an element that is below stands before the split
-  pub split-past : (i : ℕ) → i < length l → getD l i 0 < y → i < r
-  split-past i h lt = go (decLt i r)
-    where
-      go : Dec (i < r) → i < r
-      go (yes d) = d
-      go (no d) = let up = split-above i (omega arith) h in absurd (omega arith)
 
   pub split-order : (z t : ℕ) → Splits l z t → y ≤ z → r ≤ t
   split-order z t u h = go (decLt t r)
@@ -67,14 +58,6 @@ module _ (l : List ℕ) (y r : ℕ) (s : Splits l y r) where
               let p = a t d in
               let q = b t (omega arith) (omega arith) in
               omega arith
-
-sorted-front : (l : List ℕ) (m y : ℕ) → Sorted l → m < length l → getD l m 0 < y → All (λ v. v < y) (take m l)
-unfolding Sorted All
-sorted-front [] m y s h lt = absurd (omega arith)
-sorted-front (v ∷ l) zero y s h lt = tt
-sorted-front (v ∷ l) (suc m) y s h lt =
-    let g : m < length l = omega arith in
-    (lt-of-le-of-lt (all-at (λ z. v ≤ z) l m (s .0) g) lt, sorted-front l m y (s .1) g lt)
 
 -- ---- the search from a place on
 
@@ -185,19 +168,6 @@ module _ (s e : ℕ) (keys : List ℕ) (lo : ℕ) (a : Splits keys (s * keySlots
             let z = split-above keys (e * keySlots) hi b i (omega arith) k in
             r .above i (omega arith) ∙ sym (rw (above-range s e (getD keys i 0 / keySlots) (omega arith)) (either-none (bitAt i h)))
 
--- ---- a group of keys with one number
-
-pub group-hit : (b c : Bool) (i j : ℕ) (h u : List ℕ) → c ≡ b → c ≡ true → Ranged h u i j → GroupHit b i j h u
-group-hit b c i j h u is e r = rw (← is, e) (record {
-  long = r .long;
-  below = r .below;
-  inside = λ k p q. r .inside k p q ∙ sym (either-all (bitAt k h));
-  above = r .above;
-})
-
-pub group-none : (b c : Bool) (i j : ℕ) (h : List ℕ) → c ≡ b → c ≡ false → GroupHit b i j h h
-group-none b c i j h is e = rw (← is, e) (record { long = refl; below = λ k p. refl; inside = λ k p q. sym (either-none (bitAt k h)); above = λ k p. refl })
-
 -- ---- a bit map
 
 pub record Mapping (q : ℕ → Bool) (keys h₀ : List ℕ) (i : ℕ) (h : List ℕ) : Type 0 where
@@ -237,37 +207,24 @@ module _ (q : ℕ → Bool) (keys h₀ : List ℕ) (s e : ℕ) (low : (x : ℕ) 
             let a = after k (omega arith) p in
             m .so-far .rest k (omega arith) ∙ sym (rw (not-true-false (q (getD keys k 0 / keySlots)) (λ t. let z = high _ t in omega arith)) (either-none (bitAt k h₀)))
 
--- the keys with the number of key i
-module _ (q : ℕ → Bool) (keys h₀ : List ℕ) (i : ℕ) (h : List ℕ) (m : Mapping q keys h₀ i h) (sorted : Sorted keys) (more : i < length keys) (x : ℕ) (ex : x ≡ getD keys i 0 / keySlots) where
-  pub group-front : All (λ v. v < (x + 1) * keySlots) (take i keys)
-  group-front = sorted-front keys i ((x + 1) * keySlots) sorted more (omega arith)
+-- key i has its bit where its number is in the map
+pub map-next : (q : ℕ → Bool) (keys h₀ : List ℕ) (i : ℕ) (h : List ℕ) → Mapping q keys h₀ i h → i < length keys → (b : Bool) → b ≡ q (getD keys i 0 / keySlots) → (u : List ℕ) → Widened h u i b → Mapping q keys h₀ (i + 1) u
+unfolding both
+map-next q keys h₀ i h m more b is u g = record {
+  place = omega arith;
+  so-far = record {
+    long = g .long ∙ m .so-far .long;
+    done = λ k p. go k p (ℕ-discrete k i);
+    rest = λ k p. other k (omega arith) ∙ m .so-far .rest k (omega arith);
+  };
+}
+  where
+    other : (k : ℕ) → (k ≡ i → ⊥) → bitAt k u ≡ bitAt k h
+    other k d = g .each k ∙ rw (ne-eqb k i d) (either-none (bitAt k h))
 
-  module _ (j : ℕ) (a : Splits keys ((x + 1) * keySlots) j) where
-    pub group-some : i < j
-    group-some = split-past keys ((x + 1) * keySlots) j a i more (omega arith)
-
-    pub map-next : (u : List ℕ) → GroupHit (q x) i j h u → Mapping q keys h₀ j u
-    map-next u g = record {
-      place = a .within;
-      so-far = record {
-        long = g .long ∙ m .so-far .long;
-        done = λ k p. go k p (decLt k i);
-        rest = λ k p. let some = group-some in g .above k p ∙ m .so-far .rest k (omega arith);
-      };
-    }
-      where
-        same : (k : ℕ) → i ≤ k → k < j → getD keys k 0 / keySlots ≡ x
-        same k p r =
-            let w = a .within in
-            let d : length (drop i keys) ≡ length keys - i = length-drop i keys in
-            let z : i + (k - i) ≡ k = omega arith in
-            let up = rw (getD-drop i keys (k - i) 0, z) at (all-at (λ v. getD keys i 0 ≤ v) (drop i keys) (k - i) (sorted-above keys i (getD keys i 0) sorted more (omega arith)) (omega arith)) in
-            let down = split-below keys ((x + 1) * keySlots) j a k r in
-            omega arith
-
-        go : (k : ℕ) → k < j → Dec (k < i) → bitAt k u ≡ either (bitAt k h₀) (q (getD keys k 0 / keySlots))
-        go k p (yes d) = g .below k d ∙ m .so-far .done k d
-        go k p (no d) = g .inside k (omega arith) p ∙ rw (same k (omega arith) p, m .so-far .rest k (omega arith))
+    go : (k : ℕ) → k < i + 1 → Dec (k ≡ i) → bitAt k u ≡ either (bitAt k h₀) (q (getD keys k 0 / keySlots))
+    go k p (yes e) = rw e (g .each i ∙ rw (eq-eqb i i refl, m .so-far .rest i (omega arith), is))
+    go k p (no d) = other k d ∙ m .so-far .done k (omega arith)
 
 -- a value too short for a start has no map
 pub map-short : (w : Numbering) (v keys h : List ℕ) → length v < w .size → Hits (λ x. inMap w x v) keys h h

@@ -38,10 +38,3 @@ pub record HitsTo (q : ℕ → Bool) (keys h₀ : List ℕ) (i : ℕ) (h : List 
   pub long : length h ≡ length h₀
   pub done : (k : ℕ) → k < i → bitAt k h ≡ either (bitAt k h₀) (q (getD keys k 0 / keySlots))
   pub rest : (k : ℕ) → i ≤ k → bitAt k h ≡ bitAt k h₀
-
--- where b is true the bits from i to before j are set; all others are as before
-pub record GroupHit (b : Bool) (i j : ℕ) (h₀ h : List ℕ) : Type 0 where
-  pub long : length h ≡ length h₀
-  pub below : (k : ℕ) → k < i → bitAt k h ≡ bitAt k h₀
-  pub inside : (k : ℕ) → i ≤ k → k < j → bitAt k h ≡ either (bitAt k h₀) b
-  pub above : (k : ℕ) → j ≤ k → bitAt k h ≡ bitAt k h₀

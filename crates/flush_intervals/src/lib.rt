@@ -10,11 +10,10 @@ ghost use Rattle.numbers.specs.Numberings.{inMap};
 ghost use Rattle.table.specs.Slots.{mostSlots};
 ghost use Rattle.flush.specs.Payload.{tlv, tlvs};
 ghost use Rattle.flush_sort.specs.Sorting.{All, Sorted};
-ghost use Rattle.flush_members.specs.Sound.{Sound};
 ghost use Rattle.flush_parts.specs.Parts.{Narrow, partsHit};
 ghost use Rattle.flush_parts.specs.Named.{namedIn, namedOf};
 ghost use Rattle.flush_buckets.specs.Buckets.{keySlots};
-ghost use Rattle.flush_intervals.specs.Hits.{Splits, Searched, Hits, GroupHit};
+ghost use Rattle.flush_intervals.specs.Hits.{Splits, Searched, Hits};
 use flush_buckets::BUCKET;
 use flush_buckets::BUCKETS;
 use flush_buckets::KEY_SLOTS;
@@ -186,17 +185,7 @@ fn hit_singles(v: &[u8], w: Numbering, near: &[u8], keys: &[u64], places: &[u64]
     }
 }
 
-// Sets the bits of the keys from i to before j, which have one number, where it is in a bit map.
-fn hit_group(v: &[u8], w: Numbering, x: u64, i: usize, j: usize, hits: &mut [u8])
-    requires { ⌜ Sound w × ((i ≤ j) × (j < 8 * length (now hits))) ⌝ }
-    ensures { λ _. ⌜ GroupHit (inMap w x (now (v .entry))) i j (now (hits .entry)) (now (hits .exit)) ⌝ }
-{
-    if flush_members::in_map(v, w, x) {
-        flush_bits::add_range(hits, i, j);
-    }
-}
-
-// Sets the bits of the keys whose number is in a bit map. Keys with one number go together.
+// Sets the bits of the keys whose number is in a bit map. There is no branch on the bit of a map.
 fn hit_map(v: &[u8], w: Numbering, near: &[u8], keys: &[u64], places: &[u64], hits: &mut [u8])
     requires { ⌜ Narrow w × Searched (now near) (now keys) (now hits) ⌝ }
     ensures { λ _. ⌜ Hits (λ x. inMap w x (now (v .entry))) (now (keys .entry)) (now (hits .entry)) (now (hits .exit)) ⌝ }
@@ -209,15 +198,15 @@ fn hit_map(v: &[u8], w: Numbering, near: &[u8], keys: &[u64], places: &[u64], hi
     if !flush_buckets::may_meet(near, s, e) {
         return;
     }
+    let start = flush_members::number_at(v, 0, w);
     let mut i = count_near(keys, places, s);
     while i < keys.len() {
         let x = keys[i] / KEY_SLOTS;
         if e <= x {
             return;
         }
-        let j = count_from(keys, i, x + 1);
-        hit_group(v, w, x, i, j, hits);
-        i = j;
+        flush_bits::add_if(hits, i, flush_members::map_has(v, w, start, x));
+        i += 1;
     }
 }
 

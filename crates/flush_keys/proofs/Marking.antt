@@ -14,7 +14,7 @@ use Rattle.numbers.proofs.Truth.{both-right}
 use Rattle.table.specs.Slots.{slotBytes, slotAt}
 use Rattle.flush_sort.proofs.Laws.{either-none, either-assoc}
 use Rattle.flush_buckets.specs.Buckets.{bucketBytes, bucketOf, aloneOf, Keeps, Nears, keySlots}
-use Rattle.flush_marks.specs.Marks.{Widened}
+use Rattle.flush_bits.specs.Ranged.{Widened}
 use Rattle.flush_keys.specs.Keys.{appliesTo, keyed, Hit, Marked, Joined}
 use Rattle.flush_keys.specs.declared.Field.{Field}
 use Rattle.flush_keys.specs.declared.Field.the-variants.{Mac}

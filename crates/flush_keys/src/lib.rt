@@ -71,7 +71,7 @@ pub fn keep_others(table: &[u8], field: Field, slots: &[u64], marks: &mut [u8])
         if applies_at(table, SLOT_BYTES * j, field) {
             i += 1;
         } else {
-            flush_marks::add_if(marks, j, true);
+            flush_bits::add_if(marks, j, true);
             i += 1;
         }
     }
@@ -97,7 +97,7 @@ pub fn collect(keys: &[u64], hits: &[u8], marks: &mut [u8])
     let mut i = 0;
     while i < keys.len() {
         let hit = flush_bits::has(hits, i as u64);
-        flush_marks::add_if(marks, (keys[i] % KEY_SLOTS) as usize, hit);
+        flush_bits::add_if(marks, (keys[i] % KEY_SLOTS) as usize, hit);
         i += 1;
     }
 }

@@ -107,7 +107,7 @@ module _ (m t : List ℕ) where
           let left : u ≡ freedMarks m (slotsOf t) t = s .left in
           cc
 
-      pub cleared-far : (k : ℕ) → p ≡ At k → (k ≤ slotsOf t) × ClearedTo m t k c u
+      cleared-far : (k : ℕ) → p ≡ At k → (k ≤ slotsOf t) × ClearedTo m t k c u
       cleared-far k e =
           let f = next .hit k e in
           let far = f .behind in
@@ -142,6 +142,13 @@ module _ (m t : List ℕ) where
       let count : c + suc d ≡ c + d + 1 = omega arith in
       let before : AllMarked m i d (slotsOf t) = record { room = omega arith; each = λ j a b. all .each j a (omega arith) } in
       rw (slot, count) (cleared-put m t (i + d) (c + d) (freedFrom i d u) (cleared-run d i c u so-far before) (omega arith) (all .each (i + d) (omega arith) (omega arith)))
+
+  -- the next that is marked is cleared, after slots that are not
+  pub cleared-found : (i c : ℕ) (u : List ℕ) → ClearedTo m t i c u → (b : Bool) → b ≡ bitAt i m → b ≡ false → (p : Place) → NextMark m (i + 1) (slotsOf t) p → (k : ℕ) → p ≡ At k → (v : List ℕ) → v ≡ putSlot k freed u → (k + 1 ≤ slotsOf t) × ClearedTo m t (k + 1) (c + 1) v
+  cleared-found i c u so-far b is clear p next k e v put =
+      let f = next .hit k e in
+      let inside = f .within in
+      (omega arith, rw put (cleared-put m t k c u (cleared-far m t i c u so-far b is clear p next k e .1) inside (f .marked)))
 
   pub cleared-eight : (i c : ℕ) (u : List ℕ) → ClearedTo m t i c u → (b : Bool) → (b ≡ true → AllMarked m i 8 (slotsOf t)) → b ≡ true → (v : List ℕ) → v ≡ freedFrom i 8 u → ClearedTo m t (i + 8) (c + 8) v
   cleared-eight i c u so-far b told e v run = rw run (cleared-run 8 i c u so-far (told e))

@@ -1,4 +1,4 @@
-// Marks: one bit for each slot of a table. They are looked through and listed, added, and the marked slots are cleared and counted.
+// Marks: one bit for each slot of a table. They are looked through and listed, and the marked slots are cleared and counted.
 ghost use Prim.Native.Nat.{_+_, _/_, _^_, _<_, _≤_};
 ghost use mathlib.Core.Bool.{true, false};
 ghost use mathlib.Core.Path.{_≡_};
@@ -7,7 +7,7 @@ ghost use lib.ListN.{length};
 ghost use Rattle.numbers.specs.Tests.{pick};
 ghost use Rattle.numbers.specs.After.{onTable};
 ghost use Rattle.table.specs.Slots.{mostSlots, slotsOf, putSlot, freed};
-ghost use Rattle.flush_marks.specs.Marks.{markBytes, RestOf, Unmarked, NextMark, Widened, NoMarks, Listing, AllMarked, freedFrom, clearedMarks};
+ghost use Rattle.flush_marks.specs.Marks.{markBytes, RestOf, Unmarked, NextMark, NoMarks, Listing, AllMarked, freedFrom, clearedMarks};
 use table::Place;
 use table::SLOT_BYTES;
 
@@ -152,7 +152,9 @@ pub fn clear_marked(table: &mut [u8], marks: &[u8]) -> usize
         } else {
             match next_marked(marks, k + 1, n) {
                 Place::At(j) => {
-                    k = j;
+                    clear_slot(table, j);
+                    count += 1;
+                    k = j + 1;
                 }
                 Place::Nowhere => {
                     return count;
@@ -190,29 +192,6 @@ pub fn list_marked(marks: &[u8], n: usize, slots: &mut [u64]) -> Room
         }
     }
     Room::Held(c)
-}
-
-// The high bit of a byte, or none.
-fn high_if(b: bool) -> u64
-    ensures { λ r. ⌜ r ≡ pick b 128 0 ⌝ }
-{
-    if b { 128 } else { 0 }
-}
-
-// Bit k of a byte, or none.
-fn bit_if(k: usize, b: bool) -> u8
-    requires { ⌜ k < 8 ⌝ }
-    ensures { λ r. ⌜ r ≡ pick b 128 0 / 2 ^ k ⌝ }
-{
-    (high_if(b) >> k) as u8
-}
-
-// Marks a slot where b is true. There is no branch on b.
-pub fn add_if(marks: &mut [u8], k: usize, b: bool)
-    requires { ⌜ (length (now marks) ≡ markBytes) × (k < mostSlots) ⌝ }
-    ensures { λ _. ⌜ Widened (now (marks .entry)) (now (marks .exit)) k b ⌝ }
-{
-    flush_bits::add_byte(marks, k / 8, bit_if(k % 8, b));
 }
 
 // Removes every mark.

@@ -161,23 +161,29 @@ fn bit_at(v: &[u8], at: usize, i: u64) -> bool
     bit(v[at + k], (i % 8) as u8)
 }
 
+// Whether the bit map behind a start, which was read, has x in it.
+pub fn map_has(v: &[u8], w: Numbering, start: u64, x: u64) -> bool
+    requires { ⌜ (w .size ≤ length (now v)) × (start ≡ numberOf w (drop 0 (now v))) ⌝ }
+    ensures { λ r. ⌜ r ≡ inMap w x (now (v .entry)) ⌝ }
+{
+    if !((w.low <= x) & (x <= w.high)) {
+        return false;
+    }
+    if x < start {
+        return false;
+    }
+    bit_at(v, w.size, x - start)
+}
+
 // Whether a start with a bit map behind it has x in it.
 pub fn in_map(v: &[u8], w: Numbering, x: u64) -> bool
     requires { ⌜ Sound w ⌝ }
     ensures { λ r. ⌜ r ≡ inMap w x (now (v .entry)) ⌝ }
 {
-    let size = w.size;
-    if v.len() < size {
+    if v.len() < w.size {
         return false;
     }
-    if !((w.low <= x) & (x <= w.high)) {
-        return false;
-    }
-    let start = number_at(v, 0, w);
-    if x < start {
-        return false;
-    }
-    bit_at(v, size, x - start)
+    map_has(v, w, number_at(v, 0, w), x)
 }
 
 // Whether some block of MACs is not empty.

@@ -11,7 +11,7 @@ use native.Mathlib.Omega.{arith}
 use lib.Bits.{bitOr}
 use lib.Dec.{leb, eqb}
 use lib.ListN.{length, take, drop, getD, set, replicate, length-replicate}
-use borrow.Author.Tests.{eq-eqb, ne-eqb, eqb-true, leb-true, not-false}
+use borrow.Author.Tests.{eq-eqb, ne-eqb, eqb-true, leb-true, not-true, not-false}
 use Rattle.numbers.specs.Tests.{pick, both, either, between, anyOf}
 use Rattle.numbers.specs.Bytes.{num}
 use Rattle.numbers.specs.Numberings.{bitAt}
@@ -34,13 +34,13 @@ use Rattle.flush_parts.specs.Named.{fineNaming, namedIn, namedOf}
 use Rattle.flush_parts.specs.Parts.{Narrow}
 use Rattle.flush_parts.specs.declared.Naming.{Naming}
 use Rattle.flush_buckets.specs.Buckets.{bucketBytes, bucketOf, HasBits}
-use Rattle.flush_vlans.specs.Vlans.{VlansNoted, VlansMeant}
-use Rattle.flush_vlans.proofs.Laws.{every-meant}
+use Rattle.flush_vlans.specs.Vlans.{vlanBytes, VlansNoted, VlansMeant}
+use Rattle.flush_vlans.proofs.Laws.{every-meant, added-none, set-named}
 use Rattle.flush_bits.specs.Ranged.{maskOf, Ranged}
 use Rattle.flush_bits.proofs.Laws.{every, every-at, part-added}
 use Rattle.flush_marks.specs.Marks.{markBytes, NoMarks, Chosen}
 use Rattle.flush_marks.specs.Filters.{slotNamed}
-use Rattle.flush_marks.proofs.Bits.{both-all}
+use Rattle.flush_marks.proofs.Bits.{both-all, zeros-none}
 use Rattle.flush_marks.proofs.Filters.{chosen-same}
 use Rattle.flush_nicknames.specs.First.{roundSlots, NoneOfRound, NicknamesAre, EveryMeant, kindMeant, slotFirst, nearBit, mayPass, labelPart, slotMarked, slotNames, fineNoted, FirstNamed, FirstPass}
 use Rattle.flush_nicknames.specs.declared.Nicknames.{Nicknames}
@@ -153,6 +153,14 @@ module _ (every : Bool) (vlans : List ℕ) (told : EveryMeant every vlans) (r : 
 
   pub plain-vlans : every ≡ false → (k : ℕ) → k ≡ kindOf (recordOf r) → (x : ℕ) → x ≡ labelOf (recordOf r) → (h : Bool) → h ≡ bitAt (x % 4096) vlans → eqb k 0 && h ≡ labelPart vlans (λ x. every) r
   plain-vlans e k a x b h c = or-none (eqb k 0) h every e ∙ part-told vlans (λ x. every) r k a x b h c every refl
+
+-- and where fine-grained labels alone are named
+and-fine : (a g : Bool) → not a && g ≡ (a && false) || (not a && g)
+and-fine true g = refl
+and-fine false g = refl
+
+pub part-fine : (bits r : List ℕ) (k : ℕ) → k ≡ kindOf (recordOf r) → (x : ℕ) → x ≡ labelOf (recordOf r) → (g : Bool) → g ≡ nearBit bits x → not (eqb k 0) && g ≡ labelPart [] (mayPass false bits) r
+part-fine bits r k a x b g d = and-fine (eqb k 0) g ∙ part-told [] (mayPass false bits) r k a x b false (sym (zeros-none 0 (x % 4096))) g (d ∙ sym (by-near false refl bits x))
 
 -- ---- the search for the first nickname
 
@@ -321,6 +329,18 @@ block-fine : (x : ℕ) (b : List ℕ) → bringsLabel everyType (Fine x) (block 
 unfolding bringsLabel
 block-fine x b = refl
 
+and-parts : (a b : Bool) → a && b ≡ true → (a ≡ true) × (b ≡ true)
+and-parts true b e = (refl, e)
+and-parts false b e = false-true e
+
+-- no VLAN is in an empty set, whatever its length
+empty-none : (x : ℕ) → bitAt x [] ≡ false
+empty-none x = zeros-none 0 x
+
+same-none : (p near : ℕ → Bool) (r : List ℕ) → slotMarked p [] near r ≡ slotMarked p (replicate {A = ℕ} vlanBytes 0) near r
+unfolding slotMarked labelPart
+same-none p near r = rw (empty-none (labelOf (recordOf r) % 2 ^ 12), zeros-none vlanBytes (labelOf (recordOf r) % 2 ^ 12))
+
 module _ (n : ℕ) (l : List ℕ) (f : Kinds) (noted : VlansNoted (piecesOf n l) f) where
   pieces-tlvs : n ≡ 0 → piecesOf n l ≡ tlvs l
   unfolding piecesOf pick
@@ -383,6 +403,17 @@ module _ (n : ℕ) (l : List ℕ) (f : Kinds) (noted : VlansNoted (piecesOf n l)
         all = λ a x b. flagged e (f .every) refl a;
         none = λ a x. neither (f .every) (either (f .lists) (f .maps)) a .0;
       }
+
+    -- or by filter bits alone, since no VLAN is named
+    pub fine-first : (m : List ℕ) → not (f .every) && (f .lists || f .maps) ≡ true → eqb n 0 && not (f .vlans) ≡ true → (bits : List ℕ) → HasBits (namedOf fineNaming (tlvs l)) bits → Chosen (slotMarked p [] (mayPass false bits)) k (from + count - k) t m → FirstPass q (piecesOf n l) (fineNoted f) from count t m
+    fine-first m e none bits has c =
+        let every-not = and-parts (not (f .every)) _ e .0 in
+        let parts = and-parts (eqb n 0) (not (f .vlans)) none in
+        let zeros : List ℕ = replicate {A = ℕ} vlanBytes 0 in
+        let told : VlansMeant (piecesOf n l) zeros =
+        set-named n l f noted zeros (length-replicate {A = ℕ} vlanBytes 0) (zeros-none vlanBytes) (not-true (f .every) every-not) zeros (added-none n l f noted zeros (eqb-true n 0 (parts .0)) (not-true (f .vlans) (parts .1)))
+        in
+        near-first zeros told m e bits has (chosen-same _ _ k (from + count - k) t m (same-none p (mayPass false bits)) c)
 
 -- the set of VLANs of a message that means every label
 pub every-passes : (ps : List Piece) (f : Kinds) → VlansNoted ps f → (vlans : List ℕ) → VlansMeant ps vlans → EveryMeant (f .every) vlans

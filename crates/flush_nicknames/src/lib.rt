@@ -2,6 +2,7 @@
 // VLAN that is meant, or a fine-grained label that may be: it has a bit in the filter bits of the message.
 ghost use Prim.Native.Nat.{ℕ, _+_, _-_, _*_, _/_, _^_, _<_, _≤_};
 ghost use mathlib.Core.Bool.{true, false};
+ghost use mathlib.Core.List.{[]};
 ghost use mathlib.Core.Path.{_≡_};
 ghost use lib.Dec.{eqb};
 ghost use lib.ListN.{length, drop};
@@ -192,6 +193,16 @@ fn vlan_passes(t: &[u8], at: usize, vlans: &[u8], every: bool) -> bool
     vlan & meant
 }
 
+// The same where fine-grained labels alone are named. A set of VLANs, which would be empty, is not read.
+fn fine_passes(t: &[u8], at: usize, near: &[u8]) -> bool
+    requires { ⌜ at + recordBytes ≤ length (now t) ⌝ }
+    ensures { λ b. ⌜ b ≡ labelPart [] (mayPass false (now (near .entry))) (drop at (now (t .entry))) ⌝ }
+{
+    let fine = table_fields::kind_at(t, at) != 0;
+    let maybe = may_be_meant(near, table_fields::label_at(t, at));
+    fine & maybe
+}
+
 // Whether the slot at an offset is to be marked, by one nickname. One byte of it decides most slots, and then the label.
 fn single_at(t: &[u8], at: usize, one: u64, vlans: &[u8], near: &[u8], every: bool) -> bool
     requires { ⌜ (at + slotBytes ≤ length (now t)) × EveryMeant every (now vlans) ⌝ }
@@ -218,6 +229,23 @@ fn plain_at(t: &[u8], at: usize, one: u64, vlans: &[u8], every: bool) -> bool
         return false;
     }
     if !vlan_passes(t, at, vlans, every) {
+        return false;
+    }
+    if table_fields::nickname_at(t, at) != one {
+        return false;
+    }
+    table_states::learned_at(t, at)
+}
+
+// The same where fine-grained labels alone are named.
+fn fine_at(t: &[u8], at: usize, one: u64, near: &[u8]) -> bool
+    requires { ⌜ at + slotBytes ≤ length (now t) ⌝ }
+    ensures { λ b. ⌜ b ≡ slotMarked (λ x. eqb x one) [] (mayPass false (now (near .entry))) (drop at (now (t .entry))) ⌝ }
+{
+    if table_fields::nickname_middle_at(t, at) != one / 8 % 0x100 {
+        return false;
+    }
+    if !fine_passes(t, at, near) {
         return false;
     }
     if table_fields::nickname_at(t, at) != one {
@@ -310,6 +338,23 @@ fn mark_plain(
     k
 }
 
+// The same where fine-grained labels alone are named.
+fn mark_fine(table: &[u8], from: usize, e: usize, one: u64, near: &[u8], marks: &mut [u8]) -> usize
+    requires { ⌜ (from ≤ e) × Marking from (e - from) (now table) (now marks) ⌝ }
+    ensures { λ r. ⌜ (r ≡ e) × Chosen (slotMarked (λ x. eqb x one) [] (mayPass false (now (near .entry)))) from (e - from) (now (table .entry)) (now (marks .exit)) ⌝ }
+{
+    let mut k = from;
+    while k < e {
+        if fine_at(table, SLOT_BYTES * k, one, near) {
+            add_mark(marks, k);
+            k += 1;
+        } else {
+            k += 1;
+        }
+    }
+    k
+}
+
 // By a set of nicknames.
 fn mark_listed(
     table: &[u8],
@@ -368,6 +413,9 @@ fn mark_one(
     if !f.every & (f.lists | f.maps) {
         let mut near = [0u8; BUCKET_BYTES];
         add_fine(rest, count, &mut near);
+        if (f.blocks == 0) & !f.vlans {
+            return mark_fine(table, k, e, one, &near, marks);
+        }
         return mark_single(table, k, e, one, &vlans, &near, false, marks);
     }
     mark_plain(table, k, e, one, &vlans, f.every, marks)

@@ -36,7 +36,7 @@ loop-again : tie.Need-loop-again Inv-loop μ-loop
 loop-again c = search without-passed
 
 add-if-requires : tie.Need-add-if-requires Inv-loop μ-loop
-add-if-requires c κs = let l = slot (c .before .before .before) in (search needs, omega arith)
+add-if-requires c κs = let l = slot (c .before .before .before) in search needs
 
 loop-again-2 : tie.Need-loop-again-2 Inv-loop μ-loop
 loop-again-2 c = search without-added

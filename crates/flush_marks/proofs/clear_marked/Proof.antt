@@ -3,7 +3,7 @@
 use Prim.Native.Nat.{_-_, _≤_}
 use native.Mathlib.Omega.{arith}
 use Rattle.flush_marks.specs.Marks.{ClearedTo}
-use Rattle.flush_marks.proofs.Clearing.{cleared-none, cleared-next, cleared-eight, cleared-far, cleared-rest, cleared-ends}
+use Rattle.flush_marks.proofs.Clearing.{cleared-none, cleared-next, cleared-eight, cleared-found, cleared-rest, cleared-ends}
 use borrow.Author.Needs.{needs}
 use Rattle.flush_marks.proofs.clear_marked.Statement.{statement}
 use Rattle.flush_marks.proofs.clear_marked.Tie as tie
@@ -38,15 +38,27 @@ clear-slot-requires c κs =
 loop-again-2 : tie.Need-loop-again-2 Inv-loop μ-loop
 loop-again-2 c = (search needs, cleared-next _ _ _ _ _ (c .before .before .before .before .before .before .before .before .before .loop .inv .1) (omega arith) _ (c .before .before .before .before .before .has .ensures) (c .before .before .before .before .if2 .taken) _ (c .before .before .clear-slot .ensures))
 
+-- the slot that was found is one of the table
+clear-slot-requires-2 : tie.Need-clear-slot-requires-2 Inv-loop μ-loop
+clear-slot-requires-2 c κs =
+    let inside = c .before .before .before .before .next-marked .ensures .hit _ (c .before .before .j .given .1) .within in
+    let long = c .before .before .before .before .before .before .before .before .before .before .loop .inv .1 .long in
+    omega arith
+
+add-k-3 : tie.Need-add-k-3 Inv-loop μ-loop
+add-k-3 c =
+    let inside = c .before .before .before .before .before .before .before .next-marked .ensures .hit _ (c .before .before .before .before .before .j .given .1) .within in
+    omega arith
+
 loop-less-3 : tie.Need-loop-less-3 Inv-loop μ-loop
 loop-less-3 c =
-    let f = c .before .before .before .next-marked .ensures .hit _ (c .before .j .given .1) in
+    let f = c .before .before .before .before .before .before .before .next-marked .ensures .hit _ (c .before .before .before .before .before .j .given .1) in
     let far = f .behind in
     let inside = f .within in
     omega arith
 
 loop-again-3 : tie.Need-loop-again-3 Inv-loop μ-loop
-loop-again-3 c = cleared-far _ _ _ _ _ (c .before .before .before .before .before .before .before .before .before .loop .inv .1) _ (c .before .before .before .before .before .has .ensures) (c .before .before .before .before .if2 .left) _ (c .before .before .before .next-marked .ensures) _ (c .before .j .given .1)
+loop-again-3 c = cleared-found _ _ _ _ _ (c .before .before .before .before .before .before .before .before .before .before .before .before .before .loop .inv .1) _ (c .before .before .before .before .before .before .before .before .before .has .ensures) (c .before .before .before .before .before .before .before .before .if2 .left) _ (c .before .before .before .before .before .before .before .next-marked .ensures) _ (c .before .before .before .before .before .j .given .1) _ (c .before .before .clear-slot2 .ensures)
 
 same-length : tie.Need-same-length Inv-loop μ-loop
 same-length c = search needs
@@ -79,6 +91,9 @@ clear-marked-spec =
     (λ c. search needs)
     (λ c κs. search needs)
     (λ c. search needs)
+    clear-slot-requires-2
+    (λ c. search needs)
+    add-k-3
     loop-less-3
     loop-again-3
     (λ c. search needs)

@@ -1,9 +1,9 @@
--- `flush_marks::high_if` meets its contract.
+-- `flush_bits::high_if` meets its contract.
 -- Assumes nothing.
 use mathlib.Core.Path.{refl}
 use Rattle.numbers.proofs.Steps.{pick-first, pick-second}
-use Rattle.flush_marks.proofs.high_if.Statement.{statement}
-use Rattle.flush_marks.proofs.high_if.Tie as tie
+use Rattle.flush_bits.proofs.high_if.Statement.{statement}
+use Rattle.flush_bits.proofs.high_if.Tie as tie
 
 returns : tie.Need-returns
 returns c = pick-first _ _ _ _ (c .if1 .taken) refl

@@ -1,9 +1,9 @@
--- `flush_marks::bit_if` meets its contract: a shift is a division.
+-- `flush_bits::bit_if` meets its contract: a shift is a division.
 -- Assumes nothing.
-use Rattle.flush_marks.proofs.Adding.{bit-size}
+use Rattle.flush_bits.proofs.Adding.{bit-size}
 use borrow.Author.Needs.{needs}
-use Rattle.flush_marks.proofs.bit_if.Statement.{statement}
-use Rattle.flush_marks.proofs.bit_if.Tie as tie
+use Rattle.flush_bits.proofs.bit_if.Statement.{statement}
+use Rattle.flush_bits.proofs.bit_if.Tie as tie
 
 cast-result : tie.Need-cast-result
 cast-result c = search bit-size
