@@ -1,16 +1,17 @@
--- The keys of a table's slots count as the table does, and the text of their rows is that of its lines.
+-- The keys of a table's slots count as the table does, the text of their tallies is that of its lines, and no text is longer than the longest.
 -- Assumes nothing.
-use Prim.Native.Nat.{ℕ, zero, suc, _+_, _-_, _*_, _/_, _%_, _^_, _<_, _≤_}
+use Prim.Native.Nat.{ℕ, zero, suc, _+_, _*_, _/_, _<_, _≤_}
 use mathlib.Core.Bool.{Bool, true, false}
 use mathlib.Core.List.{List, [], _∷_, _++_, append-nil, append-assoc}
 use mathlib.Core.Path.{_≡_, refl, sym, ap, _∙_}
-use native.Mathlib.Decide.{ℕ-discrete}
+use native.Mathlib.Decide.{ℕ-discrete, decLt}
 use native.Mathlib.Nat.{zero-add}
+use native.Mathlib.Numerals.{add-one}
 use native.Mathlib.Omega.{arith}
-use lib.Dec.{eqb}
-use lib.ListN.{length, take}
-use lib.Seq.{length-take-le}
-use borrow.Author.Tests.{eq-eqb, ne-eqb}
+use lib.Dec.{eqb, ltb, leb}
+use lib.ListN.{length, take, drop, length-append}
+use lib.Seq.{length-take-le, take-at}
+use borrow.Author.Tests.{eq-eqb, ne-eqb, eqb-false, leb-false, lt-ltb, le-ltb}
 use Rattle.numbers.specs.Tests.{pick}
 use Rattle.numbers.specs.After.{OnArea, onArea}
 use Rattle.table.specs.Record.{unpacked, learnedThat, configuredThat, isFree, isSpoilt}
@@ -19,16 +20,19 @@ use Rattle.table.specs.Learning.{freeSlot}
 use Rattle.table.specs.Table.{spoiltSlot}
 use Rattle.table.specs.declared.Slot.{Slot}
 use Rattle.table.specs.declared.Slot.the-variants.{Free, Spoilt, Learned, Configured}
-use Rattle.table.proofs.Slots.{good-slots, count-few}
-use Rattle.report.specs.Text.{lineText, refusedText}
+use Rattle.flush_sort.specs.Sorting.{Sorted}
+use Rattle.report.specs.Text.{widthOf, lineText, refusedText}
 use Rattle.report.specs.Report.{learnedWith, configuredWith, countOf, Line, lineOf, lineIf, linesBelow, nicknameEnd, linesOf, textOf, countsOf, countsText, reported, written, reportedTo}
 use Rattle.report.specs.declared.ReportAnswer.{ReportAnswer}
+use Rattle.report.proofs.Digits.{length-line}
 use Rattle.report.proofs.Lines.{SmallNickname, small-unpacked}
 use Rattle.report_keys.specs.Keys.{freeKey, spoiltKey, keyOf, keysTo, timesIn}
-use Rattle.report_keys.proofs.Laws.{times-append, times-last, times-few}
-use Rattle.report_rows.specs.Rows.{rowOf, rowIf, rowsBelow}
-use Rattle.report_text.specs.Rows.{rowText, rowsText, wholeText}
-use Rattle.report_text.proofs.Laws.{rows-append}
+use Rattle.report_keys.proofs.Laws.{pick-one, times-append, times-last}
+use Rattle.report_tally.specs.Tallies.{tallied, Tallies, SameTallies}
+use Rattle.report_tally.proofs.Laws.{length-keys}
+use Rattle.report_rows.specs.Rows.{rowText, linesText}
+use Rattle.report_text.specs.Whole.{wholeText, longest}
+use Rattle.report_text.proofs.Laws.{length-whole}
 
 -- ---- counts
 
@@ -100,52 +104,112 @@ module _ (t : List ℕ) where
 
 -- ---- text
 
-row-line : (x l c : ℕ) → l < 2 ^ 16 → c < 2 ^ 16 → rowText (rowOf x l c) ≡ lineText x l c
-unfolding rowText
-row-line x l c h g =
-    let a : (x * 2 ^ 32 + l * 2 ^ 16 + c) / 2 ^ 32 ≡ x = omega arith in
-    let b : (x * 2 ^ 32 + l * 2 ^ 16 + c) / 2 ^ 16 % 2 ^ 16 ≡ l = omega arith in
-    let d : (x * 2 ^ 32 + l * 2 ^ 16 + c) % 2 ^ 16 ≡ c = omega arith in
-    rw (a, b, d)
-
-if-text : (l : Line) → l .learned < 2 ^ 16 → l .configured < 2 ^ 16 → rowsText (rowIf (l .nickname) (l .learned) (l .configured)) ≡ textOf (lineIf l)
-unfolding rowIf lineIf rowsText textOf pick
-if-text l h g = go (eqb (l .learned + l .configured) 0)
+if-text : (l : Line) → textOf (lineIf l) ≡ rowText (l .nickname) (l .learned) (l .configured)
+unfolding rowText lineIf textOf pick
+if-text l = go (eqb (l .learned + l .configured) 0)
   where
-    go : (b : Bool) → rowsText (pick b [] (rowOf (l .nickname) (l .learned) (l .configured) ∷ [])) ≡ textOf (pick b [] (l ∷ []))
+    go : (b : Bool) → textOf (pick b [] (l ∷ [])) ≡ pick b [] (lineText (l .nickname) (l .learned) (l .configured))
     go true = refl
-    go false = ap (λ (x : List ℕ). x ++ []) (row-line (l .nickname) (l .learned) (l .configured) h g)
+    go false = append-nil (lineText (l .nickname) (l .learned) (l .configured))
 
 text-append : (a b : List Line) → textOf (a ++ b) ≡ textOf a ++ textOf b
 unfolding textOf
 text-append [] b = refl
 text-append (l ∷ a) b = rw (text-append a b) (sym (append-assoc (lineText (l .nickname) (l .learned) (l .configured)) (textOf a) (textOf b)))
 
-no-text : rowsText [] ≡ textOf []
-unfolding rowsText textOf
-no-text = refl
+module _ (t v : List ℕ) (tallies : Tallies (keysTo (slotsOf t) t) v) where
+  lines-text : (n : ℕ) → n ≤ nicknameEnd → linesText n v ≡ textOf (linesBelow n t)
+  unfolding linesText linesBelow textOf
+  lines-text zero h = refl
+  lines-text (suc n) h =
+      let l : tallied (n * 2) v ≡ countOf (learnedWith n) t = tallies (n * 2) ∙ times-learned t n (omega arith) in
+      let c : tallied (n * 2 + 1) v ≡ countOf (configuredWith n) t = tallies (n * 2 + 1) ∙ times-configured t n (omega arith) in
+      rw (lines-text n (omega arith), l, c, ← if-text (lineOf n t)) (sym (text-append (linesBelow n t) (lineIf (lineOf n t))))
 
-module _ (t : List ℕ) (few : slotsOf t ≤ mostSlots) where
-  rows-lines : (n : ℕ) → n ≤ nicknameEnd → rowsText (rowsBelow n (keysTo (slotsOf t) t)) ≡ textOf (linesBelow n t)
-  unfolding rowsBelow linesBelow
-  rows-lines zero h = no-text
-  rows-lines (suc n) h =
-      let l = count-few (learnedWith n) t 0 (slotsOf t) in
-      let c = count-few (configuredWith n) t 0 (slotsOf t) in
-      let line : rowsText (rowIf n (countOf (learnedWith n) t) (countOf (configuredWith n) t)) ≡ textOf (lineIf (lineOf n t)) = if-text (lineOf n t) (omega arith) (omega arith) in
-      rw (times-learned t n (omega arith), times-configured t n (omega arith))
-      (rows-append (rowsBelow n (keysTo (slotsOf t) t)) (rowIf n (countOf (learnedWith n) t) (countOf (configuredWith n) t))
-      ∙ ap (λ (x : List ℕ). x ++ rowsText (rowIf n (countOf (learnedWith n) t) (countOf (configuredWith n) t))) (rows-lines n (omega arith))
-      ∙ ap (λ (x : List ℕ). textOf (linesBelow n t) ++ x) line
-      ∙ sym (text-append (linesBelow n t) (lineIf (lineOf n t))))
+  pub whole-counts : wholeText v (tallied freeKey v) (tallied spoiltKey v) ≡ countsText (countsOf t)
+  unfolding wholeText countsText linesOf
+  whole-counts = rw (lines-text nicknameEnd (omega arith), tallies freeKey, tallies spoiltKey, times-free t, times-spoilt t)
 
-  all-lines : rowsText (rowsBelow nicknameEnd (keysTo (slotsOf t) t)) ≡ textOf (linesOf t)
-  unfolding linesOf
-  all-lines = rows-lines nicknameEnd (omega arith)
+-- ---- the longest
 
-  pub whole-counts : wholeText (rowsBelow nicknameEnd (keysTo (slotsOf t) t)) (timesIn freeKey (keysTo (slotsOf t) t)) (timesIn spoiltKey (keysTo (slotsOf t) t)) ≡ countsText (countsOf t)
-  unfolding wholeText countsText
-  whole-counts = rw (all-lines, times-free t, times-spoilt t)
+-- how many keys are below n
+unfoldable below : ℕ → List ℕ → ℕ
+below n [] = 0
+below n (x ∷ xs) = pick (ltb x n) 1 0 + below n xs
+
+below-step : (x n : ℕ) → _≡_ {A = ℕ} (pick (ltb x (suc n)) 1 0) (pick (ltb x n) 1 0 + pick (eqb x n) 1 0)
+unfolding pick
+below-step x n = go (ℕ-discrete x n) (decLt x n)
+  where
+    go : Dec (x ≡ n) → Dec (x < n) → _≡_ {A = ℕ} (pick (ltb x (suc n)) 1 0) (pick (ltb x n) 1 0 + pick (eqb x n) 1 0)
+    go (yes e) d = rw (eq-eqb x n e, lt-ltb x (suc n) (omega arith), le-ltb x n (omega arith))
+    go (no e) (yes l) = rw (ne-eqb x n e, lt-ltb x (suc n) (omega arith), lt-ltb x n l)
+    go (no e) (no l) = rw (ne-eqb x n e, le-ltb x (suc n) (omega arith), le-ltb x n (omega arith))
+
+below-next : (n : ℕ) (keys : List ℕ) → below (suc n) keys ≡ below n keys + timesIn n keys
+unfolding below timesIn
+below-next n [] = omega arith
+below-next n (x ∷ keys) = let r = below-next n keys in let s = below-step x n in omega arith
+
+below-few : (n : ℕ) (keys : List ℕ) → below n keys ≤ length keys
+unfolding below
+below-few n [] = omega arith
+below-few n (x ∷ keys) = let r = below-few n keys in let p = pick-one (ltb x n) in omega arith
+
+-- a count has few digits beside what it counts
+width-few : (n : ℕ) → widthOf n ≤ 1 + n / 10
+unfolding widthOf pick
+width-few n = go (leb n 9) (leb n 99) (leb n 999) refl refl refl
+  where
+    go : (a b c : Bool) → leb n 9 ≡ a → leb n 99 ≡ b → leb n 999 ≡ c → pick a 1 (pick b 2 (pick c 3 4)) ≤ 1 + n / 10
+    go true b c e f g = omega arith
+    go false true c e f g = let h = leb-false n 9 e in omega arith
+    go false false true e f g = let h = leb-false n 99 f in omega arith
+    go false false false e f g = let h = leb-false n 999 g in omega arith
+
+line-few : (x l c : ℕ) → length (rowText x l c) ≤ 9 * (l + c)
+unfolding rowText pick
+line-few x l c = go (eqb (l + c) 0) refl
+  where
+    go : (b : Bool) → eqb (l + c) 0 ≡ b → length (pick b [] (lineText x l c)) ≤ 9 * (l + c)
+    go true e = omega arith
+    go false e =
+        let some = eqb-false (l + c) 0 e in
+        let n = length-line x l c in
+        let a = width-few l in
+        let b = width-few c in
+        omega arith
+
+module _ (keys v : List ℕ) (tallies : Tallies keys v) where
+  lines-few : (n : ℕ) → length (linesText n v) ≤ 9 * below (n * 2) keys
+  unfolding linesText
+  lines-few zero = omega arith
+  lines-few (suc n) =
+      let ih = lines-few n in
+      let two : suc n * 2 ≡ suc (suc (n * 2)) = omega arith in
+      let a = below-next (n * 2) keys in
+      let b : below (suc (suc (n * 2))) keys ≡ below (suc (n * 2)) keys + timesIn (n * 2 + 1) keys = rw (add-one (n * 2)) (below-next (suc (n * 2)) keys) in
+      let p = tallies (n * 2) in
+      let q = tallies (n * 2 + 1) in
+      let f = line-few n (tallied (n * 2) v) (tallied (n * 2 + 1) v) in
+      let l = length-append (linesText n v) (rowText n (tallied (n * 2) v) (tallied (n * 2 + 1) v)) in
+      rw two (omega arith)
+
+  pub whole-few : length keys ≤ mostSlots → length (wholeText v (tallied freeKey v) (tallied spoiltKey v)) ≤ longest
+  whole-few few =
+      let whole = length-whole v (tallied freeKey v) (tallied spoiltKey v) in
+      let lines = lines-few nicknameEnd in
+      let f = tallies freeKey in
+      let s = tallies spoiltKey in
+      let a = below-next freeKey keys in
+      let b = below-next spoiltKey keys in
+      let c = below-few (suc spoiltKey) keys in
+      let wf = width-few (tallied freeKey v) in
+      let ws = width-few (tallied spoiltKey v) in
+      omega arith
+
+pub table-few : (t v : List ℕ) → Tallies (keysTo (slotsOf t) t) v → slotsOf t ≤ mostSlots → length (wholeText v (tallied freeKey v) (tallied spoiltKey v)) ≤ longest
+table-few t v tallies few = let l = length-keys (slotsOf t) t in whole-few (keysTo (slotsOf t) t) v tallies (omega arith)
 
 -- ---- the call
 
@@ -161,8 +225,17 @@ module _ (t area : List ℕ) (g : Bool) (good : g ≡ tableGood t) where
 pub take-few : (n : ℕ) (l : List ℕ) (m : ℕ) → n ≤ m → n ≤ length l → length (take n l) ≤ m
 take-few n l m h g = let e = length-take-le n l g in omega arith
 
-pub keys-written : (w : OnArea ReportAnswer) (l m : List ℕ) (f g s u : ℕ) (o : List ℕ) → w ≡ written (wholeText l f s) o → l ≡ m → f ≡ g → s ≡ u → w ≡ written (wholeText m g u) o
-keys-written w l m f g s u o e el ef es = e ∙ rw (el, ef, es)
+pub tallies-written : (w : OnArea ReportAnswer) (v : List ℕ) (f s : ℕ) (o : List ℕ) → w ≡ written (wholeText v f s) o → f ≡ tallied freeKey v → s ≡ tallied spoiltKey v → w ≡ written (wholeText v (tallied freeKey v) (tallied spoiltKey v)) o
+tallies-written w v f s o e ef es = e ∙ rw (ef, es)
 
-pub table-written : (t l o : List ℕ) (w : OnArea ReportAnswer) → slotsOf t ≤ mostSlots → l ≡ keysTo (slotsOf t) t → w ≡ written (wholeText (rowsBelow nicknameEnd l) (timesIn freeKey l) (timesIn spoiltKey l)) o → w ≡ written (countsText (countsOf t)) o
-table-written t l o w few e is = is ∙ rw e (ap (λ (x : List ℕ). written x o) (whole-counts t few))
+pub table-written : (t v o : List ℕ) (w : OnArea ReportAnswer) → Tallies (keysTo (slotsOf t) t) v → w ≡ written (wholeText v (tallied freeKey v) (tallied spoiltKey v)) o → w ≡ written (countsText (countsOf t)) o
+table-written t v o w tallies is = is ∙ ap (λ (x : List ℕ). written x o) (whole-counts t v tallies)
+
+pub whole-within : (v : List ℕ) (f s n : ℕ) → f ≡ tallied freeKey v → s ≡ tallied spoiltKey v → length (wholeText v (tallied freeKey v) (tallied spoiltKey v)) ≤ n → length (wholeText v f s) ≤ n
+whole-within v f s n ef es h = rw (ef, es) h
+
+-- tallies sorted in their own place
+pub tally-done : (n : ℕ) (u a keys : List ℕ) → n ≤ length u → length a ≡ length (take n u) → Sorted a → SameTallies a (take n u) → Tallies keys (take n u) → Sorted (take n (a ++ drop n u)) × Tallies keys (take n (a ++ drop n u))
+tally-done n u a keys h k sorted same tallies =
+    let e : take n (a ++ drop n u) ≡ a = take-at a (drop n u) n (k ∙ length-take-le n u h) in
+    rw e (sorted, λ j. same j ∙ tallies j)

@@ -1,42 +1,47 @@
-// The report of a table: its keys, the rows of these, their text.
-ghost use Prim.Native.Nat.{_<_, _≤_};
+// The report of a table: tallies of its keys, put in order, and their text.
+ghost use Prim.Native.Nat.{_≤_};
 ghost use mathlib.Core.Bool.{true};
 ghost use mathlib.Core.Path.{_≡_};
-ghost use lib.ListN.{length};
+ghost use lib.ListN.{length, take};
 ghost use Rattle.numbers.specs.After.{onArea};
 ghost use Rattle.table.specs.Slots.{mostSlots, tableGood, slotsOf};
-ghost use Rattle.report.specs.Report.{nicknameEnd, countsOf, countsText, written, reportedTo};
-ghost use Rattle.report_keys.specs.Keys.{freeKey, spoiltKey, timesIn};
-ghost use Rattle.report_rows.specs.Rows.{rowsBelow};
-ghost use Rattle.report_text.specs.Rows.{wholeText};
+ghost use Rattle.flush_sort.specs.Sorting.{Sorted};
+ghost use Rattle.report.specs.Report.{countsOf, countsText, written, reportedTo};
+ghost use Rattle.report_keys.specs.Keys.{freeKey, spoiltKey, keysTo};
+ghost use Rattle.report_tally.specs.Tallies.{tallied, Tallies};
+ghost use Rattle.report_text.specs.Whole.{wholeText, longest};
 use report::ReportAnswer;
 use report_keys::FREE_KEY;
 use report_keys::SPOILT_KEY;
 use table::MOST_SLOTS;
-use table::SLOT_BYTES;
 
-// One row more than there are: a row is stored before it is counted.
-const MOST_ROWS: usize = MOST_SLOTS + 1;
-
-// The report of keys.
-fn write_keys(keys: &[u32], rows: &mut [u64], out: &mut [u8]) -> ReportAnswer
-    requires { ⌜ (length (now keys) ≤ mostSlots) × (mostSlots < length (now rows)) ⌝ }
-    ensures { λ r. ⌜ onArea r (now (out .exit)) ≡ written (wholeText (rowsBelow nicknameEnd (now (keys .entry))) (timesIn freeKey (now (keys .entry))) (timesIn spoiltKey (now (keys .entry)))) (now (out .entry)) ⌝ }
+// The report of sorted tallies.
+fn write_tallies(v: &[u32], out: &mut [u8]) -> ReportAnswer
+    requires { ⌜ (Sorted (now v) × (length (now v) ≤ mostSlots)) × (length (wholeText (now v) (tallied freeKey (now v)) (tallied spoiltKey (now v))) ≤ longest) ⌝ }
+    ensures { λ r. ⌜ onArea r (now (out .exit)) ≡ written (wholeText (now (v .entry)) (tallied freeKey (now (v .entry))) (tallied spoiltKey (now (v .entry)))) (now (out .entry)) ⌝ }
 {
-    let m = report_rows::list(keys, rows);
-    let free = report_keys::times(keys, FREE_KEY);
-    let spoilt = report_keys::times(keys, SPOILT_KEY);
-    report_text::write(&rows[..m], free as u64, spoilt as u64, out)
+    let free = report_rows::times(v, FREE_KEY);
+    let spoilt = report_rows::times(v, SPOILT_KEY);
+    report_text::write(v, free, spoilt, out)
+}
+
+// Sorted tallies of a table of a good length, and how many.
+fn tally(table: &[u8], tallies: &mut [u32]) -> usize
+    requires { ⌜ (slotsOf (now table) ≤ mostSlots) × (length (now tallies) ≡ mostSlots) ⌝ }
+    ensures { λ r. ⌜ (r ≤ slotsOf (now (table .entry))) × (Sorted (take r (now (tallies .exit))) × Tallies (keysTo (slotsOf (now (table .entry))) (now (table .entry))) (take r (now (tallies .exit)))) ⌝ }
+{
+    let n = report_tally::gather(table, tallies);
+    report_order::order(&mut tallies[..n]);
+    n
 }
 
 // The report of a table of a good length.
-fn write_table(table: &[u8], keys: &mut [u32], rows: &mut [u64], out: &mut [u8]) -> ReportAnswer
-    requires { ⌜ (tableGood (now table) ≡ true) × ((mostSlots ≤ length (now keys)) × (mostSlots < length (now rows))) ⌝ }
+fn write_table(table: &[u8], tallies: &mut [u32], out: &mut [u8]) -> ReportAnswer
+    requires { ⌜ (tableGood (now table) ≡ true) × (length (now tallies) ≡ mostSlots) ⌝ }
     ensures { λ r. ⌜ onArea r (now (out .exit)) ≡ written (countsText (countsOf (now (table .entry)))) (now (out .entry)) ⌝ }
 {
-    report_keys::keys_of(table, keys);
-    let n = table.len() / SLOT_BYTES;
-    write_keys(&keys[..n], rows, out)
+    let n = tally(table, tallies);
+    write_tallies(&tallies[..n], out)
 }
 
 // The report of any bytes.
@@ -46,7 +51,6 @@ pub fn write_report(table: &[u8], out: &mut [u8]) -> ReportAnswer
     if !table_records::table_good(table) {
         return report_text::write_refused(out);
     }
-    let mut keys = [0u32; MOST_SLOTS];
-    let mut rows = [0u64; MOST_ROWS];
-    write_table(table, &mut keys, &mut rows, out)
+    let mut tallies = [0u32; MOST_SLOTS];
+    write_table(table, &mut tallies, out)
 }

@@ -13,6 +13,7 @@ use lib.ListN.{length, take, drop, getD, set, length-append}
 use lib.Seq.{set-split}
 use borrow.Author.Tests.{le-leb, lt-leb}
 use Rattle.numbers.specs.Tests.{pick}
+use Rattle.numbers.specs.Bytes.{bytesOf}
 use Rattle.frame_copy.specs.Areas.{pasted}
 use Rattle.frame_copy.proofs.Copying.{paste-next}
 use Rattle.report.specs.Text.{sign, digitsOf, hexadecimal, widthOf, decimal}
@@ -84,3 +85,16 @@ digits-pasted b j k n o o₁ o₂ at h first second =
 pub four-digits : (n : ℕ) → digitsOf 16 4 n ≡ hexadecimal n
 unfolding hexadecimal
 four-digits n = refl
+
+-- four signs as one number
+pub hexadecimal-bytes : (n a b c d : ℕ) → a ≡ sign (n / 0x1000 % 16) → b ≡ sign (n / 0x100 % 16) → c ≡ sign (n / 0x10 % 16) → d ≡ sign (n % 16) → a < 2 ^ 8 → b < 2 ^ 8 → c < 2 ^ 8 → d < 2 ^ 8
+    → bytesOf 4 (a * 0x100_0000 + b * 0x1_0000 + c * 0x100 + d) ≡ hexadecimal n
+unfolding bytesOf hexadecimal digitsOf
+hexadecimal-bytes n a b c d ea eb ec ed ha hb hc hd =
+    let w : ℕ = a * 0x100_0000 + b * 0x1_0000 + c * 0x100 + d in
+    let one : w / 256 ^ 3 % 256 ≡ a = omega arith in
+    let two : w / 256 ^ 2 % 256 ≡ b = omega arith in
+    let three : w / 256 ^ 1 % 256 ≡ c = omega arith in
+    let four : w / 256 ^ 0 % 256 ≡ d = omega arith in
+    let last : n / 16 ^ 0 % 16 ≡ n % 16 = omega arith in
+    rw (one, two, three, four, last, ea, eb, ec, ed)

@@ -1,8 +1,9 @@
 // Digits written to an area: hexadecimal for a nickname, decimal for a count.
-ghost use Prim.Native.Nat.{_+_, _<_, _≤_};
+ghost use Prim.Native.Nat.{_+_, _^_, _<_, _≤_};
 ghost use mathlib.Core.List.{[], _∷_};
 ghost use mathlib.Core.Path.{_≡_};
 ghost use lib.ListN.{length};
+ghost use Rattle.numbers.specs.Bytes.{bytesOf};
 ghost use Rattle.frame_copy.specs.Areas.{pasted};
 ghost use Rattle.report.specs.Text.{sign, digitsOf, hexadecimal, widthOf, decimal};
 
@@ -68,6 +69,16 @@ pub fn put_hexadecimal(n: u64, out: &mut [u8], at: usize)
 {
     put_hexadecimal_two(n / 0x100, out, at);
     put_hexadecimal_two(n, out, at + 2);
+}
+
+// The signs of a nickname as one number.
+pub fn hexadecimal_word(n: u64) -> u64
+    ensures { λ r. ⌜ (bytesOf 4 r ≡ hexadecimal n) × (r < 2 ^ 32) ⌝ }
+{
+    numbers::wide(sign_of(n / 0x1000 % 16)) * 0x100_0000
+        + numbers::wide(sign_of(n / 0x100 % 16)) * 0x1_0000
+        + numbers::wide(sign_of(n / 0x10 % 16)) * 0x100
+        + numbers::wide(sign_of(n % 16))
 }
 
 // How many digits a count has.

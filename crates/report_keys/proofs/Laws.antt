@@ -1,31 +1,78 @@
--- Laws of keys: gathering them, and how often one stands in a list.
+-- Laws of keys: the key of a slot, and how often one stands in a list.
 -- Assumes nothing.
-use Prim.Native.Nat.{ℕ, zero, suc, _+_, _*_, _<_, _≤_}
+use Prim.Native.Nat.{ℕ, _+_, _-_, _*_, _%_, _^_, _<_, _≤_}
 use mathlib.Core.Bool.{Bool, true, false}
 use mathlib.Core.List.{List, [], _∷_, _++_}
 use mathlib.Core.Path.{_≡_, refl, sym, ap, _∙_}
-use native.Mathlib.Nat.{zero-add}
-use native.Mathlib.Numerals.{add-one}
+use native.Mathlib.Decide.{ℕ-discrete}
 use native.Mathlib.Omega.{arith}
 use lib.Dec.{eqb}
-use lib.ListN.{length, take, drop, getD, set}
-use lib.Seq.{take-suc, take-suc-set, take-all}
-use Rattle.numbers.specs.Tests.{pick}
-use Rattle.table.specs.Record.{unpacked}
-use Rattle.table.specs.Slots.{slotBytes, slotsOf, slotAt}
-use Rattle.table.proofs.Contents.{unpacked-near}
-use Rattle.report_keys.specs.Keys.{keyOf, keysTo, timesIn}
+use lib.ListN.{length}
+use borrow.Author.Tests.{eq-eqb, ne-eqb}
+use Rattle.numbers.specs.Tests.{pick, both, between}
+use Rattle.numbers.proofs.Truth.{between-in, between-below, between-above}
+use Rattle.table.specs.Record.{recordOf, stateOf, nicknameOf, markOf, learnedState, configuredState, entryOf, entryGood, held, slotOf, markedSlot, unpacked, isFree}
+use Rattle.table.specs.Learning.{freeSlot}
+use Rattle.table.specs.declared.Slot.the-variants.{Free, Spoilt, Learned, Configured}
+use Rattle.report_keys.specs.Keys.{freeKey, spoiltKey, keyOf, timesIn}
 
--- ---- gathering
+-- ---- the key of a slot
 
-pub none-yet : (t keys : List ℕ) → take 0 keys ≡ keysTo 0 t
-unfolding keysTo
-none-yet t keys = refl
+-- a slot that is free or spoilt by its fields
+empty-key : (b : ℕ) (z : Bool) → pick (isFree (markedSlot b (pick z Free Spoilt))) freeKey spoiltKey ≡ keyOf (markedSlot b (pick z Free Spoilt))
+unfolding markedSlot pick
+empty-key b true = go (eqb b 0)
+  where
+    go : (y : Bool) → pick (isFree (pick y Free Spoilt)) freeKey spoiltKey ≡ keyOf (pick y Free Spoilt)
+    go true = refl
+    go false = refl
+empty-key b false = refl
 
-pub one-more : (t keys : List ℕ) (i v : ℕ) → i < length keys → take i keys ≡ keysTo i t → v ≡ keyOf (unpacked (drop (slotBytes * i) t)) → take (i + 1) (set keys i v) ≡ keysTo (i + 1) t
-unfolding keysTo
-one-more t keys i v h so-far e =
-    rw (add-one i, take-suc-set keys i v h, so-far, e, unpacked-near (drop (slotBytes * i) t))
+module _ (r : List ℕ) where
+  -- neither learned nor configured
+  no-record : between learnedState configuredState (stateOf (recordOf r)) ≡ false → slotOf (recordOf r) ≡ pick (eqb (recordOf r) 0) Free Spoilt
+  unfolding slotOf both pick
+  no-record h = rw h
+
+  pub key-empty : (s : ℕ) → s ≡ stateOf (recordOf r) → s ≡ 0 → (f : Bool) → f ≡ freeSlot r → (k : ℕ) → k ≡ pick f freeKey spoiltKey → k ≡ keyOf (unpacked r)
+  unfolding freeSlot unpacked
+  key-empty s es e f ef k ek =
+      let none = no-record (between-below learnedState configuredState (stateOf (recordOf r)) (omega arith)) in
+      ek ∙ rw (ef, none) (empty-key (markOf r) (eqb (recordOf r) 0))
+
+  pub key-above : (s : ℕ) → s ≡ stateOf (recordOf r) → configuredState < s → spoiltKey ≡ keyOf (unpacked r)
+  unfolding unpacked markedSlot pick
+  key-above s es h =
+      let none = no-record (between-above learnedState configuredState (stateOf (recordOf r)) (omega arith)) in
+      let some : eqb (recordOf r) 0 ≡ false = ne-eqb (recordOf r) 0 (λ z. omega arith) in
+      rw (none, some)
+
+  module _ (s : ℕ) (es : s ≡ stateOf (recordOf r)) (low : s ≡ 0 → ⊥) (high : s ≤ configuredState) where
+    a-record : slotOf (recordOf r) ≡ pick (entryGood (entryOf (recordOf r))) (held s (entryOf (recordOf r))) Spoilt
+    unfolding slotOf both pick
+    a-record =
+        let some : eqb (recordOf r) 0 ≡ false = ne-eqb (recordOf r) 0 (λ z. low (omega arith)) in
+        rw (some, es, between-in learnedState configuredState (stateOf (recordOf r)) (omega arith) (omega arith))
+
+    pub key-bad : (g : Bool) → g ≡ entryGood (entryOf (recordOf r)) → g ≡ false → spoiltKey ≡ keyOf (unpacked r)
+    unfolding unpacked markedSlot pick
+    key-bad g eg h = rw (a-record, ← eg, h)
+
+    pub key-marked : (g : Bool) → g ≡ entryGood (entryOf (recordOf r)) → g ≡ true → (b : ℕ) → b ≡ markOf r → (b % 2 ^ 7 ≡ 0 → ⊥) → spoiltKey ≡ keyOf (unpacked r)
+    unfolding unpacked markedSlot pick held
+    key-marked g eg h b eb some = rw (a-record, ← eg, h, ← eb) (go (eqb s learnedState))
+      where
+        go : (z : Bool) → spoiltKey ≡ keyOf (markedSlot b (pick z (Learned (entryOf (recordOf r))) (Configured (entryOf (recordOf r)))))
+        go true = rw (ne-eqb (b % 2 ^ 7) 0 some)
+        go false = rw (ne-eqb (b % 2 ^ 7) 0 some)
+
+    pub key-record : (g : Bool) → g ≡ entryGood (entryOf (recordOf r)) → g ≡ true → (b : ℕ) → b ≡ markOf r → b % 2 ^ 7 ≡ 0 → (x : ℕ) → x ≡ nicknameOf (recordOf r) → x * 2 + (s - learnedState) ≡ keyOf (unpacked r)
+    unfolding unpacked markedSlot pick held entryOf
+    key-record g eg h b eb none x ex = rw (a-record, ← eg, h, ← eb) (go (ℕ-discrete s learnedState))
+      where
+        go : Dec (s ≡ learnedState) → x * 2 + (s - learnedState) ≡ keyOf (markedSlot b (pick (eqb s learnedState) (Learned (entryOf (recordOf r))) (Configured (entryOf (recordOf r)))))
+        go (yes e) = rw (eq-eqb s learnedState e, eq-eqb (b % 2 ^ 7) 0 none, ← ex) (omega arith)
+        go (no e) = rw (ne-eqb s learnedState e, eq-eqb (b % 2 ^ 7) 0 none, ← ex) (omega arith)
 
 -- ---- counting
 
@@ -43,17 +90,7 @@ pub times-last : (k v : ℕ) → timesIn k (v ∷ []) ≡ pick (eqb v k) 1 0
 unfolding timesIn
 times-last k v = omega arith
 
-pub times-none : (k : ℕ) (l : List ℕ) → 0 ≡ timesIn k (take 0 l)
-unfolding timesIn
-times-none k l = refl
-
-pub times-next : (k : ℕ) (l : List ℕ) (i : ℕ) → i < length l → timesIn k (take (i + 1) l) ≡ timesIn k (take i l) + pick (eqb (getD l i 0) k) 1 0
-times-next k l i h = rw (add-one i, take-suc l i 0 h, times-append k (take i l) (getD l i 0 ∷ []), times-last k (getD l i 0))
-
 pub times-few : (k : ℕ) (l : List ℕ) → timesIn k l ≤ length l
 unfolding timesIn
 times-few k [] = omega arith
 times-few k (x ∷ l) = let r = times-few k l in let p = pick-one (eqb x k) in omega arith
-
-pub times-all : (k : ℕ) (l : List ℕ) (i : ℕ) → i ≤ length l → length l ≤ i → timesIn k (take i l) ≡ timesIn k l
-times-all k l i h g = ap (timesIn k) (take-all i l g)

@@ -1,46 +1,40 @@
--- Lines as rows, one number for each; and the counts of a block of nicknames.
+-- The rows of tallies that are sorted: those of one nickname stand together, and the lines follow from them in rising order.
 -- Assumes nothing.
-use Prim.Native.Nat.{ℕ, zero, suc, _+_, _*_, _/_, _^_, _<_}
-use mathlib.Core.List.{List, [], _∷_, _++_}
+use Prim.Native.Nat.{ℕ, zero, suc, _+_, _-_, _*_, _/_, _<_, _≤_}
+use mathlib.Core.List.{List, [], _++_}
 use mathlib.Core.Path.{_≡_}
 use lib.Dec.{eqb}
-use lib.ListN.{length, getD}
+use lib.ListN.{length, take, drop, getD}
 use Rattle.numbers.specs.Tests.{pick}
-use Rattle.report_keys.specs.Keys.{timesIn}
+use Rattle.flush_sort.specs.Sorting.{All}
+use Rattle.report.specs.Text.{lineText}
+use Rattle.report_tally.specs.Tallies.{tallyUnit, tallied}
+use Rattle.report_rows.specs.declared.Row.{Row}
 
--- nickname, learned count, configured count
-abbrev pub rowOf : ℕ → ℕ → ℕ → ℕ
-rowOf x l c = x * 2 ^ 32 + l * 2 ^ 16 + c
+-- the nickname of a tally stands above its kind and its count
+abbrev pub rowUnit : ℕ
+rowUnit = 2 * tallyUnit
 
-unfoldable pub rowIf : ℕ → ℕ → ℕ → List ℕ
-rowIf x l c = pick (eqb (l + c) 0) [] (rowOf x l c ∷ [])
+-- a nickname's line, if it has records
+unfoldable pub rowText : ℕ → ℕ → ℕ → List ℕ
+rowText x l c = pick (eqb (l + c) 0) [] (lineText x l c)
 
--- the rows of the nicknames below n, by the keys of all slots
-unfoldable pub rowsBelow : ℕ → List ℕ → List ℕ
-rowsBelow zero keys = []
-rowsBelow (suc x) keys = rowsBelow x keys ++ rowIf x (timesIn (x * 2) keys) (timesIn (x * 2 + 1) keys)
+-- the lines of the nicknames below n, by tallies
+unfoldable pub linesText : ℕ → List ℕ → List ℕ
+linesText zero v = []
+linesText (suc x) v = linesText x v ++ rowText x (tallied (x * 2) v) (tallied (x * 2 + 1) v)
 
--- the nicknames that are counted at a time, their keys, and how many times
-abbrev pub blockNicknames : ℕ
-blockNicknames = 8192
+-- the row of the tallies from place i on, where those of a nickname start
+pub record RowAt (v : List ℕ) (i : ℕ) (r : Row) : Type 0 where
+  pub nickname : r .nickname ≡ getD v i 0 / rowUnit
+  pub learned : r .learned ≡ tallied (r .nickname * 2) (drop i v)
+  pub configured : r .configured ≡ tallied (r .nickname * 2 + 1) (drop i v)
+  pub further : i < r .next
+  pub within : r .next ≤ length v
+  pub last : getD v (r .next - 1) 0 / rowUnit ≡ r .nickname
+  pub above : All (λ t. r .nickname + 1 ≤ t / rowUnit) (drop (r .next) v)
 
-abbrev pub blockKeys : ℕ
-blockKeys = 2 * blockNicknames
-
-abbrev pub blocks : ℕ
-blocks = 8
-
--- how many keys are of block b
-unfoldable pub inBlock : ℕ → List ℕ → ℕ
-inBlock b [] = 0
-inBlock b (k ∷ keys) = pick (eqb (k / blockKeys) b) 1 0 + inBlock b keys
-
--- the counts are those of the keys of block b
-pub record Counted (b : ℕ) (keys counts : List ℕ) : Type 0 where
-  pub long : length counts ≡ blockKeys
-  pub each : (r : ℕ) → r < blockKeys → getD counts r 0 ≡ timesIn (b * blockKeys + r) keys
-
--- the rows of the first m nicknames of a block, by its counts
-unfoldable pub blockRows : ℕ → ℕ → List ℕ → List ℕ
-blockRows first zero counts = []
-blockRows first (suc m) counts = blockRows first m counts ++ rowIf (first + m) (getD counts (m * 2) 0) (getD counts (m * 2 + 1) 0)
+-- where the lines of the nicknames below b are done: the tallies before place i are of these, the others are not
+pub record DoneAt (b i : ℕ) (v : List ℕ) : Type 0 where
+  pub done : All (λ t. t / rowUnit < b) (take i v)
+  pub left : All (λ t. b ≤ t / rowUnit) (drop i v)

@@ -1,113 +1,97 @@
-// The rows of a report: a row for each nickname that has keys, rising. Keys are counted in blocks of nicknames, so that the counters of a
-// block are few: no scan of the table for each nickname.
-ghost use Prim.Native.Nat.{ℕ, _+_, _*_, _^_, _<_, _≤_};
-ghost use mathlib.Core.List.{_++_};
+// The rows of a report, from tallies that are sorted: the two counts of a nickname, and how often a key past all nicknames was met.
+ghost use Prim.Native.Nat.{_+_, _*_, _/_, _%_, _^_, _<_, _≤_};
 ghost use mathlib.Core.Path.{_≡_};
-ghost use lib.ListN.{length, take, getD};
+ghost use lib.ListN.{length};
+ghost use Rattle.numbers.specs.Tests.{pick};
 ghost use Rattle.table.specs.Slots.{mostSlots};
-ghost use Rattle.report.specs.Report.{nicknameEnd};
-ghost use Rattle.report_rows.specs.Rows.{rowsBelow, blockNicknames, blockKeys, blocks, inBlock, Counted, blockRows};
+ghost use Rattle.flush_sort.specs.Sorting.{Sorted};
+ghost use Rattle.report_keys.specs.Keys.{freeKey};
+ghost use Rattle.report_tally.specs.Tallies.{tallyUnit, countedBy, tallied};
+ghost use Rattle.report_rows.specs.Rows.{rowUnit, RowAt};
+use report_keys::FREE_KEY;
+use report_tally::TALLY_UNIT;
 
-// The nicknames of a block, and their keys; how many blocks there are.
-const BLOCK_NICKNAMES: usize = 8192;
-
-const BLOCK_KEYS: usize = 2 * BLOCK_NICKNAMES;
-
-const BLOCKS: usize = 8;
-
-// A row: nickname, learned count, configured count.
-const ROW_NICKNAME: usize = 0x1_0000_0000;
-
-const ROW_LEARNED: usize = 0x1_0000;
-
-fn wide(k: u32) -> usize
-    ensures { λ r. ⌜ r ≡ k ⌝ }
-{
-    k as usize
+// A nickname, its counts, and the place after its tallies.
+pub struct Row {
+    pub nickname: u64,
+    pub learned: u64,
+    pub configured: u64,
+    pub next: usize,
 }
 
-fn count_of(n: u16) -> usize
-    ensures { λ r. ⌜ (r ≡ n) × (r < 2 ^ 16) ⌝ }
+// The nickname of a tally stands above its kind and its count.
+const ROW_UNIT: u32 = 2 * TALLY_UNIT;
+
+// The count of a tally, or 0.
+fn count_if(b: bool, t: u32) -> u64
+    ensures { λ r. ⌜ (r ≡ pick b (t % tallyUnit) 0) × (r < tallyUnit) ⌝ }
 {
-    n as usize
+    if b { (t % TALLY_UNIT) as u64 } else { 0 }
 }
 
-// How many keys are of block b.
-fn keys_in(keys: &[u32], b: usize) -> usize
-    ensures { λ r. ⌜ (r ≡ inBlock b (now (keys .entry))) × (r ≤ length (now (keys .entry))) ⌝ }
+// How often a tally counts learned records of its nickname, and configured ones.
+fn learned_of(t: u32) -> u64
+    ensures { λ r. ⌜ (r ≡ countedBy (t / rowUnit * 2) t) × (r < tallyUnit) ⌝ }
+{
+    count_if(t / TALLY_UNIT % 2 == 0, t)
+}
+
+fn configured_of(t: u32) -> u64
+    ensures { λ r. ⌜ (r ≡ countedBy (t / rowUnit * 2 + 1) t) × (r < tallyUnit) ⌝ }
+{
+    count_if(t / TALLY_UNIT % 2 == 1, t)
+}
+
+fn nickname_of(t: u32) -> u64
+    ensures { λ r. ⌜ (r ≡ t / rowUnit) × (r < 2 ^ 18) ⌝ }
+{
+    (t / ROW_UNIT) as u64
+}
+
+// The row that starts at a place.
+pub fn row_at(v: &[u32], i: usize) -> Row
+    requires { ⌜ (i < length (now v)) × (Sorted (now v) × (length (now v) ≤ mostSlots)) ⌝ }
+    ensures { λ r. ⌜ RowAt (now (v .entry)) i r ⌝ }
+{
+    let x = nickname_of(v[i]);
+    let mut l = learned_of(v[i]);
+    let mut c = configured_of(v[i]);
+    let mut j = i + 1;
+    while j < v.len() {
+        if nickname_of(v[j]) != x {
+            return Row {
+                nickname: x,
+                learned: l,
+                configured: c,
+                next: j,
+            };
+        }
+        l += learned_of(v[j]);
+        c += configured_of(v[j]);
+        j += 1;
+    }
+    Row {
+        nickname: x,
+        learned: l,
+        configured: c,
+        next: j,
+    }
+}
+
+// How often the tallies count a key past those of all nicknames: theirs are the last.
+pub fn times(v: &[u32], k: u32) -> u64
+    requires { ⌜ (freeKey ≤ k) × (Sorted (now v) × (length (now v) ≤ mostSlots)) ⌝ }
+    ensures { λ r. ⌜ r ≡ tallied k (now (v .entry)) ⌝ }
 {
     let mut n = 0;
-    let mut i = 0;
-    while i < keys.len() {
-        n += flush_sort::one(wide(keys[i]) / BLOCK_KEYS == b);
-        i += 1;
-    }
-    n
-}
-
-// Counts the keys of block b; there is no branch on a key.
-fn count_block(keys: &[u32], b: usize, counts: &mut [u16])
-    requires { ⌜ (length (now keys) ≤ mostSlots) × ((length (now counts) ≡ blockKeys) × ((r : ℕ) → getD (now counts) r 0 ≡ 0)) ⌝ }
-    ensures { λ _. ⌜ Counted b (now (keys .entry)) (now (counts .exit)) ⌝ }
-{
-    let mut i = 0;
-    while i < keys.len() {
-        let k = wide(keys[i]);
-        let r = k % BLOCK_KEYS;
-        let n = count_of(counts[r]);
-        counts[r] = (n + flush_sort::one(k / BLOCK_KEYS == b)) as u16;
-        i += 1;
-    }
-}
-
-// The rows of a block, after n others: each nickname's is stored, and counted where it has keys.
-fn rows_of_block(counts: &[u16], first: usize, rows: &mut [u64], n: usize) -> usize
-    requires { ⌜ (length (now counts) ≡ blockKeys) × ((first + blockNicknames ≤ nicknameEnd) × (n + length (blockRows first blockNicknames (now counts)) < length (now rows))) ⌝ }
-    ensures { λ r. ⌜ (r ≡ n + length (blockRows first blockNicknames (now (counts .entry)))) × (take r (now (rows .exit)) ≡ take n (now (rows .entry)) ++ blockRows first blockNicknames (now (counts .entry))) ⌝ }
-{
-    let mut k = n;
-    let mut m = 0;
-    while m < BLOCK_NICKNAMES {
-        let l = count_of(counts[m * 2]);
-        let c = count_of(counts[m * 2 + 1]);
-        rows[k] = ((first + m) * ROW_NICKNAME + l * ROW_LEARNED + c) as u64;
-        k += flush_sort::one(l + c != 0);
-        m += 1;
-    }
-    k
-}
-
-// The rows of block b, after those of the blocks before it.
-fn list_block(keys: &[u32], b: usize, rows: &mut [u64], n: usize) -> usize
-    requires { ⌜ ((length (now keys) ≤ mostSlots) × ((mostSlots < length (now rows)) × (b < blocks))) × ((n ≡ length (rowsBelow (b * blockNicknames) (now keys))) × (take n (now rows) ≡ rowsBelow (b * blockNicknames) (now keys))) ⌝ }
-    ensures { λ r. ⌜ (r ≡ length (rowsBelow ((b + 1) * blockNicknames) (now (keys .entry)))) × (take r (now (rows .exit)) ≡ rowsBelow ((b + 1) * blockNicknames) (now (keys .entry))) ⌝ }
-{
-    let mut counts = [0u16; BLOCK_KEYS];
-    count_block(keys, b, &mut counts);
-    rows_of_block(&counts, b * BLOCK_NICKNAMES, rows, n)
-}
-
-// The same; a block without keys has no rows.
-fn list_used(keys: &[u32], b: usize, rows: &mut [u64], n: usize) -> usize
-    requires { ⌜ ((length (now keys) ≤ mostSlots) × ((mostSlots < length (now rows)) × (b < blocks))) × ((n ≡ length (rowsBelow (b * blockNicknames) (now keys))) × (take n (now rows) ≡ rowsBelow (b * blockNicknames) (now keys))) ⌝ }
-    ensures { λ r. ⌜ (r ≡ length (rowsBelow ((b + 1) * blockNicknames) (now (keys .entry)))) × (take r (now (rows .exit)) ≡ rowsBelow ((b + 1) * blockNicknames) (now (keys .entry))) ⌝ }
-{
-    if keys_in(keys, b) == 0 {
-        return n;
-    }
-    list_block(keys, b, rows, n)
-}
-
-// All rows, and how many.
-pub fn list(keys: &[u32], rows: &mut [u64]) -> usize
-    requires { ⌜ (length (now keys) ≤ mostSlots) × (mostSlots < length (now rows)) ⌝ }
-    ensures { λ r. ⌜ (r ≤ mostSlots) × (take r (now (rows .exit)) ≡ rowsBelow nicknameEnd (now (keys .entry))) ⌝ }
-{
-    let mut n = 0;
-    let mut b = 0;
-    while b < BLOCKS {
-        n = list_used(keys, b, rows, n);
-        b += 1;
+    let mut i = v.len();
+    while 0 < i {
+        let t = v[i - 1];
+        if t / TALLY_UNIT < FREE_KEY {
+            return n;
+        }
+        n += count_if(t / TALLY_UNIT == k, t);
+        i -= 1;
     }
     n
 }

@@ -1,15 +1,13 @@
--- Laws of the text: the text of rows grows a line at a time; lengths; what is written.
+-- Laws of the text: lines grow one at a time; lengths; what is written.
 -- Assumes nothing.
-use Prim.Native.Nat.{ℕ, zero, suc, _+_, _-_, _*_, _/_, _%_, _^_, _<_, _≤_}
+use Prim.Native.Nat.{ℕ, suc, _+_, _*_, _/_, _%_, _^_, _<_, _≤_}
 use mathlib.Core.Bool.{Bool, true, false}
 use mathlib.Core.List.{List, [], _∷_, _++_, append-nil, append-assoc}
 use mathlib.Core.Path.{_≡_, refl, sym, ap, _∙_}
 use native.Mathlib.Nat.{zero-add}
-use native.Mathlib.Numerals.{add-one}
 use native.Mathlib.Omega.{arith}
 use lib.Dec.{leb}
-use lib.ListN.{length, take, drop, getD, length-append, take-append-drop}
-use lib.Seq.{take-suc, take-all}
+use lib.ListN.{length, take, drop, length-append, take-append-drop}
 use borrow.Author.Tests.{le-leb, lt-leb}
 use Rattle.numbers.specs.Tests.{pick}
 use Rattle.numbers.specs.Result.{check, settled}
@@ -18,95 +16,90 @@ use Rattle.numbers.specs.Bytes.{laid, bytesOf}
 use Rattle.numbers.specs.Refusals.{table-length-bad}
 use Rattle.numbers.proofs.Bytes.{length-bytesOf}
 use Rattle.frame_copy.specs.Areas.{pasted}
-use Rattle.frame_copy.proofs.Copying.{paste-next, paste-after, paste-laid}
-use Rattle.table.specs.Slots.{mostSlots}
+use Rattle.frame_copy.proofs.Copying.{paste-laid}
 use Rattle.report.specs.Text.{space, lineFeed, hexadecimal, widthOf, decimal, digitsOf, lineText, freeText, spoiltText, refusedText}
-use Rattle.report.specs.Report.{written}
+use Rattle.report.specs.Report.{nicknameEnd, written}
 use Rattle.report.specs.declared.ReportAnswer.the-variants as report
 use Rattle.report.proofs.Digits.{length-digits, length-decimal, width-most, length-line, length-free, length-spoilt}
 use Rattle.report_digits.proofs.Laws.{then-pasted}
-use Rattle.report_text.specs.Rows.{rowText, rowsText, wholeText}
-
--- ---- one line
-
-pub length-row : (r : ℕ) → length (rowText r) ≡ 7 + widthOf (r / 2 ^ 16 % 2 ^ 16) + widthOf (r % 2 ^ 16)
-unfolding rowText
-length-row r = length-line (r / 2 ^ 32) (r / 2 ^ 16 % 2 ^ 16) (r % 2 ^ 16)
-
-length-hexadecimal : (x : ℕ) → length (hexadecimal x) ≡ 4
-unfolding hexadecimal
-length-hexadecimal x = length-digits 16 4 x
-
--- a byte and a count
-pub after-pasted : (o o₁ o₂ : List ℕ) (at b n : ℕ) → at ≤ length o → o₁ ≡ pasted o at (b ∷ []) → o₂ ≡ pasted o₁ (at + 1) (decimal n) → o₂ ≡ pasted o at (b ∷ decimal n)
-after-pasted o o₁ o₂ at b n h first second = then-pasted o o₁ o₂ (b ∷ []) (decimal n) (b ∷ decimal n) at (at + 1) first second h refl refl
-
-module _ (o o₁ o₂ o₃ o₄ : List ℕ) (r at b e : ℕ) (h : at ≤ length o)
-    (first : o₁ ≡ pasted o at (hexadecimal (r / 2 ^ 32)))
-    (second : o₂ ≡ pasted o₁ (at + 4) (space ∷ decimal (r / 2 ^ 16 % 2 ^ 16)))
-    (eb : b ≡ at + 4 + 1 + widthOf (r / 2 ^ 16 % 2 ^ 16))
-    (third : o₃ ≡ pasted o₂ b (space ∷ decimal (r % 2 ^ 16)))
-    (ee : e ≡ b + 1 + widthOf (r % 2 ^ 16))
-    (fourth : o₄ ≡ pasted o₃ e (lineFeed ∷ [])) where
-  pub line-pasted : o₄ ≡ pasted o at (rowText r)
-  unfolding rowText lineText
-  line-pasted =
-      let x = hexadecimal (r / 2 ^ 32) in
-      let l = space ∷ decimal (r / 2 ^ 16 % 2 ^ 16) in
-      let c = space ∷ decimal (r % 2 ^ 16) in
-      let lx = length-hexadecimal (r / 2 ^ 32) in
-      let ll : length l ≡ 1 + widthOf (r / 2 ^ 16 % 2 ^ 16) = ap suc (length-decimal (r / 2 ^ 16 % 2 ^ 16)) ∙ omega arith in
-      let lc : length c ≡ 1 + widthOf (r % 2 ^ 16) = ap suc (length-decimal (r % 2 ^ 16)) ∙ omega arith in
-      let two : o₂ ≡ pasted o at (x ++ l) = then-pasted o o₁ o₂ x l (x ++ l) at (at + 4) first second h (omega arith) refl in
-      let l2 : length (x ++ l) ≡ 4 + (1 + widthOf (r / 2 ^ 16 % 2 ^ 16)) = length-append x l ∙ omega arith in
-      let three : o₃ ≡ pasted o at ((x ++ l) ++ c) = then-pasted o o₂ o₃ (x ++ l) c ((x ++ l) ++ c) at b two third h (omega arith) refl in
-      let l3 : length ((x ++ l) ++ c) ≡ 4 + (1 + widthOf (r / 2 ^ 16 % 2 ^ 16)) + (1 + widthOf (r % 2 ^ 16)) = length-append (x ++ l) c ∙ omega arith in
-      then-pasted o o₃ o₄ ((x ++ l) ++ c) (lineFeed ∷ []) (x ++ (l ++ (c ++ lineFeed ∷ []))) at e three fourth h (omega arith) (simp append-assoc)
-
-  pub line-end : e + 1 ≡ at + length (rowText r)
-  line-end = let l = length-row r in omega arith
+use Rattle.flush_sort.specs.Sorting.{Sorted}
+use Rattle.report_rows.specs.declared.Row.{Row}
+use Rattle.report_rows.specs.Rows.{rowUnit, rowText, linesText, RowAt, DoneAt}
+use Rattle.report_rows.proofs.Laws.{all-map}
+use Rattle.report_rows.proofs.Lines.{lines-rest, lines-end, done-none, none-done, row-left, done-next, row-lines, lines-more}
+use Rattle.report_lines.proofs.Laws.{pasted-none}
+use Rattle.report_text.specs.Whole.{wholeText}
 
 -- ---- all lines
 
-pub rows-append : (a b : List ℕ) → rowsText (a ++ b) ≡ rowsText a ++ rowsText b
-unfolding rowsText
-rows-append [] b = refl
-rows-append (r ∷ a) b = rw (rows-append a b) (sym (append-assoc (rowText r) (rowsText a) (rowsText b)))
+-- n is the length of the lines that are done
+pub record SoLong (v : List ℕ) (n i : ℕ) : Type 0 where
+  pub below : ℕ
+  pub low : below ≤ nicknameEnd
+  pub done : DoneAt below i v
+  pub long : n ≡ length (linesText below v)
 
-pub rows-next : (rows : List ℕ) (i : ℕ) → i < length rows → rowsText (take (i + 1) rows) ≡ rowsText (take i rows) ++ rowText (getD rows i 0)
-unfolding rowsText
-rows-next rows i h = rw (add-one i, take-suc rows i 0 h, rows-append (take i rows) (getD rows i 0 ∷ [])) (ap (λ (l : List ℕ). rowsText (take i rows) ++ l) (append-nil (rowText (getD rows i 0))))
+module _ (v : List ℕ) where
+  pub long-none : SoLong v 0 0
+  long-none = record { below = 0; low = omega arith; done = done-none v; long = sym (ap length (none-done v)) }
 
-pub rows-none : (rows : List ℕ) → rowsText (take 0 rows) ≡ []
-unfolding rowsText
-rows-none rows = refl
+  module _ (s : Sorted v) (n i : ℕ) (so : SoLong v n i) where
+    pub long-within : n ≤ length (linesText nicknameEnd v)
+    long-within = let m = lines-more v (so .below) nicknameEnd (so .low) in let l = so .long in omega arith
 
-pub rows-all : (rows : List ℕ) (i : ℕ) → length rows ≤ i → rowsText (take i rows) ≡ rowsText rows
-rows-all rows i h = ap rowsText (take-all i rows h)
+    pub long-end : length v ≤ i → n ≡ length (linesText nicknameEnd v)
+    long-end h = so .long ∙ ap length (lines-end v i (so .below) (so .done .done) nicknameEnd (so .low) h)
 
-pub length-next : (rows : List ℕ) (i n w : ℕ) → i < length rows → n ≡ length (rowsText (take i rows)) → w ≡ length (rowText (getD rows i 0)) → n + w ≡ length (rowsText (take (i + 1) rows))
-length-next rows i n w h en ew =
-    let a = ap length (rows-next rows i h) in
-    let b = length-append (rowsText (take i rows)) (rowText (getD rows i 0)) in
-    omega arith
+    module _ (h : i < length v) (r : Row) (row : RowAt v i r) where
+      past : nicknameEnd ≤ r .nickname → linesText (so .below) v ≡ linesText nicknameEnd v
+      past g = lines-rest v i (so .below) (so .done .done) nicknameEnd (so .low) (all-map (λ t. r .nickname ≤ t / rowUnit) (λ t. nicknameEnd ≤ t / rowUnit) (λ t p. omega arith) (drop i v) (row-left v i (so .below) s h (so .done) r row))
 
--- the text of the first rows is no longer than that of all
-pub rows-within : (rows : List ℕ) (i : ℕ) → i < length rows → length (rowsText (take i rows)) + length (rowText (getD rows i 0)) ≤ length (rowsText rows)
-rows-within rows i h =
-    let a = ap length (rows-next rows i h) in
-    let b = length-append (rowsText (take i rows)) (rowText (getD rows i 0)) in
-    let c = ap length (rows-append (take (i + 1) rows) (drop (i + 1) rows)) in
-    let d = length-append (rowsText (take (i + 1) rows)) (rowsText (drop (i + 1) rows)) in
-    let e : length (rowsText (take (i + 1) rows ++ drop (i + 1) rows)) ≡ length (rowsText rows) = ap (λ (l : List ℕ). length (rowsText l)) (take-append-drop (i + 1) rows) in
-    omega arith
+      pub long-past : nicknameEnd ≤ r .nickname → n ≡ length (linesText nicknameEnd v)
+      long-past g = so .long ∙ ap length (past g)
 
-pub lines-next : (o o₁ o₂ rows : List ℕ) (i at : ℕ) → i < length rows → at ≡ length (rowsText (take i rows)) → o₁ ≡ pasted o 0 (rowsText (take i rows)) → o₂ ≡ pasted o₁ at (rowText (getD rows i 0)) → o₂ ≡ pasted o 0 (rowsText (take (i + 1) rows))
-lines-next o o₁ o₂ rows i at h ea first second =
-    then-pasted o o₁ o₂ (rowsText (take i rows)) (rowText (getD rows i 0)) (rowsText (take (i + 1) rows)) 0 at first second (omega arith) (zero-add (length (rowsText (take i rows))) ∙ sym ea) (sym (rows-next rows i h))
+      next-lines : linesText (r .nickname + 1) v ≡ linesText (so .below) v ++ rowText (r .nickname) (r .learned) (r .configured)
+      next-lines = row-lines v i (so .below) s h (so .done) r row
 
-pub lines-none : (o rows : List ℕ) → o ≡ pasted o 0 (rowsText (take 0 rows))
-unfolding pasted rowsText
-lines-none o rows = refl
+      pub room-next : r .nickname < nicknameEnd → n + length (rowText (r .nickname) (r .learned) (r .configured)) ≤ length (linesText nicknameEnd v)
+      room-next g =
+          let m = lines-more v (r .nickname + 1) nicknameEnd (omega arith) in
+          let a = ap length next-lines in
+          let b = length-append (linesText (so .below) v) (rowText (r .nickname) (r .learned) (r .configured)) in
+          let l = so .long in
+          omega arith
+
+      pub long-next : r .nickname < nicknameEnd → (m : ℕ) → m ≡ n + length (rowText (r .nickname) (r .learned) (r .configured)) → SoLong v m (r .next)
+      long-next g m em =
+          let a = ap length next-lines in
+          let b = length-append (linesText (so .below) v) (rowText (r .nickname) (r .learned) (r .configured)) in
+          let l = so .long in
+          record { below = r .nickname + 1; low = omega arith; done = done-next v i (so .below) s h (so .done) r row; long = omega arith }
+
+      -- the lines written
+      module _ (o o₁ : List ℕ) (first : o₁ ≡ pasted o 0 (linesText (so .below) v)) where
+        pub put-past : nicknameEnd ≤ r .nickname → o₁ ≡ pasted o 0 (linesText nicknameEnd v)
+        put-past g = first ∙ ap (pasted o 0) (past g)
+
+        pub put-next : r .nickname < nicknameEnd → (m : ℕ) → m ≡ n + length (rowText (r .nickname) (r .learned) (r .configured)) → (o₂ : List ℕ) → o₂ ≡ pasted o₁ n (rowText (r .nickname) (r .learned) (r .configured))
+            → (next : SoLong v m (r .next)) × (o₂ ≡ pasted o 0 (linesText (next .below) v))
+        put-next g m em o₂ second = (
+          record { below = r .nickname + 1; low = omega arith; done = done-next v i (so .below) s h (so .done) r row; long = em ∙ longer },
+          then-pasted o o₁ o₂ (linesText (so .below) v) (rowText (r .nickname) (r .learned) (r .configured)) (linesText (r .nickname + 1) v) 0 n first second (omega arith) (zero-add (length (linesText (so .below) v)) ∙ sym (so .long)) (sym next-lines),
+        )
+          where
+            longer : n + length (rowText (r .nickname) (r .learned) (r .configured)) ≡ length (linesText (r .nickname + 1) v)
+            longer =
+                let a = ap length next-lines in
+                let b = length-append (linesText (so .below) v) (rowText (r .nickname) (r .learned) (r .configured)) in
+                let l = so .long in
+                omega arith
+
+    pub put-done : (o o₁ : List ℕ) → o₁ ≡ pasted o 0 (linesText (so .below) v) → length v ≤ i → o₁ ≡ pasted o 0 (linesText nicknameEnd v)
+    put-done o o₁ first h = first ∙ ap (pasted o 0) (lines-end v i (so .below) (so .done .done) nicknameEnd (so .low) h)
+
+pub put-none : (o v : List ℕ) → (so : SoLong v 0 0) × (o ≡ pasted o 0 (linesText (so .below) v))
+put-none o v =
+    (record { below = 0; low = omega arith; done = done-none v; long = sym (ap length (none-done v)) }, rw (none-done v) (pasted-none o 0))
 
 -- ---- a word, a count and a line feed
 
@@ -146,19 +139,19 @@ end-pasted o o₁ o₂ at f s e h first ee second =
 
 -- ---- the whole
 
-pub length-whole : (rows : List ℕ) (f s : ℕ) → length (wholeText rows f s) ≡ length (rowsText rows) + 14 + widthOf f + widthOf s
+pub length-whole : (v : List ℕ) (f s : ℕ) → length (wholeText v f s) ≡ length (linesText nicknameEnd v) + 14 + widthOf f + widthOf s
 unfolding wholeText
-length-whole rows f s =
-    let a = length-append (rowsText rows) (freeText f ++ spoiltText s) in
+length-whole v f s =
+    let a = length-append (linesText nicknameEnd v) (freeText f ++ spoiltText s) in
     let b = length-append (freeText f) (spoiltText s) in
     let lf = length-free f in
     let ls = length-spoilt s in
     omega arith
 
-pub whole-pasted : (o o₁ o₂ rows : List ℕ) (f s at : ℕ) → o₁ ≡ pasted o 0 (rowsText rows) → at ≡ length (rowsText rows) → o₂ ≡ pasted o₁ at (freeText f ++ spoiltText s) → o₂ ≡ pasted o 0 (wholeText rows f s)
+pub whole-pasted : (o o₁ o₂ v : List ℕ) (f s at : ℕ) → o₁ ≡ pasted o 0 (linesText nicknameEnd v) → at ≡ length (linesText nicknameEnd v) → o₂ ≡ pasted o₁ at (freeText f ++ spoiltText s) → o₂ ≡ pasted o 0 (wholeText v f s)
 unfolding wholeText
-whole-pasted o o₁ o₂ rows f s at first ea second =
-    then-pasted o o₁ o₂ (rowsText rows) (freeText f ++ spoiltText s) (rowsText rows ++ (freeText f ++ spoiltText s)) 0 at first second (omega arith) (zero-add (length (rowsText rows)) ∙ sym ea) refl
+whole-pasted o o₁ o₂ v f s at first ea second =
+    then-pasted o o₁ o₂ (linesText nicknameEnd v) (freeText f ++ spoiltText s) (linesText nicknameEnd v ++ (freeText f ++ spoiltText s)) 0 at first second (omega arith) (zero-add (length (linesText nicknameEnd v)) ∙ sym ea) refl
 
 module _ (text o : List ℕ) (n : ℕ) (e : n ≡ length text) where
   pub written-short : length o < n → onArea (report.Refused 16) o ≡ written text o

@@ -1,5 +1,6 @@
-// The text of a report: one line, all lines, the whole.
-ghost use Prim.Native.Nat.{_+_, _*_, _/_, _%_, _^_, _<_, _≤_};
+// The text of a report: all lines, and the whole.
+ghost use Prim.Native.Nat.{_+_, _<_, _≤_};
+ghost use mathlib.Core.Bool.{true, false};
 ghost use mathlib.Core.List.{[], _∷_, _++_};
 ghost use mathlib.Core.Path.{_≡_};
 ghost use lib.ListN.{length};
@@ -8,20 +9,22 @@ ghost use Rattle.numbers.specs.Bytes.{bytesOf};
 ghost use Rattle.frame_copy.specs.Areas.{pasted};
 ghost use Rattle.table.specs.Slots.{mostSlots};
 ghost use Rattle.report.specs.Text.{lineFeed, widthOf, decimal, freeText, spoiltText, refusedText};
-ghost use Rattle.report.specs.Report.{written};
-ghost use Rattle.report_text.specs.Rows.{rowText, rowsText, wholeText};
+ghost use Rattle.report.specs.Report.{nicknameEnd, written};
+ghost use Rattle.flush_sort.specs.Sorting.{Sorted};
+ghost use Rattle.report_rows.specs.Rows.{linesText};
+ghost use Rattle.report_text.specs.Whole.{wholeText, longest};
 use numbers::refusals::AREA_SHORT;
 use numbers::refusals::TABLE_LENGTH_BAD;
 use report::ReportAnswer;
-
-const SPACE: u8 = 0x20;
+use table::MOST_SLOTS;
 
 const LINE_FEED: u8 = 0x0a;
 
-// A row: nickname, learned count, configured count.
-const ROW_NICKNAME: u64 = 0x1_0000_0000;
+// A nickname has 16 bits.
+const NICKNAME_END: u64 = 0x1_0000;
 
-const ROW_LEARNED: u64 = 0x1_0000;
+// The bytes of the longest report.
+const LONGEST: usize = 9 * MOST_SLOTS + 16;
 
 // "free ", "spoilt " and "refused " as numbers, and their bytes.
 const FREE_WORD: u64 = 0x66_72_65_65_20;
@@ -36,60 +39,38 @@ const REFUSED_WORD: u64 = 0x72_65_66_75_73_65_64_20;
 
 const REFUSED_BYTES: usize = 8;
 
-// A byte and a count, and where they end.
-fn put_after(b: u8, n: u64, out: &mut [u8], at: usize) -> usize
-    requires { ⌜ at + 1 + widthOf n ≤ length (now out) ⌝ }
-    ensures { λ r. ⌜ (now (out .exit) ≡ pasted (now (out .entry)) at (b ∷ decimal n)) × (r ≡ at + 1 + widthOf n) ⌝ }
-{
-    report_digits::put(b, out, at);
-    report_digits::put_decimal(n, out, at + 1)
-}
-
-// The line of a row, and where it ends.
-fn put_line(row: u64, out: &mut [u8], at: usize) -> usize
-    requires { ⌜ at + length (rowText row) ≤ length (now out) ⌝ }
-    ensures { λ r. ⌜ (now (out .exit) ≡ pasted (now (out .entry)) at (rowText row)) × (r ≡ at + length (rowText row)) ⌝ }
-{
-    report_digits::put_hexadecimal(row / ROW_NICKNAME, out, at);
-    let b = put_after(SPACE, row / ROW_LEARNED % ROW_LEARNED, out, at + 4);
-    let e = put_after(SPACE, row % ROW_LEARNED, out, b);
-    report_digits::put(LINE_FEED, out, e);
-    e + 1
-}
-
-// The length of a row's line.
-fn line_length(row: u64) -> usize
-    ensures { λ r. ⌜ (r ≡ length (rowText row)) × (r ≤ 15) ⌝ }
-{
-    7
-        + report_digits::width_of(row / ROW_LEARNED % ROW_LEARNED)
-        + report_digits::width_of(row % ROW_LEARNED)
-}
-
 // The length of all lines.
-fn lines_length(rows: &[u64]) -> usize
-    requires { ⌜ length (now rows) ≤ mostSlots ⌝ }
-    ensures { λ r. ⌜ (r ≡ length (rowsText (now (rows .entry)))) × (r ≤ 15 * length (now (rows .entry))) ⌝ }
+fn lines_length(v: &[u32]) -> usize
+    requires { ⌜ (Sorted (now v) × (length (now v) ≤ mostSlots)) × (length (linesText nicknameEnd (now v)) ≤ longest) ⌝ }
+    ensures { λ r. ⌜ r ≡ length (linesText nicknameEnd (now (v .entry))) ⌝ }
 {
     let mut n = 0;
     let mut i = 0;
-    while i < rows.len() {
-        n += line_length(rows[i]);
-        i += 1;
+    while i < v.len() {
+        let r = report_rows::row_at(v, i);
+        if NICKNAME_END <= r.nickname {
+            return n;
+        }
+        n += report_lines::line_length(r.learned, r.configured);
+        i = r.next;
     }
     n
 }
 
 // All lines from the start of an area, and where they end.
-fn put_lines(rows: &[u64], out: &mut [u8]) -> usize
-    requires { ⌜ length (rowsText (now rows)) ≤ length (now out) ⌝ }
-    ensures { λ r. ⌜ (now (out .exit) ≡ pasted (now (out .entry)) 0 (rowsText (now (rows .entry)))) × (r ≡ length (rowsText (now (rows .entry)))) ⌝ }
+fn put_lines(v: &[u32], out: &mut [u8]) -> usize
+    requires { ⌜ (Sorted (now v) × (length (now v) ≤ mostSlots)) × (length (linesText nicknameEnd (now v)) ≤ length (now out)) ⌝ }
+    ensures { λ r. ⌜ (now (out .exit) ≡ pasted (now (out .entry)) 0 (linesText nicknameEnd (now (v .entry)))) × (r ≡ length (linesText nicknameEnd (now (v .entry)))) ⌝ }
 {
     let mut at = 0;
     let mut i = 0;
-    while i < rows.len() {
-        at = put_line(rows[i], out, at);
-        i += 1;
+    while i < v.len() {
+        let r = report_rows::row_at(v, i);
+        if NICKNAME_END <= r.nickname {
+            return at;
+        }
+        at = report_lines::put_line(r.nickname, r.learned, r.configured, out, at);
+        i = r.next;
     }
     at
 }
@@ -105,35 +86,45 @@ fn put_last(word: u64, k: usize, n: u64, out: &mut [u8], at: usize) -> usize
     e + 1
 }
 
-// The lines of free and spoilt slots.
-fn put_end(free: u64, spoilt: u64, out: &mut [u8], at: usize)
+// The lines of free and spoilt slots, and where they end.
+fn put_end(free: u64, spoilt: u64, out: &mut [u8], at: usize) -> usize
     requires { ⌜ at + 14 + widthOf free + widthOf spoilt ≤ length (now out) ⌝ }
-    ensures { λ _. ⌜ now (out .exit) ≡ pasted (now (out .entry)) at (freeText free ++ spoiltText spoilt) ⌝ }
+    ensures { λ r. ⌜ (now (out .exit) ≡ pasted (now (out .entry)) at (freeText free ++ spoiltText spoilt)) × (r ≡ at + 14 + widthOf free + widthOf spoilt) ⌝ }
 {
     let e = put_last(FREE_WORD, FREE_BYTES, free, out, at);
-    put_last(SPOILT_WORD, SPOILT_BYTES, spoilt, out, e);
+    put_last(SPOILT_WORD, SPOILT_BYTES, spoilt, out, e)
 }
 
 // The length of the whole text.
-fn text_length(rows: &[u64], free: u64, spoilt: u64) -> usize
-    requires { ⌜ length (now rows) ≤ mostSlots ⌝ }
-    ensures { λ r. ⌜ (r ≡ length (wholeText (now (rows .entry)) free spoilt)) × ((r ≡ length (rowsText (now (rows .entry))) + 14 + widthOf free + widthOf spoilt) × (r < 2 ^ 16)) ⌝ }
+fn text_length(v: &[u32], free: u64, spoilt: u64) -> usize
+    requires { ⌜ (Sorted (now v) × (length (now v) ≤ mostSlots)) × (length (wholeText (now v) free spoilt) ≤ longest) ⌝ }
+    ensures { λ r. ⌜ r ≡ length (wholeText (now (v .entry)) free spoilt) ⌝ }
 {
-    lines_length(rows) + 14 + report_digits::width_of(free) + report_digits::width_of(spoilt)
+    lines_length(v) + 14 + report_digits::width_of(free) + report_digits::width_of(spoilt)
+}
+
+// Whether the text is longer than an area. What no report is longer than is not measured.
+fn is_short(v: &[u32], free: u64, spoilt: u64, room: usize) -> bool
+    requires { ⌜ (Sorted (now v) × (length (now v) ≤ mostSlots)) × (length (wholeText (now v) free spoilt) ≤ longest) ⌝ }
+    ensures { λ r. ⌜ (r ≡ true → room < length (wholeText (now (v .entry)) free spoilt)) × (r ≡ false → length (wholeText (now (v .entry)) free spoilt) ≤ room) ⌝ }
+{
+    if LONGEST <= room {
+        return false;
+    }
+    room < text_length(v, free, spoilt)
 }
 
 // Writes a report; 16 where the area is shorter.
-pub fn write(rows: &[u64], free: u64, spoilt: u64, out: &mut [u8]) -> ReportAnswer
-    requires { ⌜ length (now rows) ≤ mostSlots ⌝ }
-    ensures { λ r. ⌜ onArea r (now (out .exit)) ≡ written (wholeText (now (rows .entry)) free spoilt) (now (out .entry)) ⌝ }
+pub fn write(v: &[u32], free: u64, spoilt: u64, out: &mut [u8]) -> ReportAnswer
+    requires { ⌜ (Sorted (now v) × (length (now v) ≤ mostSlots)) × (length (wholeText (now v) free spoilt) ≤ longest) ⌝ }
+    ensures { λ r. ⌜ onArea r (now (out .exit)) ≡ written (wholeText (now (v .entry)) free spoilt) (now (out .entry)) ⌝ }
 {
-    let n = text_length(rows, free, spoilt);
-    if out.len() < n {
+    if is_short(v, free, spoilt, out.len()) {
         return ReportAnswer::Refused(AREA_SHORT);
     }
-    let at = put_lines(rows, out);
-    put_end(free, spoilt, out, at);
-    ReportAnswer::Written(n as u16)
+    let at = put_lines(v, out);
+    let e = put_end(free, spoilt, out, at);
+    ReportAnswer::Written(e as u16)
 }
 
 // The line for a table of a bad length.

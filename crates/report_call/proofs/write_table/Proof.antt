@@ -1,53 +1,52 @@
--- `report_call::write_table` meets its contract: the keys of the slots, and the report of these.
+-- `report_call::write_table` meets its contract: the tallies of the slots, and the report of these.
 -- Assumes nothing.
-use mathlib.Core.Path.{sym, _∙_}
+use mathlib.Core.Path.{sym}
 use native.Mathlib.Omega.{arith}
 use lib.Seq.{length-take-le}
+use Rattle.table.specs.Slots.{mostSlots}
 use Rattle.table.proofs.Slots.{good-slots}
-use Rattle.report_call.proofs.Laws.{take-few, table-written}
+use Rattle.report_call.proofs.Laws.{take-few, table-few, table-written}
 use borrow.Author.Needs.{needs}
 use Rattle.report_call.proofs.write_table.Statement.{statement}
 use Rattle.report_call.proofs.write_table.Tie as tie
 
-keys-of-requires : tie.Need-keys-of-requires
-keys-of-requires c κs =
-    let start = c .before .before .before .before .before in
+tally-requires : tie.Need-tally-requires
+tally-requires c κs =
+    let start = c .before .before .before .before in
+    (good-slots (start .args .table .now) (start .pre .0), start .pre .1)
+
+slice-reshare-prefix-write-tallies : tie.Need-slice-reshare-prefix-write-tallies
+slice-reshare-prefix-write-tallies c =
+    let start = c .before .before .before .before .before .before .before in
     let few = good-slots (start .args .table .now) (start .pre .0) in
     omega arith
 
-slice-reshare-prefix-write-keys : tie.Need-slice-reshare-prefix-write-keys
-slice-reshare-prefix-write-keys c =
+slice-aggregate-write-tallies : tie.Need-slice-aggregate-write-tallies
+slice-aggregate-write-tallies c =
     let start = c .before .before .before .before .before .before .before .before in
-    let few = good-slots (start .args .table .now) (start .pre .0) in
-    omega arith
-
-slice-aggregate-write-keys : tie.Need-slice-aggregate-write-keys
-slice-aggregate-write-keys c =
-    let start = c .before .before .before .before .before .before .before .before .before in
     let few = good-slots (start .args .table .now) (start .pre .0) in
     sym (length-take-le _ _ (omega arith))
 
-write-keys-requires : tie.Need-write-keys-requires
-write-keys-requires c κs =
-    let start = c .before .before .before .before .before .before .before .before .before .before .before in
+write-tallies-requires : tie.Need-write-tallies-requires
+write-tallies-requires c κs =
+    let start = c .before .before .before .before .before .before .before .before .before in
     let few = good-slots (start .args .table .now) (start .pre .0) in
-    (take-few _ _ _ few (omega arith), omega arith)
+    let tally = c .before .before .before .before .tally in
+    ((tally .ensures .1 .0, take-few (tally .result) _ mostSlots (omega arith) (omega arith)), table-few (start .args .table .now) _ (tally .ensures .1 .1) few)
 
 returns : tie.Need-returns
 returns c =
-    let start = c .before .before .before .before .before .before .before .before .before .before .before .before .before .before .before .before in
-    let few = good-slots (start .args .table .now) (start .pre .0) in
-    table-written (start .args .table .now) _ (start .args .out .now) _ few (c .before .before .before .before .before .before .before .before .before .before .keys-of .ensures) (c .before .before .before .before .write-keys .ensures)
+    let start = c .before .before .before .before .before .before .before .before .before .before .before .before in
+    table-written (start .args .table .now) _ (start .args .out .now) _ (c .before .before .before .before .before .before .before .tally .ensures .1 .1) (c .before .before .write-tallies .ensures)
 
 pub write-table-spec : {M : Type 1} → statement M
 write-table-spec =
     tie.close
     (tie.spec
-    keys-of-requires
-    slice-reshare-prefix-write-keys
-    slice-aggregate-write-keys
-    write-keys-requires
-    (λ c. search needs)
+    tally-requires
+    slice-reshare-prefix-write-tallies
+    slice-aggregate-write-tallies
+    write-tallies-requires
     (λ c. search needs)
     (λ c. search needs)
     returns)

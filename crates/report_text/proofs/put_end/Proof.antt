@@ -10,7 +10,8 @@ returns : tie.Need-returns
 returns c =
     let a = c .before .before .before .before .before .before .before .before .before .args in
     let first = c .before .before .before .before .before .before .put-last in
-    end-pasted (a .out .now) _ _ (a .at) (a .free) (a .spoilt) (first .result) (omega arith) (first .ensures .0) (first .ensures .1) (c .before .before .put-last2 .ensures .0)
+    let second = c .before .before .put-last2 in
+    (end-pasted (a .out .now) _ _ (a .at) (a .free) (a .spoilt) (first .result) (omega arith) (first .ensures .0) (first .ensures .1) (second .ensures .0), omega arith)
 
 pub put-end-spec : {M : Type 1} → statement M
 put-end-spec = tie.close (tie.spec (λ c κs. search needs) (λ c κs. search needs) (λ c. search needs) returns)

@@ -1,57 +1,71 @@
--- `report_text::put_lines` meets its contract. The invariant: the first i lines are written.
+-- `report_text::put_lines` meets its contract. The invariant: the lines that are done are written.
 -- Assumes nothing.
-use mathlib.Core.List.{List}
-use Prim.Native.Nat.{ℕ}
-use Prim.Native.Nat.{_≤_, _-_, _+_, _*_}
-use mathlib.Core.Path.{_≡_, refl, sym, ap, _∙_}
-use lib.ListN.{length, take}
+use Prim.Native.Nat.{_≤_, _-_}
+use mathlib.Core.Path.{_≡_, refl}
 use native.Mathlib.Omega.{arith}
+use lib.ListN.{length}
 use Rattle.frame_copy.specs.Areas.{pasted}
-use Rattle.report_text.specs.Rows.{rowsText}
-use Rattle.report_text.proofs.Laws.{rows-none, rows-all, rows-within, length-next, lines-none, lines-next}
+use Rattle.report_rows.specs.Rows.{linesText}
+use Rattle.report_text.proofs.Laws.{SoLong, long-end, long-past, room-next, put-none, put-past, put-next, put-done}
 use borrow.Author.Needs.{needs}
 use Rattle.report_text.proofs.put_lines.Statement.{statement}
 use Rattle.report_text.proofs.put_lines.Tie as tie
 
 abbrev Inv-loop : tie.InvT-loop
-Inv-loop rows out₀ at₀ i₀ out at i = (i ≤ length rows) × ((length out ≡ length out₀) × ((at ≡ length (rowsText (take i rows))) × (out ≡ pasted out₀ 0 (rowsText (take i rows)))))
+Inv-loop v out₀ at₀ i₀ out at i = (i ≤ length v) × ((length out ≡ length out₀) × ((so : SoLong v at i) × (out ≡ pasted out₀ 0 (linesText (so .below) v))))
 
 abbrev μ-loop : tie.MeasureT-loop
-μ-loop rows out₀ at₀ i₀ out at i = length rows - i
+μ-loop v out₀ at₀ i₀ out at i = length v - i
 
 loop-holds : tie.Need-loop-holds Inv-loop μ-loop
 loop-holds c =
     let a = c .before .before .args in
-    (search needs, (refl, (sym (ap length (rows-none (a .rows .now))), lines-none (a .out .now) (a .rows .now))))
+    (search needs, (refl, put-none (a .out .now) (a .v .now)))
+
+row-at-requires : tie.Need-row-at-requires Inv-loop μ-loop
+row-at-requires c κs =
+    let start = c .before .before .before .before in
+    (omega arith, (start .pre .0 .0, start .pre .0 .1))
+
+returns : tie.Need-returns Inv-loop μ-loop
+returns c =
+    let start = c .before .before .before .before .before .before .before in
+    let at = c .before .before .before .before .loop in
+    let row = c .before .before .row-at in (
+      put-past (start .args .v .now) (start .pre .0 .0) (at .at) (at .i) (at .inv .1 .1 .0) (omega arith) (row .result) (row .ensures) (start .args .out .now) (at .out) (at .inv .1 .1 .1) (c .if1 .taken),
+      long-past (start .args .v .now) (start .pre .0 .0) (at .at) (at .i) (at .inv .1 .1 .0) (omega arith) (row .result) (row .ensures) (c .if1 .taken),
+    )
 
 put-line-requires : tie.Need-put-line-requires Inv-loop μ-loop
 put-line-requires c κs =
-    let at = c .before .before .before .loop in
-    let a = c .before .before .before .before .before .before .args in
-    let within = rows-within (a .rows .now) (at .i) (omega arith) in
+    let start = c .before .before .before .before .before .before .before .before in
+    let at = c .before .before .before .before .before .loop in
+    let row = c .before .before .before .row-at in
+    let room = room-next (start .args .v .now) (start .pre .0 .0) (at .at) (at .i) (at .inv .1 .1 .0) (omega arith) (row .result) (row .ensures) (c .before .if1 .left) in
+    let enough = start .pre .1 in
+    omega arith
+
+loop-less : tie.Need-loop-less Inv-loop μ-loop
+loop-less c =
+    let further = c .before .before .before .before .before .before .row-at .ensures .further in
+    let within = c .before .before .before .before .before .before .row-at .ensures .within in
     omega arith
 
 loop-again : tie.Need-loop-again Inv-loop μ-loop
 loop-again c =
-    let at = c .before .before .before .before .before .before .loop in
-    let a = c .before .before .before .before .before .before .before .before .before .args in
-    let put = c .before .before .put-line in (
-      search needs,
-      (
-        search needs,
-        (
-          put .ensures .1 ∙ length-next (a .rows .now) (at .i) (at .at) _ (omega arith) (at .inv .1 .1 .0) refl,
-          lines-next (a .out .now) (at .out) _ (a .rows .now) (at .i) (at .at) (omega arith) (at .inv .1 .1 .0) (at .inv .1 .1 .1) (put .ensures .0),
-        ),
-      ),
-    )
+    let start = c .before .before .before .before .before .before .before .before .before .before .before in
+    let at = c .before .before .before .before .before .before .before .before .loop in
+    let row = c .before .before .before .before .before .before .row-at in
+    let put = c .before .before .put-line in
+    (row .ensures .within, (search needs, put-next (start .args .v .now) (start .pre .0 .0) (at .at) (at .i) (at .inv .1 .1 .0) (omega arith) (row .result) (row .ensures) (start .args .out .now) (at .out) (at .inv .1 .1 .1) (c .before .before .before .before .if1 .left) (put .result) (put .ensures .1) _ (put .ensures .0)))
 
-returns : tie.Need-returns Inv-loop μ-loop
-returns c =
-    let at = c .before .loop in
-    let a = c .before .before .before .before .args in
-    let all = rows-all (a .rows .now) (at .i) (omega arith) in
-    (at .inv .1 .1 .1 ∙ ap (λ (l : List ℕ). pasted (a .out .now) 0 l) all, at .inv .1 .1 .0 ∙ ap length all)
+returns-2 : tie.Need-returns-2 Inv-loop μ-loop
+returns-2 c =
+    let start = c .before .before .before .before in
+    let at = c .before .loop in (
+      put-done (start .args .v .now) (start .pre .0 .0) (at .at) (at .i) (at .inv .1 .1 .0) (start .args .out .now) (at .out) (at .inv .1 .1 .1) (omega arith),
+      long-end (start .args .v .now) (start .pre .0 .0) (at .at) (at .i) (at .inv .1 .1 .0) (omega arith),
+    )
 
 pub put-lines-spec : {M : Type 1} → statement M
 put-lines-spec =
@@ -60,11 +74,11 @@ put-lines-spec =
     Inv-loop
     μ-loop
     loop-holds
+    row-at-requires
     (λ c. search needs)
-    (λ c. search needs)
+    returns
     put-line-requires
-    (λ c. search needs)
-    (λ c. search needs)
+    loop-less
     loop-again
     (λ c. search needs)
-    returns)
+    returns-2)

@@ -1,0 +1,2 @@
+-- Tallies of keys.
+pub mod Tallies
