@@ -55,19 +55,19 @@ module _ (k : ℕ) where
   unfolding brought
   no-ignored = refl
 
-held-22 : holderFor 22 ≡ 251
+pub held-22 : holderFor 22 ≡ 251
 unfolding either pick
 held-22 = refl
 
-held-6 : holderFor 6 ≡ 242
+pub held-6 : holderFor 6 ≡ 242
 unfolding either pick
 held-6 = refl
 
-held-8 : holderFor 8 ≡ 242
+pub held-8 : holderFor 8 ≡ 242
 unfolding either pick
 held-8 = refl
 
-held-23 : holderFor 23 ≡ 251
+pub held-23 : holderFor 23 ≡ 251
 unfolding either pick
 held-23 = refl
 
@@ -240,18 +240,13 @@ module _ (v : List ℕ) where
       unfolding bodyAt pick
       at-body h = rw (le-leb 3 (length v) room, ← ea, eq-eqb a 1 one, ← es, le-leb s (length v) h)
 
-  module _ (h : ℕ) where
-    pub at-242-short : h ≡ 242 → length v < 5 → length v ≡ bodyAt h v
-    unfolding bodyAt pick
-    at-242-short e g = rw (e, lt-leb 5 (length v) g)
+  pub at-242-short : length v < 5 → length v ≡ bodyAt 242 v
+  unfolding bodyAt pick
+  at-242-short h = rw (lt-leb 5 (length v) h)
 
-    pub at-242 : h ≡ 242 → 5 ≤ length v → 5 ≡ bodyAt h v
-    unfolding bodyAt pick
-    at-242 e g = rw (e, le-leb 5 (length v) g)
-
-    pub at-251 : (h ≡ 242 → ⊥) → (r : ℕ) → r ≡ bodyAt 251 v → r ≡ bodyAt h v
-    unfolding bodyAt pick
-    at-251 d r e = e ∙ rw (ne-eqb h 242 d)
+  pub at-242 : 5 ≤ length v → 5 ≡ bodyAt 242 v
+  unfolding bodyAt pick
+  at-242 h = rw (le-leb 5 (length v) h)
 
 drop-none : (v : List ℕ) → tlvs (drop (length v) v) ≡ []
 drop-none v = let d = length-drop (length v) v in tlvs-end (drop (length v) v) (omega arith)

@@ -15,7 +15,8 @@ use Rattle.hello.specs.Pieces.{inside}
 use Rattle.hello.specs.Contents.{Nickname}
 use Rattle.hello.specs.Reading.{parametersOf, nicknameOf, treesOf, smartMacOf, subSays, says}
 use Rattle.hello.specs.Area.{counted, alone, parametersNumbers, nicknameNumbers, treesNumbers, smartMacNumbers}
-use Rattle.hello.proofs.Lists.{parts-end, parts-more, length-joined}
+use Rattle.hello.proofs.Lists.{length-joined}
+use Rattle.hello_judge.proofs.Subs.{parts-count}
 use Rattle.hello_count.specs.Sections.{brought, joined, subBrought, subNumbers}
 
 -- ---- by its length
@@ -62,14 +63,6 @@ module _ (v : List ℕ) where
   none-23 g h = rw (le-leb 4 (length v) g, ne-eqb ((length v - 4) % 6) 0 h)
 
 -- ---- how many numbers
-
-pub parts-count : (k : ℕ) → 0 < k → (n : ℕ) (l : List ℕ) → length l ≡ k * n → length (parts k l) ≡ n
-parts-count k some zero l h = ap length (parts-end k some l (omega arith))
-parts-count k some (suc n) l h =
-    let d = length-drop k l in
-    let m : k * suc n ≡ k + k * n = omega arith in
-    let i = parts-count k some n (drop k l) (omega arith) in
-    ap length (parts-more k some l (omega arith)) ∙ omega arith
 
 pub one-joined : (k : ℕ) (t : Tlv) (x : List ℕ) → subBrought k t ≡ x ∷ [] → subNumbers k t ≡ x
 unfolding subNumbers joined flatMap

@@ -6,7 +6,6 @@ use mathlib.Core.List.{List, [], _∷_, _++_, map, flatMap}
 use lib.Dec.{leb, eqb}
 use lib.ListN.{length}
 use Rattle.numbers.specs.Tests.{pick, either}
-use Rattle.numbers.specs.Result.{Result, refused, got}
 use Rattle.hello.specs.Tlvs.{Tlv}
 use Rattle.hello.specs.Pieces.{capability, geninfo, parametersType, smartMacType, nicknameType, treesType, capabilityHead, application, trillApplication, geninfoHead, inside, tlvPieces}
 use Rattle.hello.specs.Contents.{Item, parameters, nicknames, trees, smartMac, ignored, malformed}
@@ -58,8 +57,3 @@ subNumbers k t = joined (subBrought k t)
 
 unfoldable pub tlvNumbers : ℕ → Tlv → List ℕ
 tlvNumbers k t = joined (tlvBrought k t)
-
--- the number of a refusal, or 0
-abbrev pub refusalOf : {A : Type 0} → Result A → ℕ
-refusalOf (refused n) = n
-refusalOf (got x) = 0

@@ -1,3 +1,4 @@
--- Laws of filling a section, for this crate and the reading call.
+-- Laws of writing sections.
+pub mod Apart
 pub mod Walks
 pub mod Subs

@@ -7,20 +7,26 @@ use mathlib.Core.Path.{_≡_, refl, sym, ap, _∙_}
 use native.Mathlib.Omega.{arith}
 use lib.Dec.{leb, eqb}
 use lib.ListN.{length, drop, length-append}
-use borrow.Author.Tests.{eqb-true, eqb-false, leb-true, leb-false}
+use borrow.Author.Tests.{eq-eqb, ne-eqb, eqb-true, eqb-false, leb-true, leb-false}
 use Rattle.numbers.specs.Bytes.{bytesOf, parts}
+use Rattle.numbers.specs.After.{OnArea, onArea}
+use Rattle.numbers.specs.Tests.{both}
 use Rattle.numbers.proofs.Bytes.{length-bytesOf}
+use Rattle.numbers.proofs.Truth.{both-true}
 use Rattle.frame_copy.specs.Areas.{pasted}
 use Rattle.hello.specs.Tlvs.{Tlv, tlv, stump, tlvs}
 use Rattle.hello.specs.Reading.{items, parametersOf, nicknameOf, treesOf, smartMacOf}
 use Rattle.hello.specs.Area.{counted, parametersNumbers, nicknameNumbers, treesNumbers, smartMacNumbers}
 use Rattle.hello_count.specs.Sections.{brought, joined, section, holderFor, bodyAt, subNumbers, tlvNumbers}
 use Rattle.hello_count.proofs.Subs.{one-joined, got-22, got-6, got-8, got-23, numbers-22, zero-22, numbers-6, zero-6, numbers-8, zero-8, zero-8-short, numbers-23, zero-23, zero-23-short}
-use Rattle.hello_count.proofs.Levels.{flat-flat, none-kind, none-numbers, joined-level, body-numbers, other-numbers, stump-numbers, tlv-stump-numbers}
+use Rattle.hello_count.proofs.Levels.{flat-flat, none-numbers, joined-level, body-numbers, other-numbers, stump-numbers, tlv-stump-numbers, held-22, held-6, held-8, held-23}
 use Rattle.hello_words.specs.Words.{words}
-use Rattle.hello_fill.specs.Filling.{subWords, tlvWords, sectionWords}
-use Rattle.hello_words.proofs.Words.{length-words, behind}
+use Rattle.hello_words.proofs.Words.{length-words}
 use Rattle.hello_words.proofs.Parts.{paste-none}
+use Rattle.hello_fill.specs.declared.Pens.{Pens}
+use Rattle.hello_fill.specs.Filling.{subWords, tlvWords, sectionWords, putTwo, filling, Room}
+use Rattle.hello_fill.proofs.Apart.{two-none, two-areas}
+use Rattle.hello_fill.proofs.Walks.{Free}
 
 words-none : (ns : List ℕ) → length ns ≡ 0 → words ns ≡ []
 unfolding words flatMap
@@ -31,144 +37,139 @@ sub-length : (k : ℕ) (t : Tlv) → length (subWords k t) ≡ 8 * length (subNu
 unfolding subWords
 sub-length k t = length-words (subNumbers k t)
 
--- ---- nothing
+-- ---- a sub-TLV of a type
 
-module _ (k : ℕ) (t : Tlv) (at : ℕ) (out : List ℕ) (none : 0 ≡ length (subNumbers k t)) where
-  nothing-put : out ≡ pasted out at (subWords k t)
+module _ (k : ℕ) (v out : List ℕ) (at n : ℕ) (en : n ≡ length (subNumbers k (tlv k v))) where
+  pub bad-put : n ≡ 0 → out ≡ pasted out at (subWords k (tlv k v))
   unfolding subWords
-  nothing-put = sym (ap (pasted out at) (words-none (subNumbers k t) (sym none)) ∙ paste-none out at)
+  bad-put z = sym (ap (pasted out at) (words-none (subNumbers k (tlv k v)) (sym en ∙ z)) ∙ paste-none out at)
 
-  nothing-end : at ≡ at + length (subWords k t)
-  nothing-end = let n = sub-length k t in omega arith
+  pub put-end : at + 8 * n ≡ at + length (subWords k (tlv k v))
+  put-end = let l = sub-length k (tlv k v) in omega arith
 
-module _ (k j : ℕ) (v out : List ℕ) (at : ℕ) (other : j ≡ k → ⊥) where
-  pub other-put : out ≡ pasted out at (subWords k (tlv j v))
-  other-put = nothing-put k (tlv j v) at out (none-numbers k j v other)
+  pub bad-end : n ≡ 0 → at ≡ at + length (subWords k (tlv k v))
+  bad-end z = let e = put-end in omega arith
 
-  pub other-end : at ≡ at + length (subWords k (tlv j v))
-  other-end = nothing-end k (tlv j v) at out (none-numbers k j v other)
+  pub words-fit : at + length (subWords k (tlv k v)) ≤ length out → at + 8 * n ≤ length out
+  words-fit h = let e = put-end in omega arith
 
-module _ (k j : ℕ) (v out : List ℕ) (at : ℕ) (same : j ≡ k) (n : ℕ) (en : n ≡ length (subNumbers k (tlv k v))) where
-  numbers-same : n ≡ length (subNumbers k (tlv j v))
-  numbers-same = rw same en
-
-  pub bad-put : n ≡ 0 → out ≡ pasted out at (subWords k (tlv j v))
-  bad-put z = nothing-put k (tlv j v) at out (sym z ∙ numbers-same)
-
-  pub bad-end : n ≡ 0 → at ≡ at + length (subWords k (tlv j v))
-  bad-end z = nothing-end k (tlv j v) at out (sym z ∙ numbers-same)
-
-  -- what the writing of a sub-TLV asks for
-  pub put-some : (n ≡ 0 → ⊥) → 0 < length (subNumbers k (tlv k v))
-  put-some z = rw (← en) (positive n z)
-    where
-      positive : (n : ℕ) → (n ≡ 0 → ⊥) → 0 < n
-      positive zero z = absurd (z refl)
-      positive (suc n) z = omega arith
-
-  pub put-room : at + length (subWords k (tlv j v)) ≤ length out → at + length (subWords k (tlv k v)) ≤ length out
-  put-room h =
-      let e : subWords k (tlv j v) ≡ subWords k (tlv k v) = ap (λ (x : ℕ). subWords k (tlv x v)) same in
-      rw (← e) h
-
-  pub put-all : (u : List ℕ) → u ≡ pasted out at (subWords k (tlv k v)) → u ≡ pasted out at (subWords k (tlv j v))
-  put-all u e = rw same e
-
-  pub words-sum : length (subWords k (tlv j v)) ≡ 8 * n
-  words-sum = let l = sub-length k (tlv j v) in let m = numbers-same in omega arith
-
-  pub put-end : at + 8 * n ≡ at + length (subWords k (tlv j v))
-  put-end = let l = sub-length k (tlv j v) in let m = numbers-same in omega arith
-
--- ---- a sub-TLV whose length its type allows
-
-module _ (k : ℕ) (v out : List ℕ) (at : ℕ) (some : 0 < length (subNumbers k (tlv k v))) (room : at + length (subWords k (tlv k v)) ≤ length out) where
-  room-is : at + 8 * length (subNumbers k (tlv k v)) ≤ length out
-  room-is = let n = sub-length k (tlv k v) in omega arith
-
-  module _ (is : k ≡ 22) where
+-- a length that the type allows
+module _ (v out : List ℕ) (at n : ℕ) where
+  module _ (en : n ≡ length (subNumbers 22 (tlv 22 v))) (some : n ≡ 0 → ⊥) where
     pub four : length v ≡ 4
     four = go (eqb (length v) 4) refl
       where
         go : (b : Bool) → eqb (length v) 4 ≡ b → length v ≡ 4
         go true e = eqb-true (length v) 4 e
-        go false e = let z = zero-22 v (eqb-false (length v) 4 e) in let q = ap (λ (x : ℕ). length (subNumbers x (tlv x v))) is in absurd (omega arith)
+        go false e = absurd (some (en ∙ sym (zero-22 v (eqb-false (length v) 4 e))))
 
-    pub room-22 : at + 16 ≤ length out
-    room-22 = let n = numbers-22 v four in let q = ap (λ (x : ℕ). length (subNumbers x (tlv x v))) is in let r = room-is in omega arith
+    pub room-22 : at + length (subWords 22 (tlv 22 v)) ≤ length out → at + 16 ≤ length out
+    room-22 h = let w = words-fit 22 v out at n en h in let m = numbers-22 v four in omega arith
 
-    pub puts-22 : (u : List ℕ) → u ≡ pasted out at (words (parametersNumbers (parametersOf v))) → u ≡ pasted out at (subWords k (tlv k v))
+    pub puts-22 : (u : List ℕ) → u ≡ pasted out at (words (parametersNumbers (parametersOf v))) → u ≡ pasted out at (subWords 22 (tlv 22 v))
     unfolding subWords
-    puts-22 u e = e ∙ rw (is, one-joined 22 (tlv 22 v) _ (got-22 v four))
+    puts-22 u e = e ∙ rw (one-joined 22 (tlv 22 v) _ (got-22 v four))
 
-  module _ (is : k ≡ 6) where
+  module _ (en : n ≡ length (subNumbers 6 (tlv 6 v))) (some : n ≡ 0 → ⊥) where
     pub fives : length v % 5 ≡ 0
     fives = go (eqb (length v % 5) 0) refl
       where
         go : (b : Bool) → eqb (length v % 5) 0 ≡ b → length v % 5 ≡ 0
         go true e = eqb-true (length v % 5) 0 e
-        go false e = let z = zero-6 v (eqb-false (length v % 5) 0 e) in let q = ap (λ (x : ℕ). length (subNumbers x (tlv x v))) is in absurd (omega arith)
+        go false e = absurd (some (en ∙ sym (zero-6 v (eqb-false (length v % 5) 0 e))))
 
-    pub room-6 : at + 8 * (1 + 3 * (length v / 5)) ≤ length out
-    room-6 = let n = numbers-6 v fives in let q = ap (λ (x : ℕ). length (subNumbers x (tlv x v))) is in let r = room-is in omega arith
+    pub room-6 : at + length (subWords 6 (tlv 6 v)) ≤ length out → at + 8 * (1 + 3 * (length v / 5)) ≤ length out
+    room-6 h = let w = words-fit 6 v out at n en h in let m = numbers-6 v fives in omega arith
 
-    pub puts-6 : (u : List ℕ) → u ≡ pasted out at (words (counted nicknameNumbers (map nicknameOf (parts 5 v)))) → u ≡ pasted out at (subWords k (tlv k v))
+    pub puts-6 : (u : List ℕ) → u ≡ pasted out at (words (counted nicknameNumbers (map nicknameOf (parts 5 v)))) → u ≡ pasted out at (subWords 6 (tlv 6 v))
     unfolding subWords
-    puts-6 u e = e ∙ rw (is, one-joined 6 (tlv 6 v) _ (got-6 v fives))
+    puts-6 u e = e ∙ rw (one-joined 6 (tlv 6 v) _ (got-6 v fives))
 
-  module _ (is : k ≡ 8) where
+  module _ (en : n ≡ length (subNumbers 8 (tlv 8 v))) (some : n ≡ 0 → ⊥) where
     pub two : 2 ≤ length v
     two = go (leb 2 (length v)) refl
       where
         go : (b : Bool) → leb 2 (length v) ≡ b → 2 ≤ length v
         go true e = leb-true 2 (length v) e
-        go false e = let z = zero-8-short v (leb-false 2 (length v) e) in let q = ap (λ (x : ℕ). length (subNumbers x (tlv x v))) is in absurd (omega arith)
+        go false e = absurd (some (en ∙ sym (zero-8-short v (leb-false 2 (length v) e))))
 
     pub twos : length v % 2 ≡ 0
     twos = go (eqb (length v % 2) 0) refl
       where
         go : (b : Bool) → eqb (length v % 2) 0 ≡ b → length v % 2 ≡ 0
         go true e = eqb-true (length v % 2) 0 e
-        go false e = let z = zero-8 v two (eqb-false (length v % 2) 0 e) in let q = ap (λ (x : ℕ). length (subNumbers x (tlv x v))) is in absurd (omega arith)
+        go false e = absurd (some (en ∙ sym (zero-8 v two (eqb-false (length v % 2) 0 e))))
 
-    pub room-8 : at + 8 * (2 + (length v - 2) / 2) ≤ length out
-    room-8 = let n = numbers-8 v two twos in let q = ap (λ (x : ℕ). length (subNumbers x (tlv x v))) is in let r = room-is in omega arith
+    pub room-8 : at + length (subWords 8 (tlv 8 v)) ≤ length out → at + 8 * (2 + (length v - 2) / 2) ≤ length out
+    room-8 h = let w = words-fit 8 v out at n en h in let m = numbers-8 v two twos in omega arith
 
-    pub puts-8 : (u : List ℕ) → u ≡ pasted out at (words (treesNumbers (treesOf v))) → u ≡ pasted out at (subWords k (tlv k v))
+    pub puts-8 : (u : List ℕ) → u ≡ pasted out at (words (treesNumbers (treesOf v))) → u ≡ pasted out at (subWords 8 (tlv 8 v))
     unfolding subWords
-    puts-8 u e = e ∙ rw (is, one-joined 8 (tlv 8 v) _ (got-8 v two twos))
+    puts-8 u e = e ∙ rw (one-joined 8 (tlv 8 v) _ (got-8 v two twos))
 
-  module _ (a : k ≡ 22 → ⊥) (b : k ≡ 6 → ⊥) (d : k ≡ 8 → ⊥) where
-    is-23 : k ≡ 23
-    is-23 = go (eqb k 23) refl
-      where
-        go : (c : Bool) → eqb k 23 ≡ c → k ≡ 23
-        go true e = eqb-true k 23 e
-        go false e = let z = none-kind k v a b d (eqb-false k 23 e) in absurd (omega arith)
-
-    some-23 : 0 < length (subNumbers 23 (tlv 23 v))
-    some-23 = rw (← is-23) some
-
+  module _ (en : n ≡ length (subNumbers 23 (tlv 23 v))) (some : n ≡ 0 → ⊥) where
     pub mac-long : 4 ≤ length v
     mac-long = go (leb 4 (length v)) refl
       where
         go : (c : Bool) → leb 4 (length v) ≡ c → 4 ≤ length v
         go true e = leb-true 4 (length v) e
-        go false e = let z = zero-23-short v (leb-false 4 (length v) e) in let s = some-23 in absurd (omega arith)
+        go false e = absurd (some (en ∙ sym (zero-23-short v (leb-false 4 (length v) e))))
 
     pub sixes : (length v - 4) % 6 ≡ 0
     sixes = go (eqb ((length v - 4) % 6) 0) refl
       where
         go : (c : Bool) → eqb ((length v - 4) % 6) 0 ≡ c → (length v - 4) % 6 ≡ 0
         go true e = eqb-true ((length v - 4) % 6) 0 e
-        go false e = let z = zero-23 v mac-long (eqb-false ((length v - 4) % 6) 0 e) in let s = some-23 in absurd (omega arith)
+        go false e = absurd (some (en ∙ sym (zero-23 v mac-long (eqb-false ((length v - 4) % 6) 0 e))))
 
-    pub room-23 : at + 8 * (4 + (length v - 4) / 6) ≤ length out
-    room-23 = let n = numbers-23 v mac-long sixes in let q = ap (λ (x : ℕ). length (subNumbers x (tlv x v))) is-23 in let r = room-is in omega arith
+    pub room-23 : at + length (subWords 23 (tlv 23 v)) ≤ length out → at + 8 * (4 + (length v - 4) / 6) ≤ length out
+    room-23 h = let w = words-fit 23 v out at n en h in let m = numbers-23 v mac-long sixes in omega arith
 
-    pub puts-23 : (u : List ℕ) → u ≡ pasted out at (words (smartMacNumbers (smartMacOf v))) → u ≡ pasted out at (subWords k (tlv k v))
+    pub puts-23 : (u : List ℕ) → u ≡ pasted out at (words (smartMacNumbers (smartMacOf v))) → u ≡ pasted out at (subWords 23 (tlv 23 v))
     unfolding subWords
-    puts-23 u e = e ∙ rw (is-23, one-joined 23 (tlv 23 v) _ (got-23 v mac-long sixes))
+    puts-23 u e = e ∙ rw (one-joined 23 (tlv 23 v) _ (got-23 v mac-long sixes))
+
+-- ---- at two pens
+
+other-words : (k j : ℕ) (v : List ℕ) → (j ≡ k → ⊥) → subWords k (tlv j v) ≡ []
+unfolding subWords
+other-words k j v other = words-none (subNumbers k (tlv j v)) (sym (none-numbers k j v other))
+
+module _ (k m j : ℕ) (v o : List ℕ) (p : Pens) where
+  at-first : j ≡ k → (j ≡ m → ⊥) → (u : List ℕ) (r : ℕ) → u ≡ pasted o (p .first) (subWords k (tlv k v)) → r ≡ p .first + length (subWords k (tlv k v)) → onArea (record { first = r; second = p .second }) u ≡ filling (subWords k) (subWords m) (onArea p o) (tlv j v)
+  unfolding filling putTwo
+  at-first same other u r eu er =
+      let b : p .second + length {A = ℕ} [] ≡ p .second = omega arith in
+      rw (other-words m j v other, b, paste-none (pasted o (p .first) (subWords k (tlv j v))) (p .second), same, eu, er)
+
+  at-second : j ≡ m → (j ≡ k → ⊥) → (u : List ℕ) (r : ℕ) → u ≡ pasted o (p .second) (subWords m (tlv m v)) → r ≡ p .second + length (subWords m (tlv m v)) → onArea (record { first = p .first; second = r }) u ≡ filling (subWords k) (subWords m) (onArea p o) (tlv j v)
+  unfolding filling putTwo
+  at-second same other u r eu er =
+      let b : p .first + length {A = ℕ} [] ≡ p .first = omega arith in
+      rw (other-words k j v other, b, paste-none o (p .first), same, eu, er)
+
+  pub at-neither : (j ≡ k → ⊥) → (j ≡ m → ⊥) → onArea p o ≡ filling (subWords k) (subWords m) (onArea p o) (tlv j v)
+  unfolding filling
+  at-neither d e = rw (other-words k j v d, other-words m j v e) (two-none (onArea p o))
+
+  pub first-room : Room (subWords k (tlv j v)) (subWords m (tlv j v)) p (length o) → j ≡ k → p .first + length (subWords k (tlv k v)) ≤ length o
+  first-room h same = let e = ap (λ (x : ℕ). length (subWords k (tlv x v))) same in omega (arith, h .0, h .1)
+
+  pub second-room : Room (subWords k (tlv j v)) (subWords m (tlv j v)) p (length o) → j ≡ m → p .second + length (subWords m (tlv m v)) ≤ length o
+  second-room h same = let e = ap (λ (x : ℕ). length (subWords m (tlv x v))) same in omega (arith, h .1)
+
+module _ (j : ℕ) (v o : List ℕ) (p : Pens) (u : List ℕ) (r : ℕ) where
+  pub put-6 : j ≡ 6 → u ≡ pasted o (p .first) (subWords 6 (tlv 6 v)) → r ≡ p .first + length (subWords 6 (tlv 6 v)) → onArea (record { first = r; second = p .second }) u ≡ filling (subWords 6) (subWords 8) (onArea p o) (tlv j v)
+  put-6 e = at-first 6 8 j v o p e (λ f. absurd (omega arith)) u r
+
+  pub put-8 : j ≡ 8 → u ≡ pasted o (p .second) (subWords 8 (tlv 8 v)) → r ≡ p .second + length (subWords 8 (tlv 8 v)) → onArea (record { first = p .first; second = r }) u ≡ filling (subWords 6) (subWords 8) (onArea p o) (tlv j v)
+  put-8 e = at-second 6 8 j v o p e (λ f. absurd (omega arith)) u r
+
+  pub put-22 : j ≡ 22 → u ≡ pasted o (p .first) (subWords 22 (tlv 22 v)) → r ≡ p .first + length (subWords 22 (tlv 22 v)) → onArea (record { first = r; second = p .second }) u ≡ filling (subWords 22) (subWords 23) (onArea p o) (tlv j v)
+  put-22 e = at-first 22 23 j v o p e (λ f. absurd (omega arith)) u r
+
+  pub put-23 : j ≡ 23 → u ≡ pasted o (p .second) (subWords 23 (tlv 23 v)) → r ≡ p .second + length (subWords 23 (tlv 23 v)) → onArea (record { first = p .first; second = r }) u ≡ filling (subWords 22) (subWords 23) (onArea p o) (tlv j v)
+  put-23 e = at-second 22 23 j v o p e (λ f. absurd (omega arith)) u r
 
 -- ---- the levels
 
@@ -180,31 +181,61 @@ pub tlv-stump-words : (k : ℕ) → tlvWords k stump ≡ []
 unfolding tlvWords words flatMap
 tlv-stump-words k = rw (tlv-stump-numbers k)
 
-module _ (k h : ℕ) (v : List ℕ) (r : ℕ) (er : r ≡ holderFor k) where
-  module _ (apart : h ≡ r → ⊥) (out : List ℕ) (at : ℕ) where
-    tlv-none : tlvWords k (tlv h v) ≡ []
-    unfolding tlvWords
-    tlv-none = words-none (tlvNumbers k (tlv h v)) (sym (other-numbers k h v r er apart))
+tlv-none : (k h : ℕ) (v : List ℕ) (r : ℕ) → r ≡ holderFor k → (h ≡ r → ⊥) → tlvWords k (tlv h v) ≡ []
+unfolding tlvWords
+tlv-none k h v r er apart = words-none (tlvNumbers k (tlv h v)) (sym (other-numbers k h v r er apart))
 
-    pub skip-put : out ≡ pasted out at (tlvWords k (tlv h v))
-    skip-put = sym (ap (pasted out at) tlv-none ∙ paste-none out at)
+tlv-body : (k h : ℕ) (v : List ℕ) (r : ℕ) → r ≡ holderFor k → h ≡ r → (w : List ℕ) → w ≡ drop (bodyAt r v) v → flatMap (subWords k) (tlvs w) ≡ tlvWords k (tlv h v)
+unfolding tlvWords subWords words
+tlv-body k h v r er same w ew = rw (ew, ← same) (sym (ap words (body-numbers k h v r er same) ∙ flat-flat (bytesOf 8) (subNumbers k) (tlvs (drop (bodyAt h v) v))))
 
-    pub skip-end : at ≡ at + length (tlvWords k (tlv h v))
-    skip-end = let n = ap length tlv-none in omega arith
+-- a TLV that holds two types, k and m
+module _ (k m h r : ℕ) (ek : r ≡ holderFor k) (em : r ≡ holderFor m) (v o : List ℕ) (p : Pens) where
+  skip-two : (h ≡ r → ⊥) → onArea p o ≡ filling (tlvWords k) (tlvWords m) (onArea p o) (tlv h v)
+  unfolding filling
+  skip-two apart = rw (tlv-none k h v r ek apart, tlv-none m h v r em apart) (two-none (onArea p o))
 
-  module _ (same : h ≡ r) (s : ℕ) (es : s ≡ bodyAt h v) (w : List ℕ) (ew : w ≡ drop s v) where
-    tlv-body : flatMap (subWords k) (tlvs w) ≡ tlvWords k (tlv h v)
-    unfolding tlvWords subWords words
-    tlv-body = rw (ew, es) (sym (ap words (body-numbers k h v r er same) ∙ flat-flat (bytesOf 8) (subNumbers k) (tlvs (drop (bodyAt h v) v))))
+  module _ (same : h ≡ r) (w : List ℕ) (ew : w ≡ drop (bodyAt r v) v) where
+    room-two : Room (tlvWords k (tlv h v)) (tlvWords m (tlv h v)) p (length o) → Room (flatMap (subWords k) (tlvs w)) (flatMap (subWords m) (tlvs w)) p (length o)
+    room-two g = rw (tlv-body k h v r ek same w ew, tlv-body m h v r em same w ew) g
 
-    pub body-room : (out : List ℕ) (at : ℕ) → at + length (tlvWords k (tlv h v)) ≤ length out → at + length (flatMap (subWords k) (tlvs w)) ≤ length out
-    body-room out at h = rw tlv-body h
+    body-two : (q : Pens) (u : List ℕ) → onArea q u ≡ putTwo (flatMap (subWords k) (tlvs w)) (flatMap (subWords m) (tlvs w)) (onArea p o) → onArea q u ≡ filling (tlvWords k) (tlvWords m) (onArea p o) (tlv h v)
+    unfolding filling
+    body-two q u e = e ∙ rw (tlv-body k h v r ek same w ew, tlv-body m h v r em same w ew)
 
-    pub body-put : (out u : List ℕ) (at : ℕ) → u ≡ pasted out at (flatMap (subWords k) (tlvs w)) → u ≡ pasted out at (tlvWords k (tlv h v))
-    body-put out u at e = e ∙ ap (pasted out at) tlv-body
+module _ (h : ℕ) (v o : List ℕ) (p : Pens) where
+  pub skip-242 : (h ≡ 242 → ⊥) → onArea p o ≡ filling (tlvWords 6) (tlvWords 8) (onArea p o) (tlv h v)
+  skip-242 d = skip-two 6 8 h 242 (sym held-6) (sym held-8) v o p d
 
-    pub body-end : (at n : ℕ) → n ≡ at + length (flatMap (subWords k) (tlvs w)) → n ≡ at + length (tlvWords k (tlv h v))
-    body-end at n e = e ∙ ap (λ (x : List ℕ). at + length x) tlv-body
+  pub skip-251 : (h ≡ 251 → ⊥) → onArea p o ≡ filling (tlvWords 22) (tlvWords 23) (onArea p o) (tlv h v)
+  skip-251 d = skip-two 22 23 h 251 (sym held-22) (sym held-23) v o p d
+
+  module _ (s : ℕ) (w : List ℕ) (ew : w ≡ drop s v) where
+    pub room-242 : Room (tlvWords 6 (tlv h v)) (tlvWords 8 (tlv h v)) p (length o) → h ≡ 242 → s ≡ bodyAt 242 v → Room (flatMap (subWords 6) (tlvs w)) (flatMap (subWords 8) (tlvs w)) p (length o)
+    room-242 g e es = room-two 6 8 h 242 (sym held-6) (sym held-8) v o p e w (ew ∙ rw es) g
+
+    pub room-251 : Room (tlvWords 22 (tlv h v)) (tlvWords 23 (tlv h v)) p (length o) → h ≡ 251 → s ≡ bodyAt 251 v → Room (flatMap (subWords 22) (tlvs w)) (flatMap (subWords 23) (tlvs w)) p (length o)
+    room-251 g e es = room-two 22 23 h 251 (sym held-22) (sym held-23) v o p e w (ew ∙ rw es) g
+
+    module _ (q : Pens) (u : List ℕ) where
+      pub body-242 : h ≡ 242 → s ≡ bodyAt 242 v → onArea q u ≡ putTwo (flatMap (subWords 6) (tlvs w)) (flatMap (subWords 8) (tlvs w)) (onArea p o) → onArea q u ≡ filling (tlvWords 6) (tlvWords 8) (onArea p o) (tlv h v)
+      body-242 e es f = body-two 6 8 h 242 (sym held-6) (sym held-8) v o p e w (ew ∙ rw es) q u f
+
+      pub body-251 : h ≡ 251 → s ≡ bodyAt 251 v → onArea q u ≡ putTwo (flatMap (subWords 22) (tlvs w)) (flatMap (subWords 23) (tlvs w)) (onArea p o) → onArea q u ≡ filling (tlvWords 22) (tlvWords 23) (onArea p o) (tlv h v)
+      body-251 e es f = body-two 22 23 h 251 (sym held-22) (sym held-23) v o p e w (ew ∙ rw es) q u f
+
+-- an empty TLV of another kind
+pub free-6 : Free (tlvWords 6)
+free-6 k d e = tlv-none 6 k [] 242 (sym held-6) d
+
+pub free-8 : Free (tlvWords 8)
+free-8 k d e = tlv-none 8 k [] 242 (sym held-8) d
+
+pub free-22 : Free (tlvWords 22)
+free-22 k d e = tlv-none 22 k [] 251 (sym held-22) e
+
+pub free-23 : Free (tlvWords 23)
+free-23 k d e = tlv-none 23 k [] 251 (sym held-23) e
 
 -- ---- a section
 
@@ -220,28 +251,52 @@ module _ (k : ℕ) (l : List ℕ) (n : ℕ) (en : n ≡ length (flatMap (brought
   section-length : length (sectionWords k (items l)) ≡ 8 + length (flatMap (tlvWords k) (tlvs l))
   section-length = let a = ap length section-words in let b = length-bytesOf 8 n in let c = length-append (bytesOf 8 n) (flatMap (tlvWords k) (tlvs l)) in omega arith
 
-  module _ (out : List ℕ) (at : ℕ) (room : at + length (sectionWords k (items l)) ≤ length out) where
-    pub count-room : at + 8 ≤ length out
-    count-room = let n = section-length in omega arith
+  -- where there is none, the count is all
+  nothing-brought : n ≡ 0 → flatMap (tlvWords k) (tlvs l) ≡ []
+  unfolding tlvWords words joined flatMap
+  nothing-brought z =
+      let e : flatMap (brought k) (items l) ≡ [] = empty (flatMap (brought k) (items l)) (sym en ∙ z) in
+      sym (flat-flat (bytesOf 8) (tlvNumbers k) (tlvs l)) ∙ ap words (sym (joined-level k l) ∙ ap joined e)
 
-    pub rest-room : (o : List ℕ) → length o ≡ length out → at + 8 + length (flatMap (tlvWords k) (tlvs l)) ≤ length o
-    rest-room o same = let n = section-length in omega arith
+  count-alone : n ≡ 0 → sectionWords k (items l) ≡ bytesOf 8 n
+  count-alone z = section-words ∙ ap (λ (x : List ℕ). bytesOf 8 n ++ x) (nothing-brought z) ∙ append-nil (bytesOf 8 n)
 
-    pub section-put : (o u : List ℕ) → o ≡ pasted out at (bytesOf 8 n) → u ≡ pasted o (at + 8) (flatMap (tlvWords k) (tlvs l)) → u ≡ pasted out at (sectionWords k (items l))
-    section-put o u p q = behind out o u (bytesOf 8 n) (flatMap (tlvWords k) (tlvs l)) at 8 (omega arith) (length-bytesOf 8 n) p q ∙ ap (pasted out at) (sym section-words)
+pub section-size : (k : ℕ) (l : List ℕ) → length (sectionWords k (items l)) ≡ 8 + length (flatMap (tlvWords k) (tlvs l))
+section-size k l = section-length k l (length (flatMap (brought k) (items l))) refl
 
-    pub section-end : (r : ℕ) → r ≡ at + 8 + length (flatMap (tlvWords k) (tlvs l)) → r ≡ at + length (sectionWords k (items l))
-    section-end r e = let n = section-length in omega arith
+-- two sections
+module _ (k m : ℕ) (l : List ℕ) (n t : ℕ) (en : n ≡ length (flatMap (brought k) (items l))) (et : t ≡ length (flatMap (brought m) (items l)))
+    (out : List ℕ) (a b : ℕ) (first : a + length (sectionWords k (items l)) ≤ b) (second : b + length (sectionWords m (items l)) ≤ length out) where
+  pub count-first : a + 8 ≤ length out
+  count-first = let x = section-length k l n en in omega arith
 
-    -- where there is none, the count is all
-    nothing-brought : n ≡ 0 → flatMap (tlvWords k) (tlvs l) ≡ []
-    unfolding tlvWords words joined flatMap
-    nothing-brought z =
-        let e : flatMap (brought k) (items l) ≡ [] = empty (flatMap (brought k) (items l)) (sym en ∙ z) in
-        sym (flat-flat (bytesOf 8) (tlvNumbers k) (tlvs l)) ∙ ap words (sym (joined-level k l) ∙ ap joined e)
+  pub count-second : (o : List ℕ) → length o ≡ length out → b + 8 ≤ length o
+  count-second o same = let y = section-length m l t et in omega arith
 
-    pub empty-put : n ≡ 0 → (u : List ℕ) → u ≡ pasted out at (bytesOf 8 n) → u ≡ pasted out at (sectionWords k (items l))
-    empty-put z u e = e ∙ ap (pasted out at) (sym (section-words ∙ ap (λ (x : List ℕ). bytesOf 8 n ++ x) (nothing-brought z) ∙ append-nil (bytesOf 8 n)))
+  module _ (o u : List ℕ) (eo : o ≡ pasted out a (bytesOf 8 n)) (eu : u ≡ pasted o b (bytesOf 8 t)) where
+    counts-put : (w z : List ℕ) → sectionWords k (items l) ≡ bytesOf 8 n ++ w → sectionWords m (items l) ≡ bytesOf 8 t ++ z → pasted (pasted u (a + 8) w) (b + 8) z ≡ pasted (pasted out a (sectionWords k (items l))) b (sectionWords m (items l))
+    counts-put w z ew ez =
+        let i = length-bytesOf 8 n in
+        let j = length-bytesOf 8 t in
+        let c = ap length ew in
+        let d = ap length ez in
+        let e : a + 8 ≡ a + length (bytesOf 8 n) = omega arith in
+        let f : b + 8 ≡ b + length (bytesOf 8 t) = omega arith in
+        rw (eu, eo, e, f, ew, ez) (two-areas out (bytesOf 8 n) (bytesOf 8 t) w z a b (omega arith) (omega arith))
 
-    pub empty-end : n ≡ 0 → at + 8 ≡ at + length (sectionWords k (items l))
-    empty-end z = let m = section-length in let q = ap length (nothing-brought z) in omega arith
+    pub sections-put : (q : Pens) (y : List ℕ) → onArea q y ≡ putTwo (flatMap (tlvWords k) (tlvs l)) (flatMap (tlvWords m) (tlvs l)) (onArea (record { first = a + 8; second = b + 8 }) u) → y ≡ pasted (pasted out a (sectionWords k (items l))) b (sectionWords m (items l))
+    unfolding putTwo
+    sections-put q y e = ap (λ (s : OnArea Pens). s .area) e ∙ counts-put _ _ (section-words k l n en) (section-words m l t et)
+
+    pub sections-empty : (r : Bool) → r ≡ both (eqb n 0) (eqb t 0) → r ≡ true → u ≡ pasted (pasted out a (sectionWords k (items l))) b (sectionWords m (items l))
+    sections-empty r er is =
+        let z = both-true (eqb n 0) (eqb t 0) (sym er ∙ is) in
+        eu ∙ rw (eo, count-alone k l n en (eqb-true n 0 (z .0)), count-alone m l t et (eqb-true t 0 (z .1)))
+
+pub zero-not : (n t : ℕ) → (n ≡ 0 → ⊥) → false ≡ both (eqb n 0) (eqb t 0)
+unfolding both
+zero-not n t d = rw (ne-eqb n 0 d)
+
+pub zero-then : (n t : ℕ) → n ≡ 0 → eqb t 0 ≡ both (eqb n 0) (eqb t 0)
+unfolding both
+zero-then n t e = rw (eq-eqb n 0 e)

@@ -1,112 +1,255 @@
-// The sections of a contents area written from a payload, one for each type of sub-TLV: a loop over the TLVs, and one over the sub-TLVs
-// of each.
-ghost use Prim.Native.Nat.{_+_, _<_, _≤_};
+// The sections of a contents area written from a payload. The two types that a TLV holds are written in one pass, each at a pen of its
+// own: a loop over the TLVs, and one over the sub-TLVs of each.
+ghost use Prim.Native.Nat.{_+_, _≤_};
 ghost use mathlib.Core.List.{flatMap};
 ghost use mathlib.Core.Path.{_≡_};
+ghost use lib.Dec.{eqb};
 ghost use lib.ListN.{length};
+ghost use Rattle.numbers.specs.Tests.{both};
+ghost use Rattle.numbers.specs.After.{onArea};
 ghost use Rattle.frame_copy.specs.Areas.{pasted};
 ghost use Rattle.hello.specs.Tlvs.{tlv, tlvs};
 ghost use Rattle.hello.specs.Reading.{items};
-ghost use Rattle.hello_count.specs.Sections.{brought, subNumbers};
-ghost use Rattle.hello_fill.specs.Filling.{subWords, tlvWords, sectionWords};
-use hello_count::NICKNAME;
-use hello_count::PARAMETERS;
-use hello_count::TREES;
+ghost use Rattle.hello_count.specs.Sections.{brought};
+ghost use Rattle.hello_fill.specs.Filling.{subWords, tlvWords, sectionWords, putTwo, filling, Room};
+use hello_judge::CAPABILITY;
+use hello_judge::GENINFO;
+use hello_judge::NICKNAME;
+use hello_judge::PARAMETERS;
+use hello_judge::SMART_MAC;
+use hello_judge::TREES;
 
-// A sub-TLV of the type, of a length that the type allows.
-fn put_sub(kind: u8, v: &[u8], out: &mut [u8], at: usize)
-    requires { ⌜ (0 < length (subNumbers kind (tlv kind (now v)))) × (at + length (subWords kind (tlv kind (now v))) ≤ length (now out)) ⌝ }
-    ensures { λ _. ⌜ now (out .exit) ≡ pasted (now (out .entry)) at (subWords kind (tlv kind (now (v .entry)))) ⌝ }
-{
-    if kind == PARAMETERS {
-        hello_words::put_parameters(v, out, at);
-        return;
-    }
-    if kind == NICKNAME {
-        hello_words::put_nicknames(v, out, at);
-        return;
-    }
-    if kind == TREES {
-        hello_words::put_trees(v, out, at);
-        return;
-    }
-    hello_words::put_smart_mac(v, out, at);
+// Where the next sub-TLV of each of two types goes.
+pub struct Pens {
+    pub first: usize,
+    pub second: usize,
 }
 
-// A sub-TLV of the type j, if it is of the type that is gathered; where the next goes.
-fn fill_sub(kind: u8, j: u8, v: &[u8], out: &mut [u8], at: usize) -> usize
-    requires { ⌜ at + length (subWords kind (tlv j (now v))) ≤ length (now out) ⌝ }
-    ensures { λ r. ⌜ (now (out .exit) ≡ pasted (now (out .entry)) at (subWords kind (tlv j (now (v .entry))))) × (r ≡ at + length (subWords kind (tlv j (now (v .entry))))) ⌝ }
+// A sub-TLV of each type, if its length is one that the type allows; where the next goes.
+fn put_parameters(v: &[u8], out: &mut [u8], at: usize) -> usize
+    requires { ⌜ at + length (subWords 22 (tlv 22 (now v))) ≤ length (now out) ⌝ }
+    ensures { λ r. ⌜ (now (out .exit) ≡ pasted (now (out .entry)) at (subWords 22 (tlv 22 (now (v .entry))))) × (r ≡ at + length (subWords 22 (tlv 22 (now (v .entry))))) ⌝ }
 {
-    if j != kind {
-        return at;
-    }
-    let n = hello_count::sub_numbers(kind, v);
+    let n = hello_count::parameters_numbers(v);
     if n == 0 {
         return at;
     }
-    put_sub(kind, v, out, at);
+    hello_words::put_parameters(v, out, at);
     at + 8 * n
 }
 
-// The sub-TLVs of a TLV that holds the type.
-fn fill_subs(kind: u8, l: &[u8], out: &mut [u8], start: usize) -> usize
-    requires { ⌜ start + length (flatMap (subWords kind) (tlvs (now l))) ≤ length (now out) ⌝ }
-    ensures { λ r. ⌜ (now (out .exit) ≡ pasted (now (out .entry)) start (flatMap (subWords kind) (tlvs (now (l .entry))))) × (r ≡ start + length (flatMap (subWords kind) (tlvs (now (l .entry))))) ⌝ }
+fn put_nicknames(v: &[u8], out: &mut [u8], at: usize) -> usize
+    requires { ⌜ at + length (subWords 6 (tlv 6 (now v))) ≤ length (now out) ⌝ }
+    ensures { λ r. ⌜ (now (out .exit) ≡ pasted (now (out .entry)) at (subWords 6 (tlv 6 (now (v .entry))))) × (r ≡ at + length (subWords 6 (tlv 6 (now (v .entry))))) ⌝ }
+{
+    let n = hello_count::nickname_numbers(v);
+    if n == 0 {
+        return at;
+    }
+    hello_words::put_nicknames(v, out, at);
+    at + 8 * n
+}
+
+fn put_trees(v: &[u8], out: &mut [u8], at: usize) -> usize
+    requires { ⌜ at + length (subWords 8 (tlv 8 (now v))) ≤ length (now out) ⌝ }
+    ensures { λ r. ⌜ (now (out .exit) ≡ pasted (now (out .entry)) at (subWords 8 (tlv 8 (now (v .entry))))) × (r ≡ at + length (subWords 8 (tlv 8 (now (v .entry))))) ⌝ }
+{
+    let n = hello_count::trees_numbers(v);
+    if n == 0 {
+        return at;
+    }
+    hello_words::put_trees(v, out, at);
+    at + 8 * n
+}
+
+fn put_smart_mac(v: &[u8], out: &mut [u8], at: usize) -> usize
+    requires { ⌜ at + length (subWords 23 (tlv 23 (now v))) ≤ length (now out) ⌝ }
+    ensures { λ r. ⌜ (now (out .exit) ≡ pasted (now (out .entry)) at (subWords 23 (tlv 23 (now (v .entry))))) × (r ≡ at + length (subWords 23 (tlv 23 (now (v .entry))))) ⌝ }
+{
+    let n = hello_count::smart_mac_numbers(v);
+    if n == 0 {
+        return at;
+    }
+    hello_words::put_smart_mac(v, out, at);
+    at + 8 * n
+}
+
+// A sub-TLV of a TLV 242: nicknames go to the first pen, trees to the second.
+fn capability_sub(j: u8, v: &[u8], out: &mut [u8], p: Pens) -> Pens
+    requires { ⌜ Room (subWords 6 (tlv j (now v))) (subWords 8 (tlv j (now v))) p (length (now out)) ⌝ }
+    ensures { λ r. ⌜ onArea r (now (out .exit)) ≡ filling (subWords 6) (subWords 8) (onArea p (now (out .entry))) (tlv j (now (v .entry))) ⌝ }
+{
+    if j == NICKNAME {
+        let a = put_nicknames(v, out, p.first);
+        return Pens {
+            first: a,
+            second: p.second,
+        };
+    }
+    if j == TREES {
+        let b = put_trees(v, out, p.second);
+        return Pens {
+            first: p.first,
+            second: b,
+        };
+    }
+    p
+}
+
+// A sub-TLV of a TLV 251: Smart-Parameters go to the first pen, Smart-MACs to the second.
+fn geninfo_sub(j: u8, v: &[u8], out: &mut [u8], p: Pens) -> Pens
+    requires { ⌜ Room (subWords 22 (tlv j (now v))) (subWords 23 (tlv j (now v))) p (length (now out)) ⌝ }
+    ensures { λ r. ⌜ onArea r (now (out .exit)) ≡ filling (subWords 22) (subWords 23) (onArea p (now (out .entry))) (tlv j (now (v .entry))) ⌝ }
+{
+    if j == SMART_MAC {
+        let b = put_smart_mac(v, out, p.second);
+        return Pens {
+            first: p.first,
+            second: b,
+        };
+    }
+    if j == PARAMETERS {
+        let a = put_parameters(v, out, p.first);
+        return Pens {
+            first: a,
+            second: p.second,
+        };
+    }
+    p
+}
+
+// All of them.
+fn capability_subs(l: &[u8], out: &mut [u8], start: Pens) -> Pens
+    requires { ⌜ Room (flatMap (subWords 6) (tlvs (now l))) (flatMap (subWords 8) (tlvs (now l))) start (length (now out)) ⌝ }
+    ensures { λ r. ⌜ onArea r (now (out .exit)) ≡ putTwo (flatMap (subWords 6) (tlvs (now (l .entry)))) (flatMap (subWords 8) (tlvs (now (l .entry)))) (onArea start (now (out .entry))) ⌝ }
 {
     let mut at = 0;
-    let mut w = start;
+    let mut p = start;
     while at < l.len() {
         let e = hello_judge::end_of(l, at);
         if l.len() < e {
-            return w;
+            return p;
         }
         let s = at + 2;
-        w = fill_sub(kind, l[at], &l[s..e], out, w);
+        p = capability_sub(l[at], &l[s..e], out, p);
         at = e;
     }
-    w
+    p
 }
 
-// A TLV of the type h, if it holds the type that is gathered.
-fn fill_tlv(kind: u8, h: u8, v: &[u8], out: &mut [u8], at: usize) -> usize
-    requires { ⌜ at + length (tlvWords kind (tlv h (now v))) ≤ length (now out) ⌝ }
-    ensures { λ r. ⌜ (now (out .exit) ≡ pasted (now (out .entry)) at (tlvWords kind (tlv h (now (v .entry))))) × (r ≡ at + length (tlvWords kind (tlv h (now (v .entry))))) ⌝ }
+fn geninfo_subs(l: &[u8], out: &mut [u8], start: Pens) -> Pens
+    requires { ⌜ Room (flatMap (subWords 22) (tlvs (now l))) (flatMap (subWords 23) (tlvs (now l))) start (length (now out)) ⌝ }
+    ensures { λ r. ⌜ onArea r (now (out .exit)) ≡ putTwo (flatMap (subWords 22) (tlvs (now (l .entry)))) (flatMap (subWords 23) (tlvs (now (l .entry)))) (onArea start (now (out .entry))) ⌝ }
 {
-    if h != hello_count::holder(kind) {
-        return at;
+    let mut at = 0;
+    let mut p = start;
+    while at < l.len() {
+        let e = hello_judge::end_of(l, at);
+        if l.len() < e {
+            return p;
+        }
+        let s = at + 2;
+        p = geninfo_sub(l[at], &l[s..e], out, p);
+        at = e;
     }
-    let s = hello_count::body_at(h, v);
-    fill_subs(kind, &v[s..], out, at)
+    p
+}
+
+// A TLV of the type h, if it is a TLV 242; if it is a TLV 251.
+fn capability_tlv(h: u8, v: &[u8], out: &mut [u8], p: Pens) -> Pens
+    requires { ⌜ Room (tlvWords 6 (tlv h (now v))) (tlvWords 8 (tlv h (now v))) p (length (now out)) ⌝ }
+    ensures { λ r. ⌜ onArea r (now (out .exit)) ≡ filling (tlvWords 6) (tlvWords 8) (onArea p (now (out .entry))) (tlv h (now (v .entry))) ⌝ }
+{
+    if h != CAPABILITY {
+        return p;
+    }
+    let s = hello_count::capability_at(v);
+    capability_subs(&v[s..], out, p)
+}
+
+fn geninfo_tlv(h: u8, v: &[u8], out: &mut [u8], p: Pens) -> Pens
+    requires { ⌜ Room (tlvWords 22 (tlv h (now v))) (tlvWords 23 (tlv h (now v))) p (length (now out)) ⌝ }
+    ensures { λ r. ⌜ onArea r (now (out .exit)) ≡ filling (tlvWords 22) (tlvWords 23) (onArea p (now (out .entry))) (tlv h (now (v .entry))) ⌝ }
+{
+    if h != GENINFO {
+        return p;
+    }
+    let s = hello_count::geninfo_at(v);
+    geninfo_subs(&v[s..], out, p)
 }
 
 // The TLVs of a payload.
-fn fill_tlvs(kind: u8, l: &[u8], out: &mut [u8], start: usize) -> usize
-    requires { ⌜ start + length (flatMap (tlvWords kind) (tlvs (now l))) ≤ length (now out) ⌝ }
-    ensures { λ r. ⌜ (now (out .exit) ≡ pasted (now (out .entry)) start (flatMap (tlvWords kind) (tlvs (now (l .entry))))) × (r ≡ start + length (flatMap (tlvWords kind) (tlvs (now (l .entry))))) ⌝ }
+fn capability_tlvs(l: &[u8], out: &mut [u8], start: Pens) -> Pens
+    requires { ⌜ Room (flatMap (tlvWords 6) (tlvs (now l))) (flatMap (tlvWords 8) (tlvs (now l))) start (length (now out)) ⌝ }
+    ensures { λ r. ⌜ onArea r (now (out .exit)) ≡ putTwo (flatMap (tlvWords 6) (tlvs (now (l .entry)))) (flatMap (tlvWords 8) (tlvs (now (l .entry)))) (onArea start (now (out .entry))) ⌝ }
 {
-    let mut at = 0;
-    let mut w = start;
+    let mut at = hello_judge::past_empty(l, 0);
+    let mut p = start;
     while at < l.len() {
         let e = hello_judge::end_of(l, at);
         if l.len() < e {
-            return w;
+            return p;
         }
         let s = at + 2;
-        w = fill_tlv(kind, l[at], &l[s..e], out, w);
-        at = e;
+        p = capability_tlv(l[at], &l[s..e], out, p);
+        at = hello_judge::past_empty(l, e);
     }
-    w
+    p
 }
 
-// A section: how many sub-TLVs of the type there are, and the numbers of each; where the next section goes.
-pub fn put_section(kind: u8, count: usize, l: &[u8], out: &mut [u8], at: usize) -> usize
-    requires { ⌜ (count ≡ length (flatMap (brought kind) (items (now l)))) × (at + length (sectionWords kind (items (now l))) ≤ length (now out)) ⌝ }
-    ensures { λ r. ⌜ (now (out .exit) ≡ pasted (now (out .entry)) at (sectionWords kind (items (now (l .entry))))) × (r ≡ at + length (sectionWords kind (items (now (l .entry))))) ⌝ }
+fn geninfo_tlvs(l: &[u8], out: &mut [u8], start: Pens) -> Pens
+    requires { ⌜ Room (flatMap (tlvWords 22) (tlvs (now l))) (flatMap (tlvWords 23) (tlvs (now l))) start (length (now out)) ⌝ }
+    ensures { λ r. ⌜ onArea r (now (out .exit)) ≡ putTwo (flatMap (tlvWords 22) (tlvs (now (l .entry)))) (flatMap (tlvWords 23) (tlvs (now (l .entry)))) (onArea start (now (out .entry))) ⌝ }
 {
-    hello_words::put_word(count as u64, out, at);
-    if count == 0 {
-        return at + 8;
+    let mut at = hello_judge::past_empty(l, 0);
+    let mut p = start;
+    while at < l.len() {
+        let e = hello_judge::end_of(l, at);
+        if l.len() < e {
+            return p;
+        }
+        let s = at + 2;
+        p = geninfo_tlv(l[at], &l[s..e], out, p);
+        at = hello_judge::past_empty(l, e);
     }
-    fill_tlvs(kind, l, out, at + 8)
+    p
+}
+
+fn both_zero(n: usize, t: usize) -> bool
+    ensures { λ r. ⌜ r ≡ both (eqb n 0) (eqb t 0) ⌝ }
+{
+    if n != 0 {
+        return false;
+    }
+    t == 0
+}
+
+// Two sections: how many sub-TLVs of a type there are, and the numbers of each. Where there are none, the pass is left out.
+pub fn capability_sections(l: &[u8], n: usize, t: usize, out: &mut [u8], a: usize, b: usize)
+    requires { ⌜ ((n ≡ length (flatMap (brought 6) (items (now l)))) × (t ≡ length (flatMap (brought 8) (items (now l))))) × ((a + length (sectionWords 6 (items (now l))) ≤ b) × (b + length (sectionWords 8 (items (now l))) ≤ length (now out))) ⌝ }
+    ensures { λ _. ⌜ now (out .exit) ≡ pasted (pasted (now (out .entry)) a (sectionWords 6 (items (now (l .entry))))) b (sectionWords 8 (items (now (l .entry)))) ⌝ }
+{
+    hello_words::put_word(n as u64, out, a);
+    hello_words::put_word(t as u64, out, b);
+    if both_zero(n, t) {
+        return;
+    }
+    let start = Pens {
+        first: a + 8,
+        second: b + 8,
+    };
+    capability_tlvs(l, out, start);
+}
+
+pub fn geninfo_sections(l: &[u8], p: usize, m: usize, out: &mut [u8], a: usize, b: usize)
+    requires { ⌜ ((p ≡ length (flatMap (brought 22) (items (now l)))) × (m ≡ length (flatMap (brought 23) (items (now l))))) × ((a + length (sectionWords 22 (items (now l))) ≤ b) × (b + length (sectionWords 23 (items (now l))) ≤ length (now out))) ⌝ }
+    ensures { λ _. ⌜ now (out .exit) ≡ pasted (pasted (now (out .entry)) a (sectionWords 22 (items (now (l .entry))))) b (sectionWords 23 (items (now (l .entry)))) ⌝ }
+{
+    hello_words::put_word(p as u64, out, a);
+    hello_words::put_word(m as u64, out, b);
+    let start = Pens {
+        first: a + 8,
+        second: b + 8,
+    };
+    geninfo_tlvs(l, out, start);
 }

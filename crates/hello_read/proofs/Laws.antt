@@ -22,11 +22,15 @@ use Rattle.hello.specs.Area.{numbersOf, areaOf}
 use Rattle.hello.specs.Calls.{areaRead, answered, readCall}
 use Rattle.hello.specs.declared.HelloAnswer.{HelloAnswer}
 use Rattle.hello.specs.declared.HelloAnswer.the-variants.{Refused, Written}
-use Rattle.hello_count.specs.Sections.{brought, joined, section, refusalOf}
-use Rattle.hello_count.proofs.Judged.{sections}
+use Rattle.hello_judge.specs.declared.Counts.{Counts}
+use Rattle.hello_judge.specs.Counting.{walked, nothing, counting, refusalFor, refusalOf}
+use Rattle.hello_judge.proofs.Sums.{judged}
+use Rattle.hello_count.specs.Sections.{brought, joined, section}
+use Rattle.hello_count.proofs.Sections.{sections, count-22, count-6, count-8, count-23, numbers-22, numbers-6, numbers-8, numbers-23}
 use Rattle.hello_words.specs.Words.{words}
 use Rattle.hello_words.proofs.Words.{length-words, words-append}
 use Rattle.hello_fill.specs.Filling.{sectionWords}
+use Rattle.hello_fill.proofs.Apart.{length-pasted, paste-apart}
 use Rattle.hello_read.specs.Sections.{allWords}
 
 -- ---- whether they fit
@@ -61,33 +65,26 @@ all-length is =
     let c = length-append (sectionWords 8 is) (sectionWords 23 is) in
     omega arith
 
-module _ (l out : List ℕ) (room : length (allWords (items l)) ≤ length out) where
-  pub room-22 : 0 + length (sectionWords 22 (items l)) ≤ length out
-  room-22 = let n = all-length (items l) in omega arith
-
-  module _ (a : ℕ) (ea : a ≡ 0 + length (sectionWords 22 (items l))) where
-    pub room-6 : (o : List ℕ) → length o ≡ length out → a + length (sectionWords 6 (items l)) ≤ length o
-    room-6 o same = let n = all-length (items l) in omega arith
-
-    module _ (b : ℕ) (eb : b ≡ a + length (sectionWords 6 (items l))) where
-      module _ (c : ℕ) (ec : c ≡ b + length (sectionWords 8 (items l))) where
-        pub sections-end : (d : ℕ) → d ≡ c + length (sectionWords 23 (items l)) → d ≡ length (allWords (items l))
-        sections-end d ed = let n = all-length (items l) in omega arith
-
-        pub sections-put : (o₁ o₂ o₃ o₄ : List ℕ) → o₁ ≡ pasted out 0 (sectionWords 22 (items l)) → o₂ ≡ pasted o₁ a (sectionWords 6 (items l)) → o₃ ≡ pasted o₂ b (sectionWords 8 (items l))
-            → o₄ ≡ pasted o₃ c (sectionWords 23 (items l)) → o₄ ≡ laid (allWords (items l)) out
-        unfolding allWords
-        sections-put o₁ o₂ o₃ o₄ p q r s =
-            let x : List ℕ = sectionWords 22 (items l) in
-            let y : List ℕ = sectionWords 6 (items l) in
-            let z : List ℕ = sectionWords 8 (items l) in
-            let w : List ℕ = sectionWords 23 (items l) in
-            let i = length-append x y in
-            let j = length-append (x ++ y) z in
-            let e₂ : o₂ ≡ pasted out 0 (x ++ y) = q ∙ rw p (paste-next out x y 0 a (omega arith) (sym ea)) in
-            let e₃ : o₃ ≡ pasted out 0 ((x ++ y) ++ z) = r ∙ rw e₂ (paste-next out (x ++ y) z 0 b (omega arith) (omega arith)) in
-            let e₄ : o₄ ≡ pasted out 0 (((x ++ y) ++ z) ++ w) = s ∙ rw e₃ (paste-next out ((x ++ y) ++ z) w 0 c (omega arith) (omega arith)) in
-            e₄ ∙ ap (pasted out 0) (append-assoc (x ++ y) z w ∙ append-assoc x y (z ++ w)) ∙ paste-laid out (x ++ (y ++ (z ++ w)))
+module _ (l out : List ℕ) (room : length (allWords (items l)) ≤ length out) (n t m : ℕ) (en : n ≡ length (sectionWords 22 (items l))) (et : t ≡ n + length (sectionWords 6 (items l))) (em : m ≡ t + length (sectionWords 8 (items l))) where
+  -- the first and the last section are written before the two between them
+  pub sections-put : (o u : List ℕ) → o ≡ pasted (pasted out 0 (sectionWords 22 (items l))) m (sectionWords 23 (items l)) → u ≡ pasted (pasted o n (sectionWords 6 (items l))) t (sectionWords 8 (items l)) → u ≡ laid (allWords (items l)) out
+  unfolding allWords
+  sections-put o u p q =
+      let x : List ℕ = sectionWords 22 (items l) in
+      let y : List ℕ = sectionWords 6 (items l) in
+      let z : List ℕ = sectionWords 8 (items l) in
+      let w : List ℕ = sectionWords 23 (items l) in
+      let e = all-length (items l) in
+      let i = length-append x y in
+      let j = length-append (x ++ y) z in
+      let a = length-pasted out x 0 (omega arith) in
+      let b = length-pasted (pasted out 0 x) y n (omega arith) in
+      let c : pasted o n y ≡ pasted (pasted (pasted out 0 x) n y) m w = ap (λ (s : List ℕ). pasted s n y) p ∙ paste-apart (pasted out 0 x) y w n m (omega arith) (omega arith) in
+      let d : pasted (pasted o n y) t z ≡ pasted (pasted (pasted (pasted out 0 x) n y) t z) m w = ap (λ (s : List ℕ). pasted s t z) c ∙ paste-apart (pasted (pasted out 0 x) n y) z w t m (omega arith) (omega arith) in
+      let e₂ : pasted (pasted out 0 x) n y ≡ pasted out 0 (x ++ y) = paste-next out x y 0 n (omega arith) (omega arith) in
+      let e₃ : pasted (pasted out 0 (x ++ y)) t z ≡ pasted out 0 ((x ++ y) ++ z) = paste-next out (x ++ y) z 0 t (omega arith) (omega arith) in
+      let e₄ : pasted (pasted out 0 ((x ++ y) ++ z)) m w ≡ pasted out 0 (((x ++ y) ++ z) ++ w) = paste-next out ((x ++ y) ++ z) w 0 m (omega arith) (omega arith) in
+      q ∙ d ∙ rw (e₂, e₃, e₄) (ap (pasted out 0) (append-assoc (x ++ y) z w ∙ append-assoc x y (z ++ w)) ∙ paste-laid out (x ++ (y ++ (z ++ w))))
 
 -- ---- they are the contents
 
@@ -102,27 +99,41 @@ section-length : (k : ℕ) (is : List Item) → length (sectionWords k is) ≡ 8
 unfolding sectionWords section
 section-length k is = let n = length-words (section k is) in omega arith
 
-module _ (l : List ℕ) (a b c d : ℕ) (ea : a ≡ length (joined (flatMap (brought 22) (items l)))) (eb : b ≡ length (joined (flatMap (brought 6) (items l)))) (ec : c ≡ length (joined (flatMap (brought 8) (items l)))) (ed : d ≡ length (joined (flatMap (brought 23) (items l)))) where
-  total : length (allWords (items l)) ≡ 8 * (4 + (a + (b + (c + d))))
+-- the sizes of the sections by the counts
+module _ (l : List ℕ) (c : Counts) (ec : c ≡ walked counting nothing (items l)) where
+  pub size-22 : 8 + 8 * c .«parameter_numbers» ≡ length (sectionWords 22 (items l))
+  size-22 = let n = section-length 22 (items l) in let e = numbers-22 (items l) c ec in omega arith
+
+  pub size-6 : 8 + 8 * c .«nickname_numbers» ≡ length (sectionWords 6 (items l))
+  size-6 = let n = section-length 6 (items l) in let e = numbers-6 (items l) c ec in omega arith
+
+  pub size-8 : 8 + 8 * c .«tree_numbers» ≡ length (sectionWords 8 (items l))
+  size-8 = let n = section-length 8 (items l) in let e = numbers-8 (items l) c ec in omega arith
+
+  pub size-23 : 8 + 8 * c .«mac_numbers» ≡ length (sectionWords 23 (items l))
+  size-23 = let n = section-length 23 (items l) in let e = numbers-23 (items l) c ec in omega arith
+
+  total : length (allWords (items l)) ≡ 8 * (4 + (c .«parameter_numbers» + (c .«nickname_numbers» + (c .«tree_numbers» + c .«mac_numbers»))))
   total =
       let n = all-length (items l) in
-      let w = section-length 22 (items l) in
-      let x = section-length 6 (items l) in
-      let y = section-length 8 (items l) in
-      let z = section-length 23 (items l) in
+      let w = size-22 in
+      let x = size-6 in
+      let y = size-8 in
+      let z = size-23 in
       omega arith
 
-  pub fit-room : (out : List ℕ) (r : Bool) → r ≡ leb (4 + (a + (b + (c + d)))) (length out / 8) → r ≡ true → length (allWords (items l)) ≤ length out
-  fit-room out r er e =
-      let t = total in
-      let h = leb-true (4 + (a + (b + (c + d)))) (length out / 8) (sym er ∙ e) in
-      omega arith
+  module _ (out : List ℕ) (r : Bool) (er : r ≡ leb (4 + (c .«parameter_numbers» + (c .«nickname_numbers» + (c .«tree_numbers» + c .«mac_numbers»)))) (length out / 8)) where
+    pub fit-room : r ≡ true → length (allWords (items l)) ≤ length out
+    fit-room e =
+        let t = total in
+        let h = leb-true (4 + (c .«parameter_numbers» + (c .«nickname_numbers» + (c .«tree_numbers» + c .«mac_numbers»)))) (length out / 8) (sym er ∙ e) in
+        omega arith
 
-  no-room : (out : List ℕ) (r : Bool) → r ≡ leb (4 + (a + (b + (c + d)))) (length out / 8) → r ≡ false → length out < length (allWords (items l))
-  no-room out r er e =
-      let t = total in
-      let h = leb-false (4 + (a + (b + (c + d)))) (length out / 8) (sym er ∙ e) in
-      omega arith
+    no-room : r ≡ false → length out < length (allWords (items l))
+    no-room e =
+        let t = total in
+        let h = leb-false (4 + (c .«parameter_numbers» + (c .«nickname_numbers» + (c .«tree_numbers» + c .«mac_numbers»)))) (length out / 8) (sym er ∙ e) in
+        omega arith
 
 -- ---- the call
 
@@ -131,9 +142,9 @@ unfolding answered andThen settled
 refused-call (refused n) out j e d = rw e
 refused-call (got c) out j e d = absurd (d e)
 
-pub refused-way : (l out : List ℕ) (j : ℕ) → j ≡ refusalOf (helloRead l) → (j ≡ 0 → ⊥) → onArea (Refused j) out ≡ readCall l out
+pub refused-way : (l out : List ℕ) (c : Counts) → c ≡ walked counting nothing (items l) → (j : ℕ) → j ≡ refusalFor c → (j ≡ 0 → ⊥) → onArea (Refused j) out ≡ readCall l out
 unfolding readCall areaRead
-refused-way l out j e d = refused-call (helloRead l) out j e d
+refused-way l out c ec j e d = refused-call (helloRead l) out j (judged l c ec j e) d
 
 single-got : (a b : Bool) (c : Contents) → refusalOf (check a 25 (check b 26 (got c))) ≡ 0 → check a 25 (check b 26 (got c)) ≡ got c
 unfolding check
@@ -162,11 +173,10 @@ put-fits : (b out : List ℕ) → length b ≤ length out → onArea (Written (l
 unfolding written settled check
 put-fits b out h = rw (le-leb (length b) (length out) h)
 
-module _ (l out : List ℕ) (j : ℕ) (ej : j ≡ refusalOf (helloRead l)) (good : j ≡ 0)
-    (a b c d : ℕ) (ea : a ≡ length (joined (flatMap (brought 22) (items l)))) (eb : b ≡ length (joined (flatMap (brought 6) (items l)))) (ec : c ≡ length (joined (flatMap (brought 8) (items l)))) (ed : d ≡ length (joined (flatMap (brought 23) (items l))))
-    (r : Bool) (er : r ≡ leb (4 + (a + (b + (c + d)))) (length out / 8)) where
+module _ (l out : List ℕ) (c : Counts) (ec : c ≡ walked counting nothing (items l)) (j : ℕ) (ej : j ≡ refusalFor c) (good : j ≡ 0)
+    (r : Bool) (er : r ≡ leb (4 + (c .«parameter_numbers» + (c .«nickname_numbers» + (c .«tree_numbers» + c .«mac_numbers»)))) (length out / 8)) where
   pub short-way : r ≡ false → onArea (Refused area-short) out ≡ readCall l out
-  short-way e = put-short (allWords (items l)) out (no-room l a b c d ea eb ec ed out r er e) ∙ call-is l out j ej good
+  short-way e = put-short (allWords (items l)) out (no-room l c ec out r er e) ∙ call-is l out j (judged l c ec j ej) good
 
   pub written-way : r ≡ true → (n : ℕ) (u : List ℕ) → n ≡ length (allWords (items l)) → u ≡ laid (allWords (items l)) out → onArea (Written n) u ≡ readCall l out
-  written-way e n u en eu = rw (en, eu) (put-fits (allWords (items l)) out (fit-room l a b c d ea eb ec ed out r er e) ∙ call-is l out j ej good)
+  written-way e n u en eu = rw (en, eu) (put-fits (allWords (items l)) out (fit-room l c ec out r er e) ∙ call-is l out j (judged l c ec j ej) good)

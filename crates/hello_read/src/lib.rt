@@ -1,22 +1,17 @@
-// The call that reads a Smart-Hello: the payload is judged, then the room, and then the contents are written, a section for each type of
-// sub-TLV.
+// The call that reads a Smart-Hello: one pass judges the payload and counts, then the room is judged, and then the contents are written,
+// a section for each type of sub-TLV.
 ghost use Prim.Native.Nat.{_+_, _≤_};
-ghost use mathlib.Core.List.{flatMap};
 ghost use mathlib.Core.Path.{_≡_};
 ghost use lib.Dec.{leb};
 ghost use lib.ListN.{length};
 ghost use Rattle.numbers.specs.After.{onArea};
 ghost use Rattle.numbers.specs.Bytes.{laid};
-ghost use Rattle.hello.specs.Pieces.{parametersType, smartMacType, nicknameType, treesType};
 ghost use Rattle.hello.specs.Reading.{items};
 ghost use Rattle.hello.specs.Calls.{readCall};
-ghost use Rattle.hello_count.specs.Sections.{brought};
+ghost use Rattle.hello_judge.specs.Counting.{walked, nothing, counting};
 ghost use Rattle.hello_read.specs.Sections.{allWords};
 use hello::HelloAnswer;
-use hello_count::NICKNAME;
-use hello_count::PARAMETERS;
-use hello_count::SMART_MAC;
-use hello_count::TREES;
+use hello_judge::Counts;
 use numbers::refusals::AREA_SHORT;
 
 // Whether the numbers of four sections fit, with the count of each.
@@ -42,32 +37,37 @@ fn sections_fit(room: usize, a: usize, b: usize, c: usize, d: usize) -> bool
 }
 
 // Writes the sections, and gives where they end.
-fn put_sections(l: &[u8], p: usize, n: usize, t: usize, m: usize, out: &mut [u8]) -> usize
-    requires { ⌜ ((p ≡ length (flatMap (brought parametersType) (items (now l)))) × ((n ≡ length (flatMap (brought nicknameType) (items (now l)))) × ((t ≡ length (flatMap (brought treesType) (items (now l)))) × (m ≡ length (flatMap (brought smartMacType) (items (now l))))))) × (length (allWords (items (now l))) ≤ length (now out)) ⌝ }
+fn put_sections(l: &[u8], c: Counts, out: &mut [u8]) -> usize
+    requires { ⌜ (c ≡ walked counting nothing (items (now l))) × (length (allWords (items (now l))) ≤ length (now out)) ⌝ }
     ensures { λ r. ⌜ (now (out .exit) ≡ laid (allWords (items (now (l .entry)))) (now (out .entry))) × (r ≡ length (allWords (items (now (l .entry))))) ⌝ }
 {
-    let a = hello_fill::put_section(PARAMETERS, p, l, out, 0);
-    let b = hello_fill::put_section(NICKNAME, n, l, out, a);
-    let c = hello_fill::put_section(TREES, t, l, out, b);
-    hello_fill::put_section(SMART_MAC, m, l, out, c)
+    let n = 8 + 8 * c.parameter_numbers;
+    let t = n + (8 + 8 * c.nickname_numbers);
+    let m = t + (8 + 8 * c.tree_numbers);
+    hello_fill::geninfo_sections(l, c.parameters, c.macs, out, 0, m);
+    hello_fill::capability_sections(l, c.nicknames, c.trees, out, n, t);
+    m + (8 + 8 * c.mac_numbers)
 }
 
 // Reads a Smart-Hello into a contents area.
 pub fn hello_read(payload: &[u8], contents: &mut [u8]) -> HelloAnswer
     ensures { λ r. ⌜ onArea r (now (contents .exit)) ≡ readCall (now (payload .entry)) (now (contents .entry)) ⌝ }
 {
-    let j = hello_count::judge(payload);
+    let c = hello_judge::count(payload);
+    let j = hello_judge::refusal(c);
     if j != 0 {
         return HelloAnswer::Refused(j);
     }
-    let p = hello_count::count(PARAMETERS, payload);
-    let n = hello_count::count(NICKNAME, payload);
-    let t = hello_count::count(TREES, payload);
-    let m = hello_count::count(SMART_MAC, payload);
     let room = contents.len() / 8;
-    if !sections_fit(room, p.numbers, n.numbers, t.numbers, m.numbers) {
+    if !sections_fit(
+        room,
+        c.parameter_numbers,
+        c.nickname_numbers,
+        c.tree_numbers,
+        c.mac_numbers,
+    ) {
         return HelloAnswer::Refused(AREA_SHORT);
     }
-    let e = put_sections(payload, p.count, n.count, t.count, m.count, contents);
+    let e = put_sections(payload, c, contents);
     HelloAnswer::Written(e)
 }

@@ -20,7 +20,7 @@ use Rattle.hello.specs.Contents.{Nickname}
 use Rattle.hello.specs.Reading.{parametersOf, nicknameOf, treesOf, smartMacOf, labelIn}
 use Rattle.hello.specs.Area.{counted, alone, parametersNumbers, nicknameNumbers, treesNumbers, smartMacNumbers}
 use Rattle.hello.proofs.Lists.{flatMap-append, length-joined}
-use Rattle.hello_count.proofs.Subs.{parts-count}
+use Rattle.hello_judge.proofs.Subs.{parts-count}
 use Rattle.hello_words.specs.Words.{words, recordWords, numberWord, labelWords}
 
 pub length-words : (ns : List ℕ) → length (words ns) ≡ 8 * length ns
@@ -83,6 +83,12 @@ module _ (v : List ℕ) (from : ℕ) (out : List ℕ) (at : ℕ) (inside : from 
       three-words out o u at a b (omega arith) p q w d r
       ∙ rw (record-priority v from inside, record-root v from inside, record-nickname v from inside, ← ea, ← eb, ← ed)
 
+pub first-record-put : (v out : List ℕ) (at : ℕ) → 5 ≤ length v → at + 24 ≤ length out → (a b d : ℕ) (o u w : List ℕ) → a ≡ getD v 0 0 → o ≡ pasted out at (bytesOf 8 a)
+    → b ≡ num (take 2 (drop 1 v)) → u ≡ pasted o (at + 8) (bytesOf 8 b)
+    → d ≡ num (take 2 (drop 3 v)) → w ≡ pasted u (at + 16) (bytesOf 8 d)
+    → w ≡ pasted out at (recordWords (take 5 v))
+first-record-put v out at h room a b d o u w ea p eb q ed r = record-put v 0 out at h room a b d o u w ea p eb q ed r
+
 -- ---- the parts of each sub-TLV
 
 module _ (v out : List ℕ) (at : ℕ) (four : length v ≡ 4) (room : at + 16 ≤ length out) where
@@ -126,15 +132,15 @@ module _ (v out : List ℕ) (at : ℕ) (whole : length v % 5 ≡ 0) (room : at +
 module _ (v out : List ℕ) (at : ℕ) (some : 2 ≤ length v) (whole : length v % 2 ≡ 0) (room : at + 8 * (2 + (length v - 2) / 2) ≤ length out) where
   pub trees-put : (a n : ℕ) (o u w : List ℕ) → a ≡ num (take 2 v) → o ≡ pasted out at (bytesOf 8 a)
       → n ≡ (length v - 2) / 2 → u ≡ pasted o (at + 8) (bytesOf 8 n)
-      → (r : List ℕ) → r ≡ drop 2 v → w ≡ pasted u (at + 16) (flatMap numberWord (parts 2 r))
+      → w ≡ pasted u (at + 16) (flatMap numberWord (parts 2 (drop 2 v)))
       → w ≡ pasted out at (words (treesNumbers (treesOf v)))
   unfolding treesNumbers treesOf
-  trees-put a n o u w ea p en q r er s =
+  trees-put a n o u w ea p en q s =
       let ps : List (List ℕ) = parts 2 (drop 2 v) in
       let d = length-drop 2 v in
       let c = parts-count 2 (omega arith) n (drop 2 v) (omega arith) in
       let m = length-words (a ∷ (n ∷ [])) in
-      behind out u w (words (a ∷ (n ∷ []))) (flatMap numberWord ps) at 16 (omega arith) (omega arith) (two-words out o u at a n (omega arith) p q) (s ∙ rw er)
+      behind out u w (words (a ∷ (n ∷ []))) (flatMap numberWord ps) at 16 (omega arith) (omega arith) (two-words out o u at a n (omega arith) p q) s
       ∙ ap (pasted out at) (rw (words-cons a (n ∷ []), words-one n, append-assoc (bytesOf 8 a) (bytesOf 8 n) (flatMap numberWord ps)) (sym (words-cons (num (take 2 v)) _ ∙ rw (counted-words alone num numberWord number-words ps n c, ← ea))))
 
 module _ (x : ℕ) (out : List ℕ) (at : ℕ) (room : at + 24 ≤ length out) where
@@ -159,14 +165,14 @@ module _ (v out : List ℕ) (at : ℕ) (some : 4 ≤ length v) (whole : (length 
 
   pub mac-put : (x n : ℕ) (o u w : List ℕ) → x ≡ num (take 4 v) → o ≡ pasted out at (labelWords x)
       → n ≡ (length v - 4) / 6 → u ≡ pasted o (at + 24) (bytesOf 8 n)
-      → (r : List ℕ) → r ≡ drop 4 v → w ≡ pasted u (at + 32) (flatMap numberWord (parts 6 r))
+      → w ≡ pasted u (at + 32) (flatMap numberWord (parts 6 (drop 4 v)))
       → w ≡ pasted out at (words (smartMacNumbers (smartMacOf v)))
-  mac-put x n o u w ex p en q r er s =
+  mac-put x n o u w ex p en q s =
       let ps : List (List ℕ) = parts 6 (drop 4 v) in
       let m = label-length x in
       let l = length-bytesOf 8 n in
       let k = length-append (labelWords x) (bytesOf 8 n) in
-      behind out u w (labelWords x ++ bytesOf 8 n) (flatMap numberWord ps) at 32 (omega arith) (omega arith) (behind out o u (labelWords x) (bytesOf 8 n) at 24 (omega arith) m p q) (s ∙ rw er)
+      behind out u w (labelWords x ++ bytesOf 8 n) (flatMap numberWord ps) at 32 (omega arith) (omega arith) (behind out o u (labelWords x) (bytesOf 8 n) at 24 (omega arith) m p q) s
       ∙ ap (pasted out at) (append-assoc (labelWords x) (bytesOf 8 n) (flatMap numberWord ps) ∙ sym (mac-words x n ex en))
 
 -- the label
