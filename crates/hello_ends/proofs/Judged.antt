@@ -1,25 +1,24 @@
 -- The judgement of a contents area: it is written exactly if its four sections end where it ends and it has one Smart-Parameters.
 -- Assumes nothing.
-use Prim.Native.Nat.{ℕ, zero, suc, _+_, _-_, _%_, _<_, _≤_}
+use Prim.Native.Nat.{ℕ, _-_, _%_, _<_, _≤_}
 use mathlib.Core.Bool.{Bool, true, false}
-use mathlib.Core.List.{List, [], _∷_, _++_, flatMap}
+use mathlib.Core.List.{List, [], _∷_, flatMap}
 use mathlib.Core.Path.{_≡_, refl, sym, ap, _∙_}
 use native.Mathlib.Omega.{arith}
-use lib.Dec.{leb, ltb, eqb}
-use lib.ListN.{length, drop, getD}
-use borrow.Author.Tests.{eq-eqb, ne-eqb, le-leb, lt-leb, leb-true, leb-false}
+use lib.Dec.{leb, eqb}
+use lib.ListN.{length, getD}
+use borrow.Author.Tests.{eq-eqb, ne-eqb, le-leb, lt-leb, leb-true}
 use Rattle.numbers.specs.Tests.{pick}
 use Rattle.numbers.specs.Bytes.{bytesOf}
 use Rattle.numbers.specs.Result.{Result, refused, got, check, andThen}
-use Rattle.numbers.proofs.Answers.{refused-got}
 use Rattle.hello.specs.Pieces.{Sub}
 use Rattle.hello.specs.Writing.{within, parametersGood, nicknameGood, nicknameBytes, tlvsOf}
 use Rattle.hello.specs.Area.{Taken, Taker, taken, takeOne, then, takeMany, takeCounted, takeParameters, takeNickname}
 use Rattle.hello.specs.Calls.{areaWritten}
-use Rattle.hello_area.specs.Entries.{via, takeLabel, labelGood, labelBytes, parametersBytes, takeHead, takeItem, mostOf, takeList, takeSub, takeBoth, takeSubs, numbersIn, entriesWritten, endIn, endFrom, reach}
+use Rattle.hello_area.specs.Entries.{via, takeLabel, labelGood, labelBytes, parametersBytes, takeHead, takeItem, mostOf, takeList, takeSub, takeBoth, takeSubs, numbersIn, entriesWritten, endIn, reach}
 use Rattle.hello_area.proofs.Takers.{Only, only-taken, only-then, only-one, only-many, only-counted, only-parameters, only-nickname}
 use Rattle.hello_area.proofs.Whole.{entries-are}
-use Rattle.hello_area.proofs.Places.{Suffix, Ends, suffix-then, suffix-taken, suffix-counted, reach-in}
+use Rattle.hello_area.proofs.Places.{Suffix, suffix-then, suffix-taken, suffix-counted, reach-in}
 use Rattle.hello_ends.specs.Below.{refusalOf}
 use Rattle.hello_ends.proofs.Shapes.{suffix-sub}
 

@@ -1,21 +1,20 @@
 -- The numbers of an area by their places; a number below a limit, two and three of them.
 -- Assumes nothing.
-use Prim.Native.Nat.{ℕ, zero, suc, _+_, _-_, _*_, _/_, _%_, _^_, _<_, _≤_}
+use Prim.Native.Nat.{ℕ, zero, suc, _+_, _*_, _/_, _<_, _≤_}
 use mathlib.Core.Bool.{Bool, true, false}
-use mathlib.Core.List.{List, [], _∷_, _++_, map}
+use mathlib.Core.List.{List, [], _∷_, map}
 use mathlib.Core.Path.{_≡_, refl, sym, ap, _∙_}
 use native.Mathlib.Omega.{arith}
 use native.Mathlib.Numerals.{add-one}
-use lib.Dec.{leb, ltb, eqb}
+use lib.Dec.{leb, ltb}
 use lib.ListN.{length, take, drop, getD, length-drop, length-map}
 use lib.Seq.{drop-drop, drop-cons}
-use borrow.Author.Tests.{le-leb, lt-leb, lt-ltb, le-ltb, leb-true, leb-false}
-use Rattle.numbers.specs.Tests.{pick, both}
+use borrow.Author.Tests.{lt-ltb, le-ltb, leb-true, leb-false}
 use Rattle.numbers.specs.Bytes.{num, parts}
-use Rattle.numbers.specs.Result.{Result, refused, got, check, andThen}
-use Rattle.hello.specs.Area.{Taken, Taker, taken, takeOne, then}
+use Rattle.numbers.specs.Result.{check, andThen}
+use Rattle.hello.specs.Area.{takeOne}
 use Rattle.hello.proofs.Lists.{parts-end, parts-more}
-use Rattle.hello_area.specs.Entries.{via, numbersIn, endIn, endFrom, reach}
+use Rattle.hello_area.specs.Entries.{via, numbersIn, endIn, reach}
 use Rattle.hello_area.proofs.Places.{Suffix, suffix-one, suffix-via, reach-in, reach-over}
 use Rattle.hello_ends.specs.Below.{takeBelow}
 

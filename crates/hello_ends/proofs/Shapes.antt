@@ -1,20 +1,19 @@
 -- Where each part of an entry ends, by where its numbers end.
 -- Assumes nothing.
-use Prim.Native.Nat.{ℕ, zero, suc, _+_, _-_, _^_, _<_, _≤_}
+use Prim.Native.Nat.{ℕ, suc, _+_, _-_, _<_, _≤_}
 use mathlib.Core.Bool.{Bool, true, false}
-use mathlib.Core.List.{List, [], _∷_, _++_, map, flatMap}
+use mathlib.Core.List.{List, [], _∷_, _++_, flatMap}
 use mathlib.Core.Path.{_≡_, refl, sym, ap, _∙_}
 use native.Mathlib.Omega.{arith}
-use native.Mathlib.Numerals.{add-one}
 use lib.Dec.{leb, ltb, eqb}
-use lib.ListN.{length, take, drop, getD, length-drop}
+use lib.ListN.{length, drop, getD, length-drop}
 use borrow.Author.Tests.{eq-eqb, ne-eqb, le-leb, lt-leb, lt-ltb, le-ltb, leb-true, leb-false}
-use Rattle.numbers.specs.Tests.{pick, both, either}
+use Rattle.numbers.specs.Tests.{pick, both}
 use Rattle.numbers.specs.Bytes.{bytesOf}
-use Rattle.numbers.specs.Result.{Result, refused, got, check, andThen}
+use Rattle.numbers.specs.Result.{Result, check, andThen}
 use Rattle.numbers.proofs.Answers.{got-got, check-got, then-got}
 use Rattle.hello.specs.Pieces.{Sub}
-use Rattle.hello.specs.Contents.{Parameters, Nickname}
+use Rattle.hello.specs.Contents.{Nickname}
 use Rattle.hello.specs.Writing.{within, parametersGood, nicknameGood, nicknameBytes, labelTop}
 use Rattle.hello.specs.Area.{Taken, Taker, taken, takeOne, then, takeMany, takeCounted, takeParameters, takeNickname}
 use Rattle.hello_area.specs.Entries.{via, Label, takeLabel, labelGood, labelBytes, parametersBytes, takeHead, takeItem, mostOf, takeList, holderFor, takeSub, takeBoth, takeSubs, endIn, reach}
@@ -70,9 +69,6 @@ nick-end ns i a b r ea eb er =
     ∙ two-reach ns (reach (takeBelow 256) ns i) 65536 65536))
 
 -- ---- an element
-
-pub item-6 : (k : ℕ) (ns : List ℕ) (i r : ℕ) → k ≡ 6 → r ≡ reach (takeItem 6) ns i → r ≡ reach (takeItem k) ns i
-item-6 k ns i r e f = rw e f
 
 single-end : (n top : ℕ) (ns : List ℕ) (i : ℕ) → reach (via takeOne (λ x. ltb x top) (bytesOf n)) ns i ≡ reach (takeBelow top) ns i
 unfolding takeBelow

@@ -1,8 +1,11 @@
 // Where the entries of a contents area end; past its end where one is malformed. Places are counted in numbers of 8 bytes.
-ghost use Prim.Native.Nat.{_*_, _<_, _≤_};
+ghost use Prim.Native.Nat.{_+_, _*_, _<_, _≤_};
 ghost use mathlib.Core.Path.{_≡_};
+ghost use lib.Dec.{ltb};
 ghost use lib.ListN.{length, getD};
-ghost use Rattle.hello.specs.Writing.{labelTop};
+ghost use Rattle.numbers.specs.Tests.{both};
+ghost use Rattle.hello.specs.Pieces.{smartMacType, nicknameType};
+ghost use Rattle.hello.specs.Writing.{mostNicknames, mostTrees, labelTop};
 ghost use Rattle.hello.specs.Area.{takeMany, takeCounted};
 ghost use Rattle.hello.specs.Calls.{areaWritten};
 ghost use Rattle.hello_area.specs.Entries.{numbersIn, takeHead, takeItem, mostOf, takeList, takeSub, takeSubs, reach};
@@ -48,46 +51,82 @@ fn number_end(area: &[u8], i: usize, top: u64) -> usize
     n + 1
 }
 
-// The record of a nickname.
-fn nickname_end(area: &[u8], i: usize) -> usize
-    ensures { λ r. ⌜ r ≡ reach (takeItem 6) (numbersIn (now (area .entry))) i ⌝ }
+// Three numbers, each below its limit.
+fn three_good(a: u64, b: u64, c: u64, top: u64, second: u64, third: u64) -> bool
+    ensures { λ r. ⌜ r ≡ both (ltb a top) (both (ltb b second) (ltb c third)) ⌝ }
 {
-    let a = number_end(area, i, 0x100);
-    let b = number_end(area, a, 0x1_0000);
-    number_end(area, b, 0x1_0000)
+    (a < top) & ((b < second) & (c < third))
 }
 
-// An element of the list of an entry.
-fn item_end(kind: u8, area: &[u8], i: usize) -> usize
-    ensures { λ r. ⌜ r ≡ reach (takeItem kind) (numbersIn (now (area .entry))) i ⌝ }
+// The record of a nickname.
+fn record_good(area: &[u8], i: usize) -> bool
+    requires { ⌜ i + 3 ≤ length (numbersIn (now area)) ⌝ }
+    ensures { λ r. ⌜ r ≡ both (ltb (getD (numbersIn (now (area .entry))) i 0) 0x100) (both (ltb (getD (numbersIn (now (area .entry))) (i + 1) 0) 0x1_0000) (ltb (getD (numbersIn (now (area .entry))) (i + 2) 0) 0x1_0000)) ⌝ }
 {
-    if kind == NICKNAME {
-        return nickname_end(area, i);
+    three_good(
+        number(area, i),
+        number(area, i + 1),
+        number(area, i + 2),
+        0x100,
+        0x1_0000,
+        0x1_0000,
+    )
+}
+
+// So many records of nicknames.
+fn records_end(area: &[u8], i: usize, m: usize) -> usize
+    requires { ⌜ (i ≤ length (numbersIn (now area))) × (m ≤ mostNicknames) ⌝ }
+    ensures { λ r. ⌜ r ≡ reach (takeMany (takeItem nicknameType) m) (numbersIn (now (area .entry))) i ⌝ }
+{
+    let n = size(area);
+    if n < i + 3 * m {
+        return n + 1;
     }
-    if kind == TREES {
-        return number_end(area, i, 0x1_0000);
+    let mut at = i;
+    let mut j = 0;
+    while j < m {
+        if !record_good(area, at) {
+            return n + 1;
+        }
+        at += 3;
+        j += 1;
     }
-    number_end(area, i, 0x1_0000_0000_0000)
+    at
+}
+
+// So many numbers below a limit.
+fn numbers_end(area: &[u8], i: usize, m: usize, top: u64) -> usize
+    requires { ⌜ (i ≤ length (numbersIn (now area))) × (m ≤ mostTrees) ⌝ }
+    ensures { λ r. ⌜ r ≡ reach (takeMany (takeBelow top) m) (numbersIn (now (area .entry))) i ⌝ }
+{
+    let n = size(area);
+    if n < i + m {
+        return n + 1;
+    }
+    let mut at = i;
+    let mut j = 0;
+    while j < m {
+        if top <= number(area, at) {
+            return n + 1;
+        }
+        at += 1;
+        j += 1;
+    }
+    at
 }
 
 // So many elements of the list of an entry.
 fn items_end(kind: u8, area: &[u8], i: usize, m: usize) -> usize
+    requires { ⌜ (i ≤ length (numbersIn (now area))) × (m ≤ mostOf kind) ⌝ }
     ensures { λ r. ⌜ r ≡ reach (takeMany (takeItem kind) m) (numbersIn (now (area .entry))) i ⌝ }
 {
-    let n = size(area);
-    let mut at = i;
-    let mut j = 0;
-    while j < m {
-        if n < at {
-            return n + 1;
-        }
-        at = item_end(kind, area, at);
-        j += 1;
+    if kind == NICKNAME {
+        return records_end(area, i, m);
     }
-    if n < at {
-        return n + 1;
+    if kind == TREES {
+        return numbers_end(area, i, m, 0x1_0000);
     }
-    at
+    numbers_end(area, i, m, 0x1_0000_0000_0000)
 }
 
 // The most elements of a list.
@@ -136,16 +175,27 @@ fn label_top(f: u64) -> u64
 
 // F, M and the label of a Smart-MAC.
 fn label_end(area: &[u8], i: usize) -> usize
-    ensures { λ r. ⌜ r ≡ reach (takeHead 23) (numbersIn (now (area .entry))) i ⌝ }
+    ensures { λ r. ⌜ r ≡ reach (takeHead smartMacType) (numbersIn (now (area .entry))) i ⌝ }
 {
     let n = size(area);
     if n <= i {
         return n + 1;
     }
-    let top = label_top(number(area, i));
-    let a = number_end(area, i, 2);
-    let b = number_end(area, a, 2);
-    number_end(area, b, top)
+    if n < i + 3 {
+        return n + 1;
+    }
+    let f = number(area, i);
+    if three_good(
+        f,
+        number(area, i + 1),
+        number(area, i + 2),
+        2,
+        2,
+        label_top(f),
+    ) {
+        return i + 3;
+    }
+    n + 1
 }
 
 // What stands in front of the list of an entry.

@@ -6,7 +6,7 @@ ghost use Rattle.frame_copy.specs.Areas.{pasted};
 ghost use Rattle.hello.specs.Writing.{headOf};
 ghost use Rattle.hello_put.specs.Placing.{takes, stepped, opening, opened};
 
-const CAPABILITY: u8 = 242;
+const CAPABILITY: u64 = 242;
 
 // Router ID and flags of a TLV 242; flags and application of a TLV 251.
 const CAPABILITY_HEAD: usize = 5;
@@ -18,15 +18,16 @@ const TLV_HEAD: usize = 2;
 
 const LONGEST_VALUE: usize = 255;
 
-// The type of the TLV that is open (0: none), where it starts, and where the next sub-TLV goes if it takes it.
+// The type of the TLV that is open (0: none), where it starts, and where the next sub-TLV goes if it takes it. The type is a whole word, so that
+// a cursor is copied without the bytes between its fields.
 pub struct Cursor {
-    pub holder: u8,
+    pub holder: u64,
     pub start: usize,
     pub at: usize,
 }
 
 // The bytes of a TLV's value in front of its sub-TLVs.
-fn head_size(h: u8) -> usize
+fn head_size(h: u64) -> usize
     ensures { λ r. ⌜ (r ≡ length (headOf h)) × (r ≤ 5) ⌝ }
 {
     if h == CAPABILITY {
@@ -36,7 +37,7 @@ fn head_size(h: u8) -> usize
 }
 
 // The TLV that is open takes a sub-TLV.
-fn takes_it(c: Cursor, h: u8, size: usize) -> bool
+fn takes_it(c: Cursor, h: u64, size: usize) -> bool
     requires { ⌜ (c .start ≤ c .at) × ((c .at < 3 * 2 ^ 62) × (size ≤ 255)) ⌝ }
     ensures { λ r. ⌜ r ≡ takes c h size ⌝ }
 {
@@ -47,7 +48,7 @@ fn takes_it(c: Cursor, h: u8, size: usize) -> bool
 }
 
 // The cursor after a sub-TLV.
-pub fn step(c: Cursor, h: u8, size: usize) -> Cursor
+pub fn step(c: Cursor, h: u64, size: usize) -> Cursor
     requires { ⌜ (c .start ≤ c .at) × ((c .at < 3 * 2 ^ 62) × (size ≤ 255)) ⌝ }
     ensures { λ r. ⌜ r ≡ stepped c h size ⌝ }
 {
@@ -66,22 +67,21 @@ pub fn step(c: Cursor, h: u8, size: usize) -> Cursor
 }
 
 // A new TLV up to its sub-TLVs, as one number.
-fn open_tlv(out: &mut [u8], at: usize, h: u8, size: usize)
-    requires { ⌜ (at + (2 + length (headOf h)) ≤ length (now out)) × (length (headOf h) + size ≤ 255) ⌝ }
+fn open_tlv(out: &mut [u8], at: usize, h: u64, size: usize)
+    requires { ⌜ (at + (2 + length (headOf h)) ≤ length (now out)) × ((h < 256) × (length (headOf h) + size ≤ 255)) ⌝ }
     ensures { λ _. ⌜ now (out .exit) ≡ pasted (now (out .entry)) at (opening h size) ⌝ }
 {
-    let k = h as u64;
     let n = size as u64;
     if h == CAPABILITY {
         frame_copy::put_number(
-            k * 0x1_0000_0000_0000 + (5 + n) * 0x100_0000_0000,
+            h * 0x1_0000_0000_0000 + (5 + n) * 0x100_0000_0000,
             7,
             out,
             at,
         );
         return;
     }
-    frame_copy::put_number(k * 0x1_0000_0000 + (3 + n) * 0x100_0000 + 1, 5, out, at);
+    frame_copy::put_number(h * 0x1_0000_0000 + (3 + n) * 0x100_0000 + 1, 5, out, at);
 }
 
 // The length byte of the TLV from start to at counts a sub-TLV more.
@@ -94,8 +94,8 @@ fn grow_tlv(out: &mut [u8], start: usize, at: usize, size: usize)
 }
 
 // Makes the room of a sub-TLV: the length byte counts it, or a new TLV is opened.
-pub fn open(out: &mut [u8], c: Cursor, h: u8, size: usize)
-    requires { ⌜ ((c .start ≤ c .at) × ((2 ≤ size) × (length (headOf h) + size ≤ 255))) × (stepped c h size .at ≤ length (now out)) ⌝ }
+pub fn open(out: &mut [u8], c: Cursor, h: u64, size: usize)
+    requires { ⌜ (((c .start ≤ c .at) × (h < 256)) × ((2 ≤ size) × (length (headOf h) + size ≤ 255))) × (stepped c h size .at ≤ length (now out)) ⌝ }
     ensures { λ _. ⌜ now (out .exit) ≡ opened (now (out .entry)) c h size ⌝ }
 {
     if takes_it(c, h, size) {

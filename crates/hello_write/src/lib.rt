@@ -25,9 +25,9 @@ const NICKNAME: u8 = 6;
 const TREES: u8 = 8;
 
 // The TLVs that hold sub-TLVs.
-const CAPABILITY: u8 = 242;
+const CAPABILITY: u64 = 242;
 
-const GENINFO: u8 = 251;
+const GENINFO: u64 = 251;
 
 // The cursor of what is written, and the number of the contents area that comes next.
 pub struct Walk {
@@ -36,8 +36,8 @@ pub struct Walk {
 }
 
 // The TLV that holds sub-TLVs of a type.
-fn holder(kind: u8) -> u8
-    ensures { λ r. ⌜ r ≡ holderFor kind ⌝ }
+fn holder(kind: u8) -> u64
+    ensures { λ r. ⌜ (r ≡ holderFor kind) × (r < 256) ⌝ }
 {
     if kind == PARAMETERS {
         return GENINFO;

@@ -1,49 +1,35 @@
--- `hello_ends::items_end` meets its contract. The invariant: what is left to take reaches where the whole does.
+-- `hello_ends::items_end` meets its contract: return by return.
 -- Assumes nothing.
-use Rattle.hello_ends.proofs.Shapes.{suffix-item, many-start, many-over, many-next, many-done}
-use Rattle.hello_area.specs.Entries.{numbersIn, takeItem, reach}
-use Rattle.hello.specs.Area.{takeMany}
-use mathlib.Core.Path.{_≡_}
-use Prim.Native.Nat.{_-_, _≤_}
+use Rattle.hello_ends.proofs.Many.{most-records, most-numbers, items-6, items-8, items-23}
 use borrow.Author.Needs.{needs}
 use Rattle.hello_ends.proofs.items_end.Statement.{statement}
 use Rattle.hello_ends.proofs.items_end.Tie as tie
 
-abbrev Inv-loop : tie.InvT-loop
-Inv-loop kind area i m n at₀ j₀ at j = (j ≤ m) × (reach (takeMany (takeItem kind) (m - j)) (numbersIn area) at ≡ reach (takeMany (takeItem kind) m) (numbersIn area) i)
+records-end-requires : tie.Need-records-end-requires
+records-end-requires c κs = (search needs, search most-records)
 
-abbrev μ-loop : tie.MeasureT-loop
-μ-loop kind area i m n at₀ j₀ at j = m - j
+returns : tie.Need-returns
+returns c = search items-6
 
-loop-holds : tie.Need-loop-holds Inv-loop μ-loop
-loop-holds c = (search needs, search (many-start, suffix-item))
+numbers-end-requires : tie.Need-numbers-end-requires
+numbers-end-requires c κs = (search needs, search most-numbers)
 
-returns : tie.Need-returns Inv-loop μ-loop
-returns c = search (many-over, suffix-item)
+returns-2 : tie.Need-returns-2
+returns-2 c = search items-8
 
-loop-again : tie.Need-loop-again Inv-loop μ-loop
-loop-again c = (search needs, search (many-next, suffix-item))
+numbers-end-requires-2 : tie.Need-numbers-end-requires-2
+numbers-end-requires-2 c κs = (search needs, search most-numbers)
 
-returns-2 : tie.Need-returns-2 Inv-loop μ-loop
-returns-2 c = search (many-over, suffix-item)
-
-returns-3 : tie.Need-returns-3 Inv-loop μ-loop
-returns-3 c = search (many-done, suffix-item)
+returns-3 : tie.Need-returns-3
+returns-3 c = search items-23
 
 pub items-end-spec : {M : Type 1} → statement M
 items-end-spec =
     tie.close
     (tie.spec
-    Inv-loop
-    μ-loop
-    (λ c κs. search needs)
-    loop-holds
-    (λ c. search needs)
+    records-end-requires
     returns
-    (λ c κs. search needs)
-    (λ c. search needs)
-    (λ c. search needs)
-    loop-again
-    (λ c. search needs)
+    numbers-end-requires
     returns-2
+    numbers-end-requires-2
     returns-3)

@@ -1,7 +1,6 @@
 -- `hello_ends::label_top` meets its contract: return by return.
 -- Assumes nothing.
 use Rattle.hello_ends.proofs.Shapes.{top-fine, top-vlan}
-use borrow.Author.Needs.{needs}
 use Rattle.hello_ends.proofs.label_top.Statement.{statement}
 use Rattle.hello_ends.proofs.label_top.Tie as tie
 

@@ -1,7 +1,6 @@
 -- `hello_ends::most` meets its contract: return by return.
 -- Assumes nothing.
 use Rattle.hello_ends.proofs.Shapes.{most-6, most-8, most-23}
-use borrow.Author.Needs.{needs}
 use Rattle.hello_ends.proofs.most.Statement.{statement}
 use Rattle.hello_ends.proofs.most.Tie as tie
 

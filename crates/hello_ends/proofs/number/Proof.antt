@@ -2,7 +2,6 @@
 -- Assumes nothing.
 use Rattle.hello_ends.proofs.Numbers.{numbers-length, number-is}
 use native.Mathlib.Omega.{arith}
-use borrow.Author.Needs.{needs}
 use Rattle.hello_ends.proofs.number.Statement.{statement}
 use Rattle.hello_ends.proofs.number.Tie as tie
 

@@ -15,7 +15,7 @@ returns : tie.Need-returns
 returns c = search opened-grown
 
 open-tlv-requires : tie.Need-open-tlv-requires
-open-tlv-requires c κs = (search opened-room, search needs)
+open-tlv-requires c κs = (search opened-room, (search needs, search needs))
 
 returns-2 : tie.Need-returns-2
 returns-2 c = search opened-new

@@ -9,7 +9,7 @@ step-requires : tie.Need-step-requires
 step-requires c κs = (search needs, (search entry-small, search needs))
 
 open-requires : tie.Need-open-requires
-open-requires c κs = ((search needs, (search entry-two, search entry-head)), search entry-room)
+open-requires c κs = (((search needs, search needs), (search entry-two, search entry-head)), search entry-room)
 
 sub-put : tie.Need-sub-put
 sub-put c = search entry-behind
