@@ -7,11 +7,12 @@ use mathlib.Core.Path.{_≡_, refl, sym, ap, _∙_}
 use native.Mathlib.Nat.{add-zero}
 use native.Mathlib.Omega.{arith}
 use lib.Dec.{leb, ltb, eqb}
-use lib.ListN.{length, take, getD, length-append, take-append-drop}
+use lib.ListN.{length, take, drop, getD, length-append, take-append-drop}
+use lib.Seq.{take-at, drop-append-add, drop-drop, length-take-le}
 use borrow.Author.Tests.{leb-true, ltb-true}
 use Rattle.numbers.specs.Tests.{pick, both}
 use Rattle.numbers.specs.Bytes.{bytesOf}
-use Rattle.numbers.proofs.Bytes.{length-bytesOf, bytesOf-join}
+use Rattle.numbers.proofs.Bytes.{length-bytesOf, bytesOf-low, bytesOf-join}
 use Rattle.numbers.proofs.Truth.{both-true}
 use Rattle.frame_copy.specs.Areas.{pasted}
 use Rattle.frame_copy.proofs.Copying.{paste-next}
@@ -27,6 +28,13 @@ use Rattle.hello_entry.proofs.Shape.{number-long, record-long}
 
 pub number-fits : (area : List ℕ) (i k n : ℕ) → i + k ≤ length (numbersIn area) → length area < 2 ^ 64 → n ≤ k → i + n < 2 ^ 64
 number-fits area i k n h big g = let l = numbers-length area in omega arith
+
+module _ (area : List ℕ) (i m j : ℕ) (few : j ≤ m) (h : i + m ≤ length (numbersIn area)) (big : length area < 2 ^ 64) where
+  pub four-fit : j + 4 < 2 ^ 64
+  four-fit = let l = numbers-length area in omega arith
+
+  pub rest-fits : i + j < 2 ^ 64
+  rest-fits = let l = numbers-length area in omega arith
 
 module _ (area : List ℕ) (i m j : ℕ) (more : j < m) where
   pub item-fits : i + m ≤ length (numbersIn area) → length area < 2 ^ 64 → i + j < 2 ^ 64
@@ -47,6 +55,38 @@ paste-none o at = rw (add-zero at, append-nil (take at o)) (take-append-drop at 
 -- bytes behind bytes of a known length
 behind : (out o u x y : List ℕ) (at k : ℕ) → at ≤ length out → length x ≡ k → o ≡ pasted out at x → u ≡ pasted o (at + k) y → u ≡ pasted out at (x ++ y)
 behind out o u x y at k h e p q = q ∙ rw p (paste-next out x y at (at + k) h (omega arith))
+
+-- bytes over the first of others
+paste-over : (o g y : List ℕ) (p : ℕ) → p ≤ length o → length g ≤ length y → pasted (pasted o p g) p y ≡ pasted o p y
+unfolding pasted
+paste-over o g y p h few =
+    let t : List ℕ = take p o in
+    let d : List ℕ = drop (p + length g) o in
+    let front : length t ≡ p = length-take-le p o h in
+    let first : take p ((t ++ g) ++ d) ≡ t = rw (append-assoc t g d) (take-at t (g ++ d) p front) in
+    let l = length-append t g in
+    let sum : p + length y ≡ length (t ++ g) + (length y - length g) = omega arith in
+    let end : p + length g + (length y - length g) ≡ p + length y = omega arith in
+    let last : drop (p + length y) ((t ++ g) ++ d) ≡ drop (p + length y) o =
+    ap (λ (n : ℕ). drop n ((t ++ g) ++ d)) sum
+    ∙ drop-append-add (t ++ g) d (length y - length g)
+    ∙ drop-drop (length y - length g) (p + length g) o
+    ∙ ap (λ (n : ℕ). drop n o) end in
+    rw (first, last)
+
+paste-long : (o x : List ℕ) (a : ℕ) → a ≤ length o → a + length x ≤ length (pasted o a x)
+unfolding pasted
+paste-long o x a h =
+    let t = length-take-le a o h in
+    let l = length-append (take a o) x in
+    let k = length-append (take a o ++ x) (drop (a + length x) o) in
+    omega arith
+
+-- bytes behind others, over those that were too many
+paste-past : (o x g y : List ℕ) (a k : ℕ) → a ≤ length o → a + length x ≡ k → length g ≤ length y → pasted (pasted o a (x ++ g)) k y ≡ pasted o a (x ++ y)
+paste-past o x g y a k h e few =
+    let l = paste-long o x a h in
+    rw (← paste-next o x g a k h e) (paste-over (pasted o a x) g y k (omega arith) few ∙ paste-next o x y a k h e)
 
 -- ---- a list
 
@@ -72,16 +112,49 @@ module _ (f : ℕ → List ℕ) (w b : ℕ) (long : (j : ℕ) → length (f j) �
       let z : m - j ≡ suc (m - (j + 1)) = omega arith in
       rw (e, z, y) (paste-next o (f (i + w * j)) (run f w (i + w * j + w) (m - (j + 1))) (at + b * j) (at + b * (j + 1)) room x)
 
+  left-past : (o u g : List ℕ) (j : ℕ) → at + b * j ≤ length o → j < m → length g ≤ b * (m - (j + 1)) → u ≡ pasted o (at + b * j) (f (i + w * j) ++ g) → Left f w b i m u at (j + 1) ≡ Left f w b i m o at j
+  unfolding Left run
+  left-past o u g j room more few e =
+      let l = long (i + w * j) in
+      let r = length-run f w b long (m - (j + 1)) (i + w * j + w) in
+      let x : at + b * j + length (f (i + w * j)) ≡ at + b * (j + 1) = omega arith in
+      let y : i + w * (j + 1) ≡ i + w * j + w = omega arith in
+      let z : m - j ≡ suc (m - (j + 1)) = omega arith in
+      rw (e, z, y) (paste-past o (f (i + w * j)) g (run f w (i + w * j + w) (m - (j + 1))) (at + b * j) (at + b * (j + 1)) room x (omega arith))
+
   left-done : (o : List ℕ) (j : ℕ) → m ≤ j → Left f w b i m o at j ≡ o
   unfolding Left run
   left-done o j h =
       let z : m - j ≡ 0 = omega arith in
       rw z (paste-none o (at + b * j))
 
+-- the low bytes of a number, and others that are 0
+wide-two : (v : ℕ) → bytesOf 8 (v % 0x1_0000 * 0x1_0000_0000_0000) ≡ bytesOf 2 v ++ bytesOf 6 0
+wide-two v =
+    let e : v ≡ v / 0x1_0000 * 256 ^ 2 + v % 0x1_0000 = omega arith in
+    ap (bytesOf 8) (sym (add-zero (v % 0x1_0000 * 0x1_0000_0000_0000))) ∙ bytesOf-join 2 6 (v % 0x1_0000) 0 (omega arith) ∙ ap (λ (l : List ℕ). l ++ bytesOf 6 0) (sym (bytesOf-low 2 (v / 0x1_0000) (v % 0x1_0000)) ∙ ap (bytesOf 2) (sym e))
+
+wide-six : (v : ℕ) → bytesOf 8 (v % 0x1_0000_0000_0000 * 0x1_0000) ≡ bytesOf 6 v ++ bytesOf 2 0
+wide-six v =
+    let e : v ≡ v / 0x1_0000_0000_0000 * 256 ^ 6 + v % 0x1_0000_0000_0000 = omega arith in
+    ap (bytesOf 8) (sym (add-zero (v % 0x1_0000_0000_0000 * 0x1_0000))) ∙ bytesOf-join 6 2 (v % 0x1_0000_0000_0000) 0 (omega arith) ∙ ap (λ (l : List ℕ). l ++ bytesOf 2 0) (sym (bytesOf-low 6 (v / 0x1_0000_0000_0000) (v % 0x1_0000_0000_0000)) ∙ ap (bytesOf 6) (sym e))
+
+pub tree-put : (ns : List ℕ) (i v : ℕ) → v ≡ getD ns i 0 → (o u : List ℕ) (at : ℕ) → u ≡ pasted o at (bytesOf 8 (v % 0x1_0000 * 0x1_0000_0000_0000)) → u ≡ pasted o at (numberAt 2 ns i ++ bytesOf 6 0)
+unfolding numberAt
+tree-put ns i v ev o u at e = e ∙ ap (pasted o at) (wide-two v) ∙ rw ev
+
+pub mac-put : (ns : List ℕ) (i v : ℕ) → v ≡ getD ns i 0 → (o u : List ℕ) (at : ℕ) → u ≡ pasted o at (bytesOf 8 (v % 0x1_0000_0000_0000 * 0x1_0000)) → u ≡ pasted o at (numberAt 6 ns i ++ bytesOf 2 0)
+unfolding numberAt
+mac-put ns i v ev o u at e = e ∙ ap (pasted o at) (wide-six v) ∙ rw ev
+
 -- numbers of b bytes
 module _ (ns : List ℕ) (i m : ℕ) (out : List ℕ) (at : ℕ) where
   pub numbers-none : (b : ℕ) → Left (numberAt b ns) 1 b i m out at 0 ≡ pasted out at (run (numberAt b ns) 1 i m)
   numbers-none b = left-none (numberAt b ns) 1 b (number-long b ns) i m at out
+
+  pub numbers-empty : (b : ℕ) → m ≡ 0 → out ≡ pasted out at (run (numberAt b ns) 1 i m)
+  unfolding run
+  numbers-empty b e = rw e (sym (paste-none out at))
 
   module _ (b : ℕ) (o : List ℕ) (j : ℕ) (inv : Left (numberAt b ns) 1 b i m o at j ≡ pasted out at (run (numberAt b ns) 1 i m)) where
     number-next : at + b * j ≤ length o → j < m → (v : ℕ) → v ≡ getD ns (i + j) 0 → (u : List ℕ) → u ≡ pasted o (at + b * j) (bytesOf b v) → Left (numberAt b ns) 1 b i m u at (j + 1) ≡ pasted out at (run (numberAt b ns) 1 i m)
@@ -89,6 +162,18 @@ module _ (ns : List ℕ) (i m : ℕ) (out : List ℕ) (at : ℕ) where
     number-next room more v ev u e =
         let p : i + j ≡ i + 1 * j = omega arith in
         left-next (numberAt b ns) 1 b (number-long b ns) i m at o u j room more (e ∙ ap (λ (x : ℕ). pasted o (at + b * j) (bytesOf b x)) (ev ∙ ap (λ (x : ℕ). getD ns x 0) p)) ∙ inv
+
+    number-past : at + b * j ≤ length o → j < m → (g : List ℕ) → length g ≤ b * (m - (j + 1)) → (u : List ℕ) → u ≡ pasted o (at + b * j) (numberAt b ns (i + j) ++ g) → Left (numberAt b ns) 1 b i m u at (j + 1) ≡ pasted out at (run (numberAt b ns) 1 i m)
+    number-past room more g few u e =
+        let p : i + j ≡ i + 1 * j = omega arith in
+        left-past (numberAt b ns) 1 b (number-long b ns) i m at o u g j room more few (e ∙ ap (λ (x : ℕ). pasted o (at + b * j) (numberAt b ns x ++ g)) p) ∙ inv
+
+    -- the others by another function
+    numbers-rest : (u : List ℕ) → u ≡ pasted o (at + b * j) (run (numberAt b ns) 1 (i + j) (m - j)) → u ≡ pasted out at (run (numberAt b ns) 1 i m)
+    unfolding Left
+    numbers-rest u e =
+        let p : i + j ≡ i + 1 * j = omega arith in
+        e ∙ ap (λ (x : ℕ). pasted o (at + b * j) (run (numberAt b ns) 1 x (m - j))) p ∙ inv
 
     pub numbers-done : m ≤ j → o ≡ pasted out at (run (numberAt b ns) 1 i m)
     numbers-done h = sym (left-done (numberAt b ns) 1 b (number-long b ns) i m at o j h) ∙ inv
@@ -102,6 +187,24 @@ module _ (ns : List ℕ) (i m : ℕ) (out : List ℕ) (at : ℕ) where
 
     pub records-next : at + 5 * m ≤ length out → Left (recordAt ns) 3 5 i m o at j ≡ pasted out at (run (recordAt ns) 3 i m) → (u : List ℕ) → u ≡ pasted o (at + 5 * j) (recordAt ns (i + 3 * j)) → Left (recordAt ns) 3 5 i m u at (j + 1) ≡ pasted out at (run (recordAt ns) 3 i m)
     records-next room inv u e = left-next (recordAt ns) 3 5 (record-long ns) i m at o u j (omega arith) more e ∙ inv
+
+  -- as eight bytes
+  module _ (o : List ℕ) (j : ℕ) (same : length o ≡ length out) where
+    pub trees-past : j + 4 ≤ m → at + 2 * m ≤ length out → Left (numberAt 2 ns) 1 2 i m o at j ≡ pasted out at (run (numberAt 2 ns) 1 i m) → (u : List ℕ) → u ≡ pasted o (at + 2 * j) (numberAt 2 ns (i + j) ++ bytesOf 6 0) → Left (numberAt 2 ns) 1 2 i m u at (j + 1) ≡ pasted out at (run (numberAt 2 ns) 1 i m)
+    trees-past four room inv u e =
+        let l = length-bytesOf 6 0 in
+        number-past 2 o j inv (omega arith) (omega arith) (bytesOf 6 0) (omega arith) u e
+
+    pub trees-rest : Left (numberAt 2 ns) 1 2 i m o at j ≡ pasted out at (run (numberAt 2 ns) 1 i m) → (u : List ℕ) → u ≡ pasted o (at + 2 * j) (run (numberAt 2 ns) 1 (i + j) (m - j)) → u ≡ pasted out at (run (numberAt 2 ns) 1 i m)
+    trees-rest inv u e = numbers-rest 2 o j inv u e
+
+    pub macs-past : j + 1 < m → at + 6 * m ≤ length out → Left (numberAt 6 ns) 1 6 i m o at j ≡ pasted out at (run (numberAt 6 ns) 1 i m) → (u : List ℕ) → u ≡ pasted o (at + 6 * j) (numberAt 6 ns (i + j) ++ bytesOf 2 0) → Left (numberAt 6 ns) 1 6 i m u at (j + 1) ≡ pasted out at (run (numberAt 6 ns) 1 i m)
+    macs-past two room inv u e =
+        let l = length-bytesOf 2 0 in
+        number-past 6 o j inv (omega arith) (omega arith) (bytesOf 2 0) (omega arith) u e
+
+    pub macs-last : j < m → m ≤ j + 1 → at + 6 * m ≤ length out → Left (numberAt 6 ns) 1 6 i m o at j ≡ pasted out at (run (numberAt 6 ns) 1 i m) → (v : ℕ) → v ≡ getD ns (i + j) 0 → (u : List ℕ) → u ≡ pasted o (at + 6 * j) (bytesOf 6 v) → u ≡ pasted out at (run (numberAt 6 ns) 1 i m)
+    macs-last more h room inv v ev u e = numbers-done 6 u (j + 1) (macs-next o j more same room inv v ev u e) h
 
   pub records-none : Left (recordAt ns) 3 5 i m out at 0 ≡ pasted out at (run (recordAt ns) 3 i m)
   records-none = left-none (recordAt ns) 3 5 (record-long ns) i m at out

@@ -158,7 +158,31 @@ fn put_record(area: &[u8], i: usize, out: &mut [u8], at: usize)
     frame_copy::put_number(number(area, i + 2), 2, out, at + 3);
 }
 
-// The lists.
+// Eight bytes in one move.
+fn put_wide(v: u64, out: &mut [u8], at: usize)
+    requires { ⌜ at + 8 ≤ length (now out) ⌝ }
+    ensures { λ _. ⌜ now (out .exit) ≡ pasted (now (out .entry)) at (bytesOf 8 v) ⌝ }
+{
+    let e = at + 8;
+    numbers::fill8(&mut out[at..e], v);
+}
+
+// A number of two bytes as eight, and one of six.
+fn put_tree(area: &[u8], i: usize, out: &mut [u8], at: usize)
+    requires { ⌜ (i < length (numbersIn (now area))) × (at + 8 ≤ length (now out)) ⌝ }
+    ensures { λ _. ⌜ now (out .exit) ≡ pasted (now (out .entry)) at (numberAt 2 (numbersIn (now (area .entry))) i ++ bytesOf 6 0) ⌝ }
+{
+    put_wide(number(area, i) % 0x1_0000 * 0x1_0000_0000_0000, out, at);
+}
+
+fn put_mac(area: &[u8], i: usize, out: &mut [u8], at: usize)
+    requires { ⌜ (i < length (numbersIn (now area))) × (at + 8 ≤ length (now out)) ⌝ }
+    ensures { λ _. ⌜ now (out .exit) ≡ pasted (now (out .entry)) at (numberAt 6 (numbersIn (now (area .entry))) i ++ bytesOf 2 0) ⌝ }
+{
+    put_wide(number(area, i) % 0x1_0000_0000_0000 * 0x1_0000, out, at);
+}
+
+// The lists. A number of fewer than eight bytes is put as eight while the next ones have the room: they go over those that it has too many.
 fn put_records(area: &[u8], i: usize, m: usize, out: &mut [u8], at: usize)
     requires { ⌜ (i + 3 * m ≤ length (numbersIn (now area))) × (at + 5 * m ≤ length (now out)) ⌝ }
     ensures { λ _. ⌜ now (out .exit) ≡ pasted (now (out .entry)) at (run (recordAt (numbersIn (now (area .entry)))) 3 i m) ⌝ }
@@ -170,7 +194,7 @@ fn put_records(area: &[u8], i: usize, m: usize, out: &mut [u8], at: usize)
     }
 }
 
-fn put_tree_nicknames(area: &[u8], i: usize, m: usize, out: &mut [u8], at: usize)
+fn put_few_trees(area: &[u8], i: usize, m: usize, out: &mut [u8], at: usize)
     requires { ⌜ (i + m ≤ length (numbersIn (now area))) × (at + 2 * m ≤ length (now out)) ⌝ }
     ensures { λ _. ⌜ now (out .exit) ≡ pasted (now (out .entry)) at (run (numberAt 2 (numbersIn (now (area .entry)))) 1 i m) ⌝ }
 {
@@ -181,13 +205,29 @@ fn put_tree_nicknames(area: &[u8], i: usize, m: usize, out: &mut [u8], at: usize
     }
 }
 
+fn put_tree_nicknames(area: &[u8], i: usize, m: usize, out: &mut [u8], at: usize)
+    requires { ⌜ (i + m ≤ length (numbersIn (now area))) × (at + 2 * m ≤ length (now out)) ⌝ }
+    ensures { λ _. ⌜ now (out .exit) ≡ pasted (now (out .entry)) at (run (numberAt 2 (numbersIn (now (area .entry)))) 1 i m) ⌝ }
+{
+    let mut j = 0;
+    while j + 4 <= m {
+        put_tree(area, i + j, out, at + 2 * j);
+        j += 1;
+    }
+    put_few_trees(area, i + j, m - j, out, at + 2 * j);
+}
+
 fn put_macs(area: &[u8], i: usize, m: usize, out: &mut [u8], at: usize)
     requires { ⌜ (i + m ≤ length (numbersIn (now area))) × (at + 6 * m ≤ length (now out)) ⌝ }
     ensures { λ _. ⌜ now (out .exit) ≡ pasted (now (out .entry)) at (run (numberAt 6 (numbersIn (now (area .entry)))) 1 i m) ⌝ }
 {
+    if m == 0 {
+        return;
+    }
     let mut j = 0;
-    while j < m {
-        frame_copy::put_address(number(area, i + j), out, at + 6 * j);
+    while j + 1 < m {
+        put_mac(area, i + j, out, at + 6 * j);
         j += 1;
     }
+    frame_copy::put_address(number(area, i + j), out, at + 6 * j);
 }

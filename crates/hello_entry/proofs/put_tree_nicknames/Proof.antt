@@ -6,7 +6,7 @@ use lib.ListN.{length}
 use Rattle.frame_copy.specs.Areas.{pasted}
 use Rattle.hello_area.specs.Entries.{numbersIn}
 use Rattle.hello_entry.specs.Bytes.{numberAt, run}
-use Rattle.hello_entry.proofs.Writes.{Left, item-fits, numbers-none, trees-next, numbers-done}
+use Rattle.hello_entry.proofs.Writes.{Left, four-fit, rest-fits, numbers-none, trees-past, trees-rest}
 use borrow.Author.Needs.{needs}
 use Rattle.hello_entry.proofs.put_tree_nicknames.Statement.{statement}
 use Rattle.hello_entry.proofs.put_tree_nicknames.Tie as tie
@@ -20,14 +20,20 @@ abbrev μ-loop : tie.MeasureT-loop
 loop-holds : tie.Need-loop-holds Inv-loop μ-loop
 loop-holds c = (search needs, (refl, search numbers-none))
 
-add-number : tie.Need-add-number Inv-loop μ-loop
-add-number c = search (item-fits, needs)
+add-loop : tie.Need-add-loop Inv-loop μ-loop
+add-loop c = search (four-fit, needs)
+
+add-put-tree : tie.Need-add-put-tree Inv-loop μ-loop
+add-put-tree c = search (rest-fits, needs)
 
 loop-again : tie.Need-loop-again Inv-loop μ-loop
-loop-again c = (search needs, (search needs, search trees-next))
+loop-again c = (search needs, (search needs, search trees-past))
+
+add-put-few-trees : tie.Need-add-put-few-trees Inv-loop μ-loop
+add-put-few-trees c = search (rest-fits, needs)
 
 returns : tie.Need-returns Inv-loop μ-loop
-returns c = search numbers-done
+returns c = search trees-rest
 
 pub put-tree-nicknames-spec : {M : Type 1} → statement M
 put-tree-nicknames-spec =
@@ -36,13 +42,18 @@ put-tree-nicknames-spec =
     Inv-loop
     μ-loop
     loop-holds
-    add-number
-    (λ c κs. search needs)
+    add-loop
+    add-put-tree
     (λ c. search needs)
     (λ c. search needs)
     (λ c κs. search needs)
     (λ c. search needs)
     (λ c. search needs)
     loop-again
+    add-put-few-trees
+    (λ c. search needs)
+    (λ c. search needs)
+    (λ c. search needs)
+    (λ c κs. search needs)
     (λ c. search needs)
     returns)
