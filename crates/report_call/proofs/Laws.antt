@@ -31,8 +31,7 @@ use Rattle.report_keys.proofs.Laws.{pick-one, times-append, times-last}
 use Rattle.report_tally.specs.Tallies.{tallied, Tallies, SameTallies}
 use Rattle.report_tally.proofs.Laws.{length-keys}
 use Rattle.report_rows.specs.Rows.{rowText, linesText}
-use Rattle.report_text.specs.Whole.{wholeText, longest}
-use Rattle.report_text.proofs.Laws.{length-whole}
+use Rattle.report_text.specs.Whole.{wholeText}
 
 -- ---- counts
 
@@ -157,7 +156,7 @@ below-few n [] = omega arith
 below-few n (x ∷ keys) = let r = below-few n keys in let p = pick-one (ltb x n) in omega arith
 
 -- a count has few digits beside what it counts
-width-few : (n : ℕ) → widthOf n ≤ 1 + n / 10
+pub width-few : (n : ℕ) → widthOf n ≤ 1 + n / 10
 unfolding widthOf pick
 width-few n = go (leb n 9) (leb n 99) (leb n 999) refl refl refl
   where
@@ -195,20 +194,17 @@ module _ (keys v : List ℕ) (tallies : Tallies keys v) where
       let l = length-append (linesText n v) (rowText n (tallied (n * 2) v) (tallied (n * 2 + 1) v)) in
       rw two (omega arith)
 
-  pub whole-few : length keys ≤ mostSlots → length (wholeText v (tallied freeKey v) (tallied spoiltKey v)) ≤ longest
+  pub whole-few : length keys ≤ mostSlots → length (linesText nicknameEnd v) + 9 * (tallied freeKey v + tallied spoiltKey v) ≤ 9 * mostSlots
   whole-few few =
-      let whole = length-whole v (tallied freeKey v) (tallied spoiltKey v) in
       let lines = lines-few nicknameEnd in
       let f = tallies freeKey in
       let s = tallies spoiltKey in
       let a = below-next freeKey keys in
       let b = below-next spoiltKey keys in
       let c = below-few (suc spoiltKey) keys in
-      let wf = width-few (tallied freeKey v) in
-      let ws = width-few (tallied spoiltKey v) in
       omega arith
 
-pub table-few : (t v : List ℕ) → Tallies (keysTo (slotsOf t) t) v → slotsOf t ≤ mostSlots → length (wholeText v (tallied freeKey v) (tallied spoiltKey v)) ≤ longest
+pub table-few : (t v : List ℕ) → Tallies (keysTo (slotsOf t) t) v → slotsOf t ≤ mostSlots → length (linesText nicknameEnd v) + 9 * (tallied freeKey v + tallied spoiltKey v) ≤ 9 * mostSlots
 table-few t v tallies few = let l = length-keys (slotsOf t) t in whole-few (keysTo (slotsOf t) t) v tallies (omega arith)
 
 -- ---- the call
@@ -230,9 +226,6 @@ tallies-written w v f s o e ef es = e ∙ rw (ef, es)
 
 pub table-written : (t v o : List ℕ) (w : OnArea ReportAnswer) → Tallies (keysTo (slotsOf t) t) v → w ≡ written (wholeText v (tallied freeKey v) (tallied spoiltKey v)) o → w ≡ written (countsText (countsOf t)) o
 table-written t v o w tallies is = is ∙ ap (λ (x : List ℕ). written x o) (whole-counts t v tallies)
-
-pub whole-within : (v : List ℕ) (f s n : ℕ) → f ≡ tallied freeKey v → s ≡ tallied spoiltKey v → length (wholeText v (tallied freeKey v) (tallied spoiltKey v)) ≤ n → length (wholeText v f s) ≤ n
-whole-within v f s n ef es h = rw (ef, es) h
 
 -- tallies sorted in their own place
 pub tally-done : (n : ℕ) (u a keys : List ℕ) → n ≤ length u → length a ≡ length (take n u) → Sorted a → SameTallies a (take n u) → Tallies keys (take n u) → Sorted (take n (a ++ drop n u)) × Tallies keys (take n (a ++ drop n u))

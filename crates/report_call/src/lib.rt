@@ -1,15 +1,16 @@
 // The report of a table: tallies of its keys, put in order, and their text.
-ghost use Prim.Native.Nat.{_≤_};
+ghost use Prim.Native.Nat.{_+_, _*_, _≤_};
 ghost use mathlib.Core.Bool.{true};
 ghost use mathlib.Core.Path.{_≡_};
 ghost use lib.ListN.{length, take};
 ghost use Rattle.numbers.specs.After.{onArea};
 ghost use Rattle.table.specs.Slots.{mostSlots, tableGood, slotsOf};
 ghost use Rattle.flush_sort.specs.Sorting.{Sorted};
-ghost use Rattle.report.specs.Report.{countsOf, countsText, written, reportedTo};
+ghost use Rattle.report.specs.Report.{nicknameEnd, countsOf, countsText, written, reportedTo};
 ghost use Rattle.report_keys.specs.Keys.{freeKey, spoiltKey, keysTo};
 ghost use Rattle.report_tally.specs.Tallies.{tallied, Tallies};
-ghost use Rattle.report_text.specs.Whole.{wholeText, longest};
+ghost use Rattle.report_rows.specs.Rows.{linesText};
+ghost use Rattle.report_text.specs.Whole.{wholeText};
 use report::ReportAnswer;
 use report_keys::FREE_KEY;
 use report_keys::SPOILT_KEY;
@@ -17,7 +18,7 @@ use table::MOST_SLOTS;
 
 // The report of sorted tallies.
 fn write_tallies(v: &[u32], out: &mut [u8]) -> ReportAnswer
-    requires { ⌜ (Sorted (now v) × (length (now v) ≤ mostSlots)) × (length (wholeText (now v) (tallied freeKey (now v)) (tallied spoiltKey (now v))) ≤ longest) ⌝ }
+    requires { ⌜ (Sorted (now v) × (length (now v) ≤ mostSlots)) × (length (linesText nicknameEnd (now v)) + 9 * (tallied freeKey (now v) + tallied spoiltKey (now v)) ≤ 9 * mostSlots) ⌝ }
     ensures { λ r. ⌜ onArea r (now (out .exit)) ≡ written (wholeText (now (v .entry)) (tallied freeKey (now (v .entry))) (tallied spoiltKey (now (v .entry)))) (now (out .entry)) ⌝ }
 {
     let free = report_rows::times(v, FREE_KEY);

@@ -5,6 +5,7 @@ use mathlib.Core.Bool.{Bool, true, false}
 use mathlib.Core.List.{List, [], _∷_, _++_, append-nil, append-assoc}
 use mathlib.Core.Path.{_≡_, refl, sym, ap, _∙_}
 use native.Mathlib.Nat.{zero-add, suc-add, mul-comm, div-div-eq-div-mul}
+use native.Mathlib.Decide.{decLt}
 use native.Mathlib.Numerals.{add-one}
 use native.Mathlib.Omega.{arith}
 use lib.Dec.{leb}
@@ -87,7 +88,7 @@ unfolding hexadecimal
 four-digits n = refl
 
 -- four signs as one number
-pub hexadecimal-bytes : (n a b c d : ℕ) → a ≡ sign (n / 0x1000 % 16) → b ≡ sign (n / 0x100 % 16) → c ≡ sign (n / 0x10 % 16) → d ≡ sign (n % 16) → a < 2 ^ 8 → b < 2 ^ 8 → c < 2 ^ 8 → d < 2 ^ 8
+hexadecimal-bytes : (n a b c d : ℕ) → a ≡ sign (n / 0x1000 % 16) → b ≡ sign (n / 0x100 % 16) → c ≡ sign (n / 0x10 % 16) → d ≡ sign (n % 16) → a < 2 ^ 8 → b < 2 ^ 8 → c < 2 ^ 8 → d < 2 ^ 8
     → bytesOf 4 (a * 0x100_0000 + b * 0x1_0000 + c * 0x100 + d) ≡ hexadecimal n
 unfolding bytesOf hexadecimal digitsOf
 hexadecimal-bytes n a b c d ea eb ec ed ha hb hc hd =
@@ -98,3 +99,65 @@ hexadecimal-bytes n a b c d ea eb ec ed ha hb hc hd =
     let four : w / 256 ^ 0 % 256 ≡ d = omega arith in
     let last : n / 16 ^ 0 % 16 ≡ n % 16 = omega arith in
     rw (one, two, three, four, last, ea, eb, ec, ed)
+
+-- what a letter has more than a digit
+sign-sum : (d : ℕ) → d < 16 → 0x30 + d + (d + 6) / 16 * 7 ≡ sign d
+sign-sum d h = go (decLt 9 d)
+  where
+    go : Dec (9 < d) → 0x30 + d + (d + 6) / 16 * 7 ≡ sign d
+    go (yes l) = let e : 0x30 + d + (d + 6) / 16 * 7 ≡ 0x37 + d = omega arith in e ∙ sign-letter d l
+    go (no l) = let e : 0x30 + d + (d + 6) / 16 * 7 ≡ 0x30 + d = omega arith in e ∙ sign-digit d (omega arith)
+
+-- the fifth bit of a byte of a number
+bit-3 : (x lo : ℕ) → x < 32 → lo < 2 ^ 24 → (x * 0x100_0000 + lo) / 0x1000_0000 % 2 ≡ x / 16
+bit-3 x lo h g = omega arith
+
+bit-2 : (hi x lo : ℕ) → x < 32 → lo < 2 ^ 16 → (hi * 0x100_0000 + x * 0x1_0000 + lo) / 0x10_0000 % 2 ≡ x / 16
+bit-2 hi x lo h g = omega arith
+
+bit-1 : (hi x lo : ℕ) → x < 32 → lo < 2 ^ 8 → (hi * 0x1_0000 + x * 0x100 + lo) / 0x1000 % 2 ≡ x / 16
+bit-1 hi x lo h g = omega arith
+
+bit-0 : (hi x : ℕ) → x < 32 → (hi * 0x100 + x) / 0x10 % 2 ≡ x / 16
+bit-0 hi x h = omega arith
+
+-- four signs at once
+module _ (a b c d v w m : ℕ) (ha : a < 16) (hb : b < 16) (hc : c < 16) (hd : d < 16)
+    (ev : v ≡ a * 0x100_0000 + b * 0x1_0000 + c * 0x100 + d) (ew : w ≡ v + 0x606_0606) where
+  one : w / 0x1000_0000 % 2 ≡ (a + 6) / 16
+  one =
+      let e : w ≡ (a + 6) * 0x100_0000 + ((b + 6) * 0x1_0000 + (c + 6) * 0x100 + (d + 6)) = omega arith in
+      rw e (bit-3 (a + 6) ((b + 6) * 0x1_0000 + (c + 6) * 0x100 + (d + 6)) (omega arith) (omega arith))
+
+  two : w / 0x10_0000 % 2 ≡ (b + 6) / 16
+  two =
+      let e : w ≡ (a + 6) * 0x100_0000 + (b + 6) * 0x1_0000 + ((c + 6) * 0x100 + (d + 6)) = omega arith in
+      rw e (bit-2 (a + 6) (b + 6) ((c + 6) * 0x100 + (d + 6)) (omega arith) (omega arith))
+
+  three : w / 0x1000 % 2 ≡ (c + 6) / 16
+  three =
+      let e : w ≡ ((a + 6) * 0x100 + (b + 6)) * 0x1_0000 + (c + 6) * 0x100 + (d + 6) = omega arith in
+      rw e (bit-1 ((a + 6) * 0x100 + (b + 6)) (c + 6) (d + 6) (omega arith) (omega arith))
+
+  four : w / 0x10 % 2 ≡ (d + 6) / 16
+  four =
+      let e : w ≡ ((a + 6) * 0x1_0000 + (b + 6) * 0x100 + (c + 6)) * 0x100 + (d + 6) = omega arith in
+      rw e (bit-0 ((a + 6) * 0x1_0000 + (b + 6) * 0x100 + (c + 6)) (d + 6) (omega arith))
+
+  sum : (p q r s : ℕ) → v + 0x3030_3030 + (p * 0x100_0000 + q * 0x1_0000 + r * 0x100 + s) * 7 ≡ (0x30 + a + p * 7) * 0x100_0000 + (0x30 + b + q * 7) * 0x1_0000 + (0x30 + c + r * 7) * 0x100 + (0x30 + d + s * 7)
+  sum p q r s = omega arith
+
+  pub four-signs : m ≡ w / 0x1000_0000 % 2 * 0x100_0000 + w / 0x10_0000 % 2 * 0x1_0000 + w / 0x1000 % 2 * 0x100 + w / 0x10 % 2
+      → v + 0x3030_3030 + m * 7 ≡ (0x30 + a + (a + 6) / 16 * 7) * 0x100_0000 + (0x30 + b + (b + 6) / 16 * 7) * 0x1_0000 + (0x30 + c + (c + 6) / 16 * 7) * 0x100 + (0x30 + d + (d + 6) / 16 * 7)
+  four-signs em = rw (em, one, two, three, four) (sum ((a + 6) / 16) ((b + 6) / 16) ((c + 6) / 16) ((d + 6) / 16))
+
+pub hexadecimal-word : (n v w m : ℕ) → v ≡ n / 0x1000 % 16 * 0x100_0000 + n / 0x100 % 16 * 0x1_0000 + n / 0x10 % 16 * 0x100 + n % 16 → w ≡ v + 0x606_0606
+    → m ≡ w / 0x1000_0000 % 2 * 0x100_0000 + w / 0x10_0000 % 2 * 0x1_0000 + w / 0x1000 % 2 * 0x100 + w / 0x10 % 2 → bytesOf 4 (v + 0x3030_3030 + m * 7) ≡ hexadecimal n
+hexadecimal-word n v w m ev ew em =
+    let a : ℕ = n / 0x1000 % 16 in
+    let b : ℕ = n / 0x100 % 16 in
+    let c : ℕ = n / 0x10 % 16 in
+    let d : ℕ = n % 16 in
+    ap (bytesOf 4) (four-signs a b c d v w m (omega arith) (omega arith) (omega arith) (omega arith) ev ew em)
+    ∙ hexadecimal-bytes n (0x30 + a + (a + 6) / 16 * 7) (0x30 + b + (b + 6) / 16 * 7) (0x30 + c + (c + 6) / 16 * 7) (0x30 + d + (d + 6) / 16 * 7)
+    (sign-sum a (omega arith)) (sign-sum b (omega arith)) (sign-sum c (omega arith)) (sign-sum d (omega arith)) (omega arith) (omega arith) (omega arith) (omega arith)

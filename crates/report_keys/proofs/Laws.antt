@@ -1,14 +1,14 @@
 -- Laws of keys: the key of a slot, and how often one stands in a list.
 -- Assumes nothing.
 use Prim.Native.Nat.{ℕ, _+_, _-_, _*_, _%_, _^_, _<_, _≤_}
-use mathlib.Core.Bool.{Bool, true, false}
+use mathlib.Core.Bool.{Bool, true, false, _||_}
 use mathlib.Core.List.{List, [], _∷_, _++_}
 use mathlib.Core.Path.{_≡_, refl, sym, ap, _∙_}
 use native.Mathlib.Decide.{ℕ-discrete}
 use native.Mathlib.Omega.{arith}
-use lib.Dec.{eqb}
+use lib.Dec.{eqb, ltb}
 use lib.ListN.{length}
-use borrow.Author.Tests.{eq-eqb, ne-eqb}
+use borrow.Author.Tests.{eq-eqb, ne-eqb, eqb-false, ltb-true, ltb-false}
 use Rattle.numbers.specs.Tests.{pick, both, between}
 use Rattle.numbers.proofs.Truth.{between-in, between-below, between-above}
 use Rattle.table.specs.Record.{recordOf, stateOf, nicknameOf, markOf, learnedState, configuredState, entryOf, entryGood, held, slotOf, markedSlot, unpacked, isFree}
@@ -28,24 +28,36 @@ empty-key b true = go (eqb b 0)
     go false = refl
 empty-key b false = refl
 
+-- neither the state of a learned record nor that of a configured one; and one of them
+no-state : (s : ℕ) → eqb s 0 || ltb configuredState s ≡ true → between learnedState configuredState s ≡ false
+no-state s h = go (ℕ-discrete s 0)
+  where
+    go : Dec (s ≡ 0) → between learnedState configuredState s ≡ false
+    go (yes e) = between-below learnedState configuredState s (omega arith)
+    go (no e) =
+        let above : ltb configuredState s ≡ true = rw (ne-eqb s 0 e) at h in
+        let l = ltb-true configuredState s above in
+        between-above learnedState configuredState s (omega arith)
+
+pub a-state : (s : ℕ) → eqb s 0 || ltb configuredState s ≡ false → (s ≡ 0 → ⊥) × (s ≤ configuredState)
+a-state s h = go (eqb s 0) (ltb configuredState s) refl refl h
+  where
+    go : (a b : Bool) → eqb s 0 ≡ a → ltb configuredState s ≡ b → a || b ≡ false → (s ≡ 0 → ⊥) × (s ≤ configuredState)
+    go true b e f g = let z : _≡_ {A = ℕ} 0 1 = cc in absurd (omega arith)
+    go false true e f g = let z : _≡_ {A = ℕ} 0 1 = cc in absurd (omega arith)
+    go false false e f g = let l = ltb-false configuredState s f in (eqb-false s 0 e, omega arith)
+
 module _ (r : List ℕ) where
   -- neither learned nor configured
   no-record : between learnedState configuredState (stateOf (recordOf r)) ≡ false → slotOf (recordOf r) ≡ pick (eqb (recordOf r) 0) Free Spoilt
   unfolding slotOf both pick
   no-record h = rw h
 
-  pub key-empty : (s : ℕ) → s ≡ stateOf (recordOf r) → s ≡ 0 → (f : Bool) → f ≡ freeSlot r → (k : ℕ) → k ≡ pick f freeKey spoiltKey → k ≡ keyOf (unpacked r)
+  pub key-empty : (s : ℕ) → s ≡ stateOf (recordOf r) → eqb s 0 || ltb configuredState s ≡ true → (f : Bool) → f ≡ freeSlot r → (k : ℕ) → k ≡ pick f freeKey spoiltKey → k ≡ keyOf (unpacked r)
   unfolding freeSlot unpacked
-  key-empty s es e f ef k ek =
-      let none = no-record (between-below learnedState configuredState (stateOf (recordOf r)) (omega arith)) in
+  key-empty s es h f ef k ek =
+      let none = no-record (ap (between learnedState configuredState) (sym es) ∙ no-state s h) in
       ek ∙ rw (ef, none) (empty-key (markOf r) (eqb (recordOf r) 0))
-
-  pub key-above : (s : ℕ) → s ≡ stateOf (recordOf r) → configuredState < s → spoiltKey ≡ keyOf (unpacked r)
-  unfolding unpacked markedSlot pick
-  key-above s es h =
-      let none = no-record (between-above learnedState configuredState (stateOf (recordOf r)) (omega arith)) in
-      let some : eqb (recordOf r) 0 ≡ false = ne-eqb (recordOf r) 0 (λ z. omega arith) in
-      rw (none, some)
 
   module _ (s : ℕ) (es : s ≡ stateOf (recordOf r)) (low : s ≡ 0 → ⊥) (high : s ≤ configuredState) where
     a-record : slotOf (recordOf r) ≡ pick (entryGood (entryOf (recordOf r))) (held s (entryOf (recordOf r))) Spoilt

@@ -29,11 +29,8 @@ pub fn key_at(t: &[u8], at: usize) -> u32
     ensures { λ r. ⌜ (r ≡ keyOf (unpacked (drop at (now (t .entry))))) × (r < 2 ^ 18) ⌝ }
 {
     let state = table_fields::state_at(t, at);
-    if state == FREE_STATE {
+    if (state == FREE_STATE) | (CONFIGURED_STATE < state) {
         return empty_key(table_states::free_at(t, at));
-    }
-    if CONFIGURED_STATE < state {
-        return SPOILT_KEY;
     }
     if !table_states::good_at(t, at) {
         return SPOILT_KEY;

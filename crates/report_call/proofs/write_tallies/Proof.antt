@@ -1,7 +1,8 @@
 -- `report_call::write_tallies` meets its contract.
 -- Assumes nothing.
-use Rattle.report_text.specs.Whole.{longest}
-use Rattle.report_call.proofs.Laws.{whole-within, tallies-written}
+use native.Mathlib.Omega.{arith}
+use Rattle.report_text.proofs.Laws.{length-whole}
+use Rattle.report_call.proofs.Laws.{width-few, tallies-written}
 use borrow.Author.Needs.{needs}
 use Rattle.report_call.proofs.write_tallies.Statement.{statement}
 use Rattle.report_call.proofs.write_tallies.Tie as tie
@@ -9,9 +10,14 @@ use Rattle.report_call.proofs.write_tallies.Tie as tie
 write-requires : tie.Need-write-requires
 write-requires c κs =
     let start = c .before .before .before .before .before in
-    let free = c .before .before .times in
-    let spoilt = c .before .times2 in
-    (start .pre .0, whole-within (start .args .v .now) (free .result) (spoilt .result) longest (free .ensures) (spoilt .ensures) (start .pre .1))
+    let f = c .before .before .times in
+    let s = c .before .times2 in
+    let free = f .ensures in
+    let spoilt = s .ensures in
+    let whole = length-whole (start .args .v .now) (f .result) (s .result) in
+    let wf = width-few (f .result) in
+    let ws = width-few (s .result) in
+    (start .pre .0, omega arith)
 
 returns : tie.Need-returns
 returns c =

@@ -2,7 +2,7 @@
 -- Assumes nothing.
 use native.Mathlib.Omega.{arith}
 use borrow.Author.Tests.{not-true, not-false}
-use Rattle.report_keys.proofs.Laws.{key-empty, key-above, key-bad, key-marked, key-record}
+use Rattle.report_keys.proofs.Laws.{a-state, key-empty, key-bad, key-marked, key-record}
 use borrow.Author.Needs.{needs}
 use Rattle.report_keys.proofs.key_at.Statement.{statement}
 use Rattle.report_keys.proofs.key_at.Tie as tie
@@ -14,25 +14,29 @@ returns c =
 
 returns-2 : tie.Need-returns-2
 returns-2 c =
-    let state = c .before .before .state-at in
-    (key-above _ (state .result) (state .ensures) (c .if2 .taken), search needs)
+    let state = c .before .before .before .state-at in
+    let held = a-state (state .result) (c .before .before .if1 .left) in
+    (key-bad _ (state .result) (state .ensures) (held .0) (held .1) (c .before .good-at .result) (c .before .good-at .ensures) (not-true _ (c .if2 .taken)), search needs)
 
 returns-3 : tie.Need-returns-3
 returns-3 c =
-    let state = c .before .before .before .before .state-at in
-    (key-bad _ (state .result) (state .ensures) (c .before .before .before .if1 .left) (omega arith) (c .before .good-at .result) (c .before .good-at .ensures) (not-true _ (c .if3 .taken)), search needs)
+    let state = c .before .before .before .before .before .state-at in
+    let held = a-state (state .result) (c .before .before .before .before .if1 .left) in
+    let good = c .before .before .before .good-at in
+    (key-marked _ (state .result) (state .ensures) (held .0) (held .1) (good .result) (good .ensures) (not-false _ (c .before .before .if2 .left)) (c .before .mark-at .result) (c .before .mark-at .ensures .0) (c .if3 .taken), search needs)
+
+sub-result : tie.Need-sub-result
+sub-result c =
+    let some = a-state (c .before .before .before .before .before .before .state-at .result) (c .before .before .before .before .before .if1 .left) .0 in
+    omega (arith, some)
 
 returns-4 : tie.Need-returns-4
 returns-4 c =
     let state = c .before .before .before .before .before .before .state-at in
-    let good = c .before .before .before .good-at in
-    (key-marked _ (state .result) (state .ensures) (c .before .before .before .before .before .if1 .left) (omega arith) (good .result) (good .ensures) (not-false _ (c .before .before .if3 .left)) (c .before .mark-at .result) (c .before .mark-at .ensures .0) (c .if4 .taken), search needs)
-
-returns-5 : tie.Need-returns-5
-returns-5 c =
-    let state = c .before .before .before .before .before .before .before .state-at in
+    let held = a-state (state .result) (c .before .before .before .before .before .if1 .left) in
+    let high = held .1 in
     let good = c .before .before .before .before .good-at in
-    (key-record _ (state .result) (state .ensures) (c .before .before .before .before .before .before .if1 .left) (omega arith) (good .result) (good .ensures) (not-false _ (c .before .before .before .if3 .left)) (c .before .before .mark-at .result) (c .before .before .mark-at .ensures .0) (c .before .if4 .left) (c .nickname-at .result) (c .nickname-at .ensures .0), omega arith)
+    (key-record _ (state .result) (state .ensures) (held .0) (held .1) (good .result) (good .ensures) (not-false _ (c .before .before .before .if2 .left)) (c .before .before .mark-at .result) (c .before .before .mark-at .ensures .0) (c .before .if3 .left) (c .nickname-at .result) (c .nickname-at .ensures .0), omega arith)
 
 pub key-at-spec : {M : Type 1} → statement M
 key-at-spec =
@@ -42,14 +46,13 @@ key-at-spec =
     (λ c κs. search needs)
     (λ c κs. search needs)
     returns
+    (λ c κs. search needs)
     returns-2
     (λ c κs. search needs)
     returns-3
     (λ c κs. search needs)
-    returns-4
-    (λ c κs. search needs)
+    (λ c. search needs)
+    sub-result
     (λ c. search needs)
     (λ c. search needs)
-    (λ c. search needs)
-    (λ c. search needs)
-    returns-5)
+    returns-4)
