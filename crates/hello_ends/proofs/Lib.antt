@@ -3,3 +3,4 @@ pub mod Numbers
 pub mod Shapes
 pub mod Judged
 pub mod Many
+pub mod Sums

@@ -1,16 +1,27 @@
 -- One number below a limit, and two of them.
 -- Assumes nothing.
-use Prim.Native.Nat.{ℕ}
+use Prim.Native.Nat.{ℕ, _<_, _≤_}
 use mathlib.Core.Bool.{Bool}
 use mathlib.Core.List.{List}
-use lib.Dec.{ltb}
-use Rattle.numbers.specs.Tests.{both}
+use mathlib.Core.Path.{_≡_}
+use lib.Dec.{ltb, eqb}
+use Rattle.numbers.specs.Tests.{both, either}
 use Rattle.numbers.specs.Result.{Result, refused, got}
 use Rattle.hello.specs.Area.{Taken, Taker, taken, takeOne, then}
 use Rattle.hello_area.specs.Entries.{via}
 
 unfoldable pub takeBelow : ℕ → Taker ℕ
 takeBelow top = via takeOne (λ n. ltb n top) (λ n. n)
+
+-- the limit of a field of two bytes, or of six
+unfoldable pub fieldTop : ℕ → Bool
+fieldTop top = either (eqb top 65536) (eqb top 281474976710656)
+
+-- what a number v has over its limit: nothing exactly where it is below it
+pub record Over (top v r : ℕ) : Type 0 where
+  pub none : r ≡ 0 → v < top
+  pub some : (r ≡ 0 → ⊥) → top ≤ v
+  pub small : r < 281474976710656
 
 pub record TwoNumbers : Type 0 where
   pub left : ℕ

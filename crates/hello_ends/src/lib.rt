@@ -1,15 +1,18 @@
 // Where the entries of a contents area end; past its end where one is malformed. Places are counted in numbers of 8 bytes.
-ghost use Prim.Native.Nat.{_+_, _*_, _<_, _≤_};
+ghost use Prim.Native.Nat.{_+_, _*_, _^_, _<_, _≤_};
+ghost use mathlib.Core.Bool.{true};
 ghost use mathlib.Core.Path.{_≡_};
 ghost use lib.Dec.{ltb};
-ghost use lib.ListN.{length, getD};
+ghost use lib.ListN.{length, take, drop, getD};
 ghost use Rattle.numbers.specs.Tests.{both};
+ghost use Rattle.numbers.specs.Bytes.{num};
+ghost use Rattle.numbers.specs.Swapped.{swapped4};
 ghost use Rattle.hello.specs.Pieces.{smartMacType, nicknameType};
 ghost use Rattle.hello.specs.Writing.{mostNicknames, mostTrees, labelTop};
 ghost use Rattle.hello.specs.Area.{takeMany, takeCounted};
 ghost use Rattle.hello.specs.Calls.{areaWritten};
 ghost use Rattle.hello_area.specs.Entries.{numbersIn, takeHead, takeItem, mostOf, takeList, takeSub, takeSubs, reach};
-ghost use Rattle.hello_ends.specs.Below.{takeBelow, refusalOf};
+ghost use Rattle.hello_ends.specs.Below.{takeBelow, fieldTop, Over, refusalOf};
 use hello::HELLO_MALFORMED;
 use hello::PARAMETERS_MISSING;
 
@@ -94,25 +97,48 @@ fn records_end(area: &[u8], i: usize, m: usize) -> usize
     at
 }
 
-// So many numbers below a limit.
+// Four bytes with the first one lowest, as the compiler makes one load of eight.
+fn low4(area: &[u8], k: usize) -> u64
+    requires { ⌜ k + 4 ≤ length (now area) ⌝ }
+    ensures { λ r. ⌜ (swapped4 r ≡ num (take 4 (drop k (now (area .entry))))) × (r < 2 ^ 32) ⌝ }
+{
+    numbers::wide(area[k])
+        + numbers::wide(area[k + 1]) * 0x100
+        + numbers::wide(area[k + 2]) * 0x1_0000
+        + numbers::wide(area[k + 3]) * 0x100_0000
+}
+
+// The bytes of a number that are over its field, of two bytes or of six, with the first one lowest: 0 where the number is below its limit.
+fn number_over(area: &[u8], i: usize, top: u64) -> u64
+    requires { ⌜ (i < length (numbersIn (now area))) × (fieldTop top ≡ true) ⌝ }
+    ensures { λ r. ⌜ Over top (getD (numbersIn (now (area .entry))) i 0) r ⌝ }
+{
+    let w = low4(area, 8 * i) + low4(area, 8 * i + 4) * 0x1_0000_0000;
+    if top == 0x1_0000 {
+        return w % 0x1_0000_0000_0000;
+    }
+    w % 0x1_0000
+}
+
+// So many numbers below a limit. Their bytes over the field are added up, so that the list has one test.
 fn numbers_end(area: &[u8], i: usize, m: usize, top: u64) -> usize
-    requires { ⌜ (i ≤ length (numbersIn (now area))) × (m ≤ mostTrees) ⌝ }
+    requires { ⌜ (i ≤ length (numbersIn (now area))) × ((m ≤ mostTrees) × (fieldTop top ≡ true)) ⌝ }
     ensures { λ r. ⌜ r ≡ reach (takeMany (takeBelow top) m) (numbersIn (now (area .entry))) i ⌝ }
 {
     let n = size(area);
     if n < i + m {
         return n + 1;
     }
-    let mut at = i;
+    let mut sum = 0;
     let mut j = 0;
     while j < m {
-        if top <= number(area, at) {
-            return n + 1;
-        }
-        at += 1;
+        sum += number_over(area, i + j, top);
         j += 1;
     }
-    at
+    if sum != 0 {
+        return n + 1;
+    }
+    i + m
 }
 
 // So many elements of the list of an entry.
