@@ -7,7 +7,7 @@ use mathlib.Core.List.{List, [], _∷_, _++_, map, flatMap, append-nil}
 use mathlib.Core.Path.{_≡_, refl, sym, ap, _∙_}
 use native.Mathlib.Omega.{arith}
 use lib.Dec.{leb, eqb}
-use lib.ListN.{length, take, drop, length-drop}
+use lib.ListN.{length, drop, length-drop}
 use borrow.Author.Tests.{eq-eqb, ne-eqb, le-leb, lt-leb, eqb-true}
 use Rattle.numbers.specs.Tests.{pick, both, either}
 use Rattle.numbers.specs.Bytes.{parts}
@@ -90,72 +90,9 @@ module _ (k j : ℕ) (v : List ℕ) (other : j ≡ k → ⊥) where
   unfolding subBrought says inside
   none-of = brings-none (holderFor k) j k (λ _ e. other e) v
 
-  pub none-count : 0 ≡ length (subBrought k (tlv j v))
-  none-count = ap length (sym none-of)
-
   pub none-numbers : 0 ≡ length (subNumbers k (tlv j v))
   unfolding subNumbers joined flatMap
   none-numbers = rw none-of
-
--- no sub-TLV has another type
-module _ (k : ℕ) (v : List ℕ) (a : k ≡ 22 → ⊥) (b : k ≡ 6 → ⊥) (d : k ≡ 8 → ⊥) (e : k ≡ 23 → ⊥) where
-  none-says : (h : ℕ) → brought k (subSays h k v) ≡ []
-  unfolding subSays
-  none-says h =
-      bring-pick k _ _ (parameters (parametersOf v)) _ (λ _. no-parameters k (parametersOf v) (ne-eqb k 22 a))
-      (bring-pick k _ _ (nicknames (map nicknameOf (parts 5 v))) _ (λ _. no-nicknames k (map nicknameOf (parts 5 v)) (ne-eqb k 6 b))
-      (bring-pick k _ _ (trees (treesOf v)) _ (λ _. no-trees k (treesOf v) (ne-eqb k 8 d))
-      (bring-pick k _ _ (smartMac (smartMacOf v)) _ (λ _. no-macs k (smartMacOf v) (ne-eqb k 23 e)) (no-ignored k))))
-
-  pub none-kind : 0 ≡ length (subNumbers k (tlv k v))
-  unfolding subNumbers subBrought says inside joined flatMap
-  none-kind = rw (none-says (holderFor k))
-
-pub as-kind : (k n : ℕ) (v : List ℕ) (r : ℕ) → k ≡ n → r ≡ length (subNumbers n (tlv n v)) → r ≡ length (subNumbers k (tlv k v))
-as-kind k n v r e f = rw e f
-
--- ---- none, or one list that is not empty
-
-one-or-none : (b : Bool) (x : List ℕ) → 1 ≤ length x → length (pick b (x ∷ []) []) ≡ pick (leb 1 (length (joined (pick b (x ∷ []) [])))) 1 0
-unfolding pick joined flatMap
-one-or-none true x h = rw (append-nil x, le-leb 1 (length x) h)
-one-or-none false x h = refl
-
-none-none : length {A = List ℕ} [] ≡ pick (leb 1 (length (joined []))) 1 0
-unfolding pick joined flatMap
-none-none = refl
-
-brought-one : (k : ℕ) (i : Item) → length (brought k i) ≡ pick (leb 1 (length (joined (brought k i)))) 1 0
-unfolding brought parametersNumbers counted treesNumbers smartMacNumbers
-brought-one k (parameters p) = one-or-none (eqb k 22) _ (omega arith)
-brought-one k (nicknames r) = one-or-none (eqb k 6) _ (omega arith)
-brought-one k (trees t) = one-or-none (eqb k 8) _ (omega arith)
-brought-one k (smartMac m) = one-or-none (eqb k 23) _ (omega arith)
-brought-one k ignored = none-none
-brought-one k malformed = none-none
-
-module _ (k j : ℕ) (v : List ℕ) (same : j ≡ k) (n : ℕ) (en : n ≡ length (subNumbers k (tlv k v))) where
-  pub same-numbers : n ≡ length (subNumbers k (tlv j v))
-  same-numbers = rw same en
-
-  count-by : length (subBrought k (tlv j v)) ≡ pick (leb 1 n) 1 0
-  unfolding subNumbers subBrought
-  count-by = brought-one k (says (inside (holderFor k) (tlv j v))) ∙ ap (λ (x : ℕ). pick (leb 1 x) 1 0) (sym same-numbers)
-
-  pub zero-count : n ≡ 0 → 0 ≡ length (subBrought k (tlv j v))
-  unfolding pick
-  zero-count z = sym (count-by ∙ rw z)
-
-  pub zero-sum : n ≡ 0 → 0 ≡ length (subNumbers k (tlv j v))
-  zero-sum z = sym z ∙ same-numbers
-
-  pub one-count : (n ≡ 0 → ⊥) → 1 ≡ length (subBrought k (tlv j v))
-  unfolding pick
-  one-count z = sym (count-by ∙ rw (le-leb 1 n (positive n z)))
-    where
-      positive : (n : ℕ) → (n ≡ 0 → ⊥) → 1 ≤ n
-      positive zero z = absurd (z refl)
-      positive (suc n) z = omega arith
 
 -- ---- gathering through the levels
 
@@ -177,48 +114,19 @@ tlv-level k (t ∷ ts) =
     ∙ flatMap-append (brought k) (map says (tlvPieces t)) (map says (flatMap tlvPieces ts))
     ∙ rw (tlv-level k ts)
 
-pub payload-brought : (k : ℕ) (l : List ℕ) (n : ℕ) → n ≡ length (flatMap (tlvBrought k) (tlvs l)) → n ≡ length (flatMap (brought k) (items l))
-unfolding pieces
-payload-brought k l n e = e ∙ ap length (sym (tlv-level k (tlvs l)))
-
 pub joined-level : (k : ℕ) (l : List ℕ) → joined (flatMap (brought k) (items l)) ≡ flatMap (tlvNumbers k) (tlvs l)
 unfolding pieces joined tlvNumbers
 joined-level k l = ap joined (tlv-level k (tlvs l)) ∙ flat-flat (λ (x : List ℕ). x) (tlvBrought k) (tlvs l)
 
-pub payload-numbers : (k : ℕ) (l : List ℕ) (n : ℕ) → n ≡ length (flatMap (tlvNumbers k) (tlvs l)) → n ≡ length (joined (flatMap (brought k) (items l)))
-payload-numbers k l n e = e ∙ ap length (sym (joined-level k l))
-
-pub stump-none : (k : ℕ) → subBrought k stump ≡ []
-unfolding subBrought says inside brought
-stump-none k = refl
-
 pub stump-numbers : (k : ℕ) → subNumbers k stump ≡ []
 unfolding subNumbers subBrought says inside brought joined flatMap
 stump-numbers k = refl
-
-pub tlv-stump-none : (k : ℕ) → tlvBrought k stump ≡ []
-unfolding tlvBrought tlvPieces flatMap says brought
-tlv-stump-none k = refl
 
 pub tlv-stump-numbers : (k : ℕ) → tlvNumbers k stump ≡ []
 unfolding tlvNumbers tlvBrought tlvPieces flatMap says brought joined
 tlv-stump-numbers k = refl
 
 -- ---- a TLV
-
--- which TLV
-module _ (k : ℕ) where
-  pub by-22 : k ≡ 22 → 251 ≡ holderFor k
-  unfolding either pick
-  by-22 e = rw e
-
-  pub by-23 : (k ≡ 22 → ⊥) → k ≡ 23 → 251 ≡ holderFor k
-  unfolding either pick
-  by-23 d e = rw (ne-eqb k 22 d, eq-eqb k 23 e)
-
-  pub by-others : (k ≡ 22 → ⊥) → (k ≡ 23 → ⊥) → 242 ≡ holderFor k
-  unfolding either pick
-  by-others d e = rw (ne-eqb k 22 d, ne-eqb k 23 e)
 
 -- where its sub-TLVs start
 module _ (v : List ℕ) where
@@ -299,13 +207,6 @@ module _ (k h : ℕ) (v : List ℕ) (r : ℕ) (er : r ≡ holderFor k) (same : h
   unfolding tlvNumbers subNumbers joined
   body-numbers = ap joined body ∙ flat-flat (λ (x : List ℕ). x) (subBrought k) (tlvs (drop (bodyAt h v) v))
 
-  module _ (s : ℕ) (es : s ≡ bodyAt h v) (w : List ℕ) (ew : w ≡ drop s v) (n : ℕ) where
-    pub body-count : n ≡ length (flatMap (subBrought k) (tlvs w)) → n ≡ length (tlvBrought k (tlv h v))
-    body-count e = e ∙ rw (ew, es) (ap length (sym body))
-
-    pub body-sum : n ≡ length (flatMap (subNumbers k) (tlvs w)) → n ≡ length (tlvNumbers k (tlv h v))
-    body-sum e = e ∙ rw (ew, es) (ap length (sym body-numbers))
-
 -- a TLV of another kind
 
 flat-pick : (k : ℕ) (c : Bool) (x y : List Piece) → (c ≡ true → flatMap (brought k) (map says x) ≡ []) → flatMap (brought k) (map says y) ≡ [] → flatMap (brought k) (map says (pick c x y)) ≡ []
@@ -337,9 +238,6 @@ module _ (k h : ℕ) (v : List ℕ) (r : ℕ) (er : r ≡ holderFor k) (apart : 
       (skipped-none k))
       (broken-none k))
       (skipped-none k))
-
-  pub other-count : 0 ≡ length (tlvBrought k (tlv h v))
-  other-count = ap length (sym other-none)
 
   pub other-numbers : 0 ≡ length (tlvNumbers k (tlv h v))
   unfolding tlvNumbers joined flatMap

@@ -1,20 +1,20 @@
 -- The contents of a payload by sections; and each section's counts from those of the pass.
 -- Assumes nothing.
-use Prim.Native.Nat.{ℕ, _+_, _*_}
+use Prim.Native.Nat.{ℕ, _+_}
 use mathlib.Core.List.{List, [], _∷_, _++_, map, flatMap, append-nil}
 use mathlib.Core.Path.{_≡_, refl, sym, ap, _∙_}
 use native.Mathlib.Omega.{arith}
-use lib.Dec.{eqb}
 use lib.ListN.{length, length-map}
 use Rattle.numbers.specs.Tests.{pick}
-use Rattle.hello.specs.Contents.{Nickname, Item, parameters, nicknames, trees, smartMac, ignored, malformed}
+use Rattle.hello.specs.Contents.{Item, parameters, nicknames, trees, smartMac, ignored, malformed}
 use Rattle.hello.specs.Reading.{parametersIn, nicknamesIn, treesIn, macsIn, gathered}
 use Rattle.hello.specs.Area.{counted, alone, parametersNumbers, nicknameNumbers, treesNumbers, smartMacNumbers, numbersOf}
-use Rattle.hello.proofs.Lists.{map-append, length-joined}
+use Rattle.hello.proofs.Lists.{map-append}
 use Rattle.hello_judge.specs.declared.Counts.{Counts}
 use Rattle.hello_judge.specs.Counting.{walked, nothing, counting}
 use Rattle.hello_judge.proofs.Sums.{from-nothing}
 use Rattle.hello_count.specs.Sections.{brought, joined, section}
+use Rattle.hello_count.proofs.Subs.{counted-length, alone-length, nickname-length}
 use Rattle.hello_count.proofs.Levels.{flat-flat}
 
 -- ---- sections
@@ -75,18 +75,6 @@ sections is =
     rw (section-is 22 parametersNumbers parametersIn parameters-in is, section-is 6 (counted nicknameNumbers) nicknamesIn nicknames-in is, section-is 8 treesNumbers treesIn trees-in is, section-is 23 smartMacNumbers macsIn macs-in is)
 
 -- ---- the counts of the pass
-
-counted-length : {A : Type 0} (c : ℕ) (f : A → List ℕ) → ((x : A) → length (f x) ≡ c) → (xs : List A) → length (counted f xs) ≡ 1 + c * length xs
-unfolding counted
-counted-length c f h xs = let n = length-joined c f h xs in omega arith
-
-alone-length : (n : ℕ) → length (alone n) ≡ 1
-unfolding alone
-alone-length n = refl
-
-nickname-length : (n : Nickname) → length (nicknameNumbers n) ≡ 3
-unfolding nicknameNumbers
-nickname-length n = refl
 
 -- the numbers of an item in the section of a type
 numbersIn : ℕ → Item → List ℕ

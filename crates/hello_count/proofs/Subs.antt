@@ -1,16 +1,14 @@
 -- What one sub-TLV of a type brings, by its length; and how many numbers.
 -- Assumes nothing.
-use Prim.Native.Nat.{ℕ, zero, suc, _+_, _-_, _*_, _/_, _%_, _<_, _≤_}
-use mathlib.Core.Bool.{Bool, true, false}
+use Prim.Native.Nat.{ℕ, zero, _+_, _-_, _*_, _/_, _%_, _<_, _≤_}
 use mathlib.Core.List.{List, [], _∷_, _++_, map, flatMap, append-nil}
 use mathlib.Core.Path.{_≡_, refl, sym, ap, _∙_}
 use native.Mathlib.Omega.{arith}
-use lib.Dec.{leb, eqb}
-use lib.ListN.{length, take, drop, length-drop, length-append, length-map}
+use lib.ListN.{length, drop, length-drop, length-map}
 use borrow.Author.Tests.{eq-eqb, ne-eqb, le-leb, lt-leb}
 use Rattle.numbers.specs.Tests.{pick, both, either}
 use Rattle.numbers.specs.Bytes.{num, parts}
-use Rattle.hello.specs.Tlvs.{Tlv, tlv, stump}
+use Rattle.hello.specs.Tlvs.{Tlv, tlv}
 use Rattle.hello.specs.Pieces.{inside}
 use Rattle.hello.specs.Contents.{Nickname}
 use Rattle.hello.specs.Reading.{parametersOf, nicknameOf, treesOf, smartMacOf, subSays, says}
@@ -72,15 +70,15 @@ none-joined : (k : ℕ) (t : Tlv) → subBrought k t ≡ [] → 0 ≡ length (su
 unfolding subNumbers joined flatMap
 none-joined k t e = rw e
 
-alone-length : (n : ℕ) → length (alone n) ≡ 1
+pub alone-length : (n : ℕ) → length (alone n) ≡ 1
 unfolding alone
 alone-length n = refl
 
-nickname-length : (n : Nickname) → length (nicknameNumbers n) ≡ 3
+pub nickname-length : (n : Nickname) → length (nicknameNumbers n) ≡ 3
 unfolding nicknameNumbers
 nickname-length n = refl
 
-counted-length : {A : Type 0} (c : ℕ) (f : A → List ℕ) → ((x : A) → length (f x) ≡ c) → (xs : List A) → length (counted f xs) ≡ 1 + c * length xs
+pub counted-length : {A : Type 0} (c : ℕ) (f : A → List ℕ) → ((x : A) → length (f x) ≡ c) → (xs : List A) → length (counted f xs) ≡ 1 + c * length xs
 unfolding counted
 counted-length c f h xs = let n = length-joined c f h xs in omega arith
 

@@ -15,7 +15,7 @@ use Rattle.numbers.specs.After.{OnArea, onArea}
 use Rattle.hello.specs.Tlvs.{Tlv, tlv, stump, tlvEnd, tlvs}
 use Rattle.hello.proofs.Cuts.{tlvs-more}
 use Rattle.hello_judge.specs.Counting.{walked, pastEmpty}
-use Rattle.hello_judge.proofs.Laws.{walk-done, walk-cut, walk-next, past-same, neither}
+use Rattle.hello_judge.proofs.Laws.{walk-done, walk-cut, past-same, neither}
 use Rattle.hello_fill.specs.declared.Pens.{Pens}
 use Rattle.hello_fill.specs.Filling.{putTwo, filling, Room}
 use Rattle.hello_fill.proofs.Apart.{two-none, walked-two}

@@ -1,16 +1,16 @@
 -- A count of the pass is the sum of what the items bring; and with the counts a payload is judged.
 -- Assumes nothing.
-use Prim.Native.Nat.{ℕ, zero, suc, _+_, _-_, _*_, _<_, _≤_}
+use Prim.Native.Nat.{ℕ, _+_, _-_, _*_, _<_, _≤_}
 use mathlib.Core.Bool.{Bool, true, false, not}
 use mathlib.Core.List.{List, [], _∷_, _++_, flatMap}
 use mathlib.Core.Path.{_≡_, refl, sym, ap, _∙_}
 use native.Mathlib.Omega.{arith}
-use lib.Dec.{leb, eqb}
+use lib.Dec.{leb}
 use lib.ListN.{length, length-append}
-use borrow.Author.Tests.{le-leb, lt-leb}
+use borrow.Author.Tests.{le-leb}
 use Rattle.numbers.specs.Tests.{pick, either, anyOf}
-use Rattle.numbers.specs.Result.{Result, refused, got, check}
-use Rattle.hello.specs.Contents.{Contents, Parameters, Item, parameters, nicknames, trees, smartMac, ignored, malformed}
+use Rattle.numbers.specs.Result.{got, check}
+use Rattle.hello.specs.Contents.{Item, parameters, nicknames, trees, smartMac, ignored, malformed}
 use Rattle.hello.specs.Reading.{isMalformed, parametersIn, gathered, items, single, understood, helloRead}
 use Rattle.hello_judge.specs.declared.Counts.{Counts}
 use Rattle.hello_judge.specs.Counting.{walked, nothing, counting, refusalFor, refusalOf}

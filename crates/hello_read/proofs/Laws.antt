@@ -26,7 +26,7 @@ use Rattle.hello_judge.specs.declared.Counts.{Counts}
 use Rattle.hello_judge.specs.Counting.{walked, nothing, counting, refusalFor, refusalOf}
 use Rattle.hello_judge.proofs.Sums.{judged}
 use Rattle.hello_count.specs.Sections.{brought, joined, section}
-use Rattle.hello_count.proofs.Sections.{sections, count-22, count-6, count-8, count-23, numbers-22, numbers-6, numbers-8, numbers-23}
+use Rattle.hello_count.proofs.Sections.{sections, numbers-22, numbers-6, numbers-8, numbers-23}
 use Rattle.hello_words.specs.Words.{words}
 use Rattle.hello_words.proofs.Words.{length-words, words-append}
 use Rattle.hello_fill.specs.Filling.{sectionWords}

@@ -1,8 +1,8 @@
 -- A loop over parts of k bytes that writes c bytes for each: what is left to write makes what is there the whole.
 -- Assumes nothing.
-use Prim.Native.Nat.{ℕ, zero, suc, _+_, _-_, _*_, _/_, _%_, _^_, _<_, _≤_}
+use Prim.Native.Nat.{ℕ, _+_, _-_, _*_, _/_, _%_, _^_, _<_, _≤_}
 use mathlib.Core.List.{List, [], _∷_, _++_, flatMap, append-nil}
-use mathlib.Core.Path.{_≡_, refl, sym, ap, _∙_}
+use mathlib.Core.Path.{_≡_, sym, ap, _∙_}
 use native.Mathlib.Nat.{add-zero}
 use native.Mathlib.Omega.{arith}
 use lib.ListN.{length, take, drop, length-drop, take-append-drop}
@@ -11,10 +11,9 @@ use Rattle.numbers.specs.Bytes.{AreBytes, num, bytesOf, parts}
 use Rattle.numbers.proofs.Bytes.{length-bytesOf, num-add, num-part-lt}
 use Rattle.frame_copy.specs.Areas.{pasted}
 use Rattle.frame_copy.proofs.Copying.{paste-next}
-use Rattle.hello.specs.Reading.{nicknameOf}
 use Rattle.hello.specs.Area.{nicknameNumbers}
 use Rattle.hello.proofs.Lists.{parts-end, parts-more}
-use Rattle.hello_words.specs.Words.{words, recordWords, numberWord}
+use Rattle.hello_words.specs.Words.{recordWords, numberWord}
 use Rattle.hello_words.proofs.Words.{length-words}
 
 pub paste-none : (o : List ℕ) (at : ℕ) → pasted o at [] ≡ o

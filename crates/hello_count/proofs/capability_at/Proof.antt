@@ -4,14 +4,10 @@ use Rattle.hello_count.proofs.Levels.{at-242-short, at-242}
 use borrow.Author.Needs.{needs}
 use Rattle.hello_count.proofs.capability_at.Statement.{statement}
 use Rattle.hello_count.proofs.capability_at.Tie as tie
-use Rattle.hello_count.proofs.capability_at.Reads as reads
-use Rattle.hello_count.proofs.capability_at.Lts as lts
 
--- src/lib.rt:17:9
 returns : tie.Need-returns
 returns c = (search at-242-short, search needs)
 
--- src/lib.rt:13:1
 returns-2 : tie.Need-returns-2
 returns-2 c = (search at-242, search needs)
 

@@ -4,36 +4,19 @@ use Rattle.hello_fill.proofs.Subs.{first-room, second-room, put-6, put-
 use borrow.Author.Needs.{needs}
 use Rattle.hello_fill.proofs.capability_sub.Statement.{statement}
 use Rattle.hello_fill.proofs.capability_sub.Tie as tie
-use Rattle.hello_fill.proofs.capability_sub.Reads as reads
-use Rattle.hello_fill.proofs.capability_sub.Lts as lts
-use Rattle.hello_fill.proofs.put_nicknames.Reads as put-nicknames-reads
-use Rattle.hello_fill.proofs.put_trees.Reads as put-trees-reads
 
--- src/lib.rt:81:13
 put-nicknames-requires : tie.Need-put-nicknames-requires
 put-nicknames-requires c κs = search (first-room 6 8)
 
--- src/lib.rt:82:9
-same-length : tie.Need-same-length
-same-length c = search needs
-
--- src/lib.rt:82:9
 returns : tie.Need-returns
 returns c = search put-6
 
--- src/lib.rt:88:13
 put-trees-requires : tie.Need-put-trees-requires
 put-trees-requires c κs = search (second-room 6 8)
 
--- src/lib.rt:89:9
-same-length-2 : tie.Need-same-length-2
-same-length-2 c = search needs
-
--- src/lib.rt:89:9
 returns-2 : tie.Need-returns-2
 returns-2 c = search put-8
 
--- src/lib.rt:76:1
 returns-3 : tie.Need-returns-3
 returns-3 c = search (at-neither 6 8)
 
@@ -42,9 +25,9 @@ capability-sub-spec =
     tie.close
     (tie.spec
     put-nicknames-requires
-    same-length
+    (λ c. search needs)
     returns
     put-trees-requires
-    same-length-2
+    (λ c. search needs)
     returns-2
     returns-3)

@@ -13,10 +13,6 @@ use Prim.Native.Nat.{_-_, _≤_}
 use borrow.Author.Needs.{needs}
 use Rattle.hello_fill.proofs.geninfo_subs.Statement.{statement}
 use Rattle.hello_fill.proofs.geninfo_subs.Tie as tie
-use Rattle.hello_fill.proofs.geninfo_subs.Reads as reads
-use Rattle.hello_fill.proofs.geninfo_subs.Lts as lts
-use Rattle.hello_fill.proofs.geninfo_sub.Reads as geninfo-sub-reads
-use Rattle.hello_judge.proofs.end_of.Reads as end-of-reads
 
 abbrev Inv-loop : tie.InvT-loop
 Inv-loop l out₀ at₀ p₀ out at p = (at ≤ length l) × ((length out ≡ length out₀) × (Room (rest (subWords 22) l at) (rest (subWords 23) l at) p (length out₀) × (walked (filling (subWords 22) (subWords 23)) (onArea p₀ out₀) (tlvs l) ≡ walked (filling (subWords 22) (subWords 23)) (onArea p out) (tlvs (drop at l)))))
@@ -24,59 +20,18 @@ Inv-loop l out₀ at₀ p₀ out at p = (at ≤ length l) × ((length out ≡ le
 abbrev μ-loop : tie.MeasureT-loop
 μ-loop l out₀ at₀ p₀ out at p = length l - at
 
--- src/lib.rt:144:5
 loop-holds : tie.Need-loop-holds Inv-loop μ-loop
 loop-holds c = (search needs, (refl, (search room-first, refl)))
 
--- src/lib.rt:145:13
-end-of-requires : tie.Need-end-of-requires Inv-loop μ-loop
-end-of-requires c κs = search needs
-
--- src/lib.rt:147:13
-same-length : tie.Need-same-length Inv-loop μ-loop
-same-length c = search needs
-
--- src/lib.rt:147:13
 returns : tie.Need-returns Inv-loop μ-loop
 returns c = search (fill-cut, stump-words)
 
--- src/lib.rt:149:17
-add-s : tie.Need-add-s Inv-loop μ-loop
-add-s c = search needs
-
--- src/lib.rt:150:25
-shared-slice-read-geninfo-sub : tie.Need-shared-slice-read-geninfo-sub Inv-loop μ-loop
-shared-slice-read-geninfo-sub c = search needs
-
--- src/lib.rt:150:32
-sub-geninfo-sub : tie.Need-sub-geninfo-sub Inv-loop μ-loop
-sub-geninfo-sub c = search needs
-
--- src/lib.rt:150:32
-part-geninfo-sub-start : tie.Need-part-geninfo-sub-start Inv-loop μ-loop
-part-geninfo-sub-start c = search needs
-
--- src/lib.rt:150:32
-part-geninfo-sub-end : tie.Need-part-geninfo-sub-end Inv-loop μ-loop
-part-geninfo-sub-end c = search needs
-
--- src/lib.rt:150:9
 geninfo-sub-requires : tie.Need-geninfo-sub-requires Inv-loop μ-loop
 geninfo-sub-requires c κs = search (room-here (subWords 22) (subWords 23))
 
--- src/lib.rt:144:5
-loop-less : tie.Need-loop-less Inv-loop μ-loop
-loop-less c = search needs
-
--- src/lib.rt:144:5
 loop-again : tie.Need-loop-again Inv-loop μ-loop
 loop-again c = (search needs, (search needs, (search room-next, search walk-next)))
 
--- src/lib.rt:138:1
-same-length-2 : tie.Need-same-length-2 Inv-loop μ-loop
-same-length-2 c = search needs
-
--- src/lib.rt:138:1
 returns-2 : tie.Need-returns-2 Inv-loop μ-loop
 returns-2 c = search fill-done
 
@@ -87,16 +42,16 @@ geninfo-subs-spec =
     Inv-loop
     μ-loop
     loop-holds
-    end-of-requires
-    same-length
+    (λ c κs. search needs)
+    (λ c. search needs)
     returns
-    add-s
-    shared-slice-read-geninfo-sub
-    sub-geninfo-sub
-    part-geninfo-sub-start
-    part-geninfo-sub-end
+    (λ c. search needs)
+    (λ c. search needs)
+    (λ c. search needs)
+    (λ c. search needs)
+    (λ c. search needs)
     geninfo-sub-requires
-    loop-less
+    (λ c. search needs)
     loop-again
-    same-length-2
+    (λ c. search needs)
     returns-2)

@@ -7,68 +7,46 @@ use native.Mathlib.Omega.{arith}
 use borrow.Author.Needs.{needs}
 use Rattle.hello_read.proofs.put_sections.Statement.{statement}
 use Rattle.hello_read.proofs.put_sections.Tie as tie
-use Rattle.hello_read.proofs.put_sections.Reads as reads
-use Rattle.hello_read.proofs.put_sections.Lts as lts
-use Rattle.hello_fill.proofs.capability_sections.Reads as capability-sections-reads
-use Rattle.hello_fill.proofs.geninfo_sections.Reads as geninfo-sections-reads
 
--- src/lib.rt:44:17
 mul-n : tie.Need-mul-n
 mul-n c = let s = c .before .before .before in let l = s .args .l .now in let e = s .pre .0 in let w = size-22 l (s .args .c) e in let x = size-6 l (s .args .c) e in let y = size-8 l (s .args .c) e in let z = size-23 l (s .args .c) e in let n = all-length (items l) in omega arith
 
--- src/lib.rt:44:13
 add-n : tie.Need-add-n
 add-n c = let s = c .before .before .before in let l = s .args .l .now in let e = s .pre .0 in let w = size-22 l (s .args .c) e in let x = size-6 l (s .args .c) e in let y = size-8 l (s .args .c) e in let z = size-23 l (s .args .c) e in let n = all-length (items l) in omega arith
 
--- src/lib.rt:45:22
 mul-t : tie.Need-mul-t
 mul-t c = let s = c .before .before .before .before in let l = s .args .l .now in let e = s .pre .0 in let w = size-22 l (s .args .c) e in let x = size-6 l (s .args .c) e in let y = size-8 l (s .args .c) e in let z = size-23 l (s .args .c) e in let n = all-length (items l) in omega arith
 
--- src/lib.rt:45:18
 add-t : tie.Need-add-t
 add-t c = let s = c .before .before .before .before in let l = s .args .l .now in let e = s .pre .0 in let w = size-22 l (s .args .c) e in let x = size-6 l (s .args .c) e in let y = size-8 l (s .args .c) e in let z = size-23 l (s .args .c) e in let n = all-length (items l) in omega arith
 
--- src/lib.rt:45:13
 add-t-2 : tie.Need-add-t-2
 add-t-2 c = let s = c .before .before .before .before in let l = s .args .l .now in let e = s .pre .0 in let w = size-22 l (s .args .c) e in let x = size-6 l (s .args .c) e in let y = size-8 l (s .args .c) e in let z = size-23 l (s .args .c) e in let n = all-length (items l) in omega arith
 
--- src/lib.rt:46:22
 mul-m : tie.Need-mul-m
 mul-m c = let s = c .before .before .before .before .before in let l = s .args .l .now in let e = s .pre .0 in let w = size-22 l (s .args .c) e in let x = size-6 l (s .args .c) e in let y = size-8 l (s .args .c) e in let z = size-23 l (s .args .c) e in let n = all-length (items l) in omega arith
 
--- src/lib.rt:46:18
 add-m : tie.Need-add-m
 add-m c = let s = c .before .before .before .before .before in let l = s .args .l .now in let e = s .pre .0 in let w = size-22 l (s .args .c) e in let x = size-6 l (s .args .c) e in let y = size-8 l (s .args .c) e in let z = size-23 l (s .args .c) e in let n = all-length (items l) in omega arith
 
--- src/lib.rt:46:13
 add-m-2 : tie.Need-add-m-2
 add-m-2 c = let s = c .before .before .before .before .before in let l = s .args .l .now in let e = s .pre .0 in let w = size-22 l (s .args .c) e in let x = size-6 l (s .args .c) e in let y = size-8 l (s .args .c) e in let z = size-23 l (s .args .c) e in let n = all-length (items l) in omega arith
 
--- src/lib.rt:47:5
 geninfo-sections-requires : tie.Need-geninfo-sections-requires
 geninfo-sections-requires c κs = let s = c .before .before .before .before .before .before in let l = s .args .l .now in let e = s .pre .0 in let w = size-22 l (s .args .c) e in let x = size-6 l (s .args .c) e in let y = size-8 l (s .args .c) e in let z = size-23 l (s .args .c) e in let n = all-length (items l) in ((count-22 (items l) (s .args .c) e, count-23 (items l) (s .args .c) e), (omega arith, omega arith))
 
--- src/lib.rt:48:5
 capability-sections-requires : tie.Need-capability-sections-requires
 capability-sections-requires c κs = let s = c .before .before .before .before .before .before .before .before .before .before in let l = s .args .l .now in let e = s .pre .0 in let w = size-22 l (s .args .c) e in let x = size-6 l (s .args .c) e in let y = size-8 l (s .args .c) e in let z = size-23 l (s .args .c) e in let n = all-length (items l) in ((count-6 (items l) (s .args .c) e, count-8 (items l) (s .args .c) e), (omega arith, omega arith))
 
--- src/lib.rt:49:14
 mul-result : tie.Need-mul-result
 mul-result c = let s = c .before .before .before .before .before .before .before .before .before .before .before .before .before .before in let l = s .args .l .now in let e = s .pre .0 in let w = size-22 l (s .args .c) e in let x = size-6 l (s .args .c) e in let y = size-8 l (s .args .c) e in let z = size-23 l (s .args .c) e in let n = all-length (items l) in omega arith
 
--- src/lib.rt:49:10
 add-result : tie.Need-add-result
 add-result c = let s = c .before .before .before .before .before .before .before .before .before .before .before .before .before .before in let l = s .args .l .now in let e = s .pre .0 in let w = size-22 l (s .args .c) e in let x = size-6 l (s .args .c) e in let y = size-8 l (s .args .c) e in let z = size-23 l (s .args .c) e in let n = all-length (items l) in omega arith
 
--- src/lib.rt:49:5
 add-result-2 : tie.Need-add-result-2
 add-result-2 c = let s = c .before .before .before .before .before .before .before .before .before .before .before .before .before .before in let l = s .args .l .now in let e = s .pre .0 in let w = size-22 l (s .args .c) e in let x = size-6 l (s .args .c) e in let y = size-8 l (s .args .c) e in let z = size-23 l (s .args .c) e in let n = all-length (items l) in omega arith
 
--- src/lib.rt:40:1
-same-length : tie.Need-same-length
-same-length c = search needs
-
--- src/lib.rt:40:1
 returns : tie.Need-returns
 returns c = let s = c .before .before .before .before .before .before .before .before .before .before .before .before .before .before in let l = s .args .l .now in let e = s .pre .0 in let w = size-22 l (s .args .c) e in let x = size-6 l (s .args .c) e in let y = size-8 l (s .args .c) e in let z = size-23 l (s .args .c) e in let n = all-length (items l) in (search (sections-put, w, x, y), omega arith)
 
@@ -89,5 +67,5 @@ put-sections-spec =
     mul-result
     add-result
     add-result-2
-    same-length
+    (λ c. search needs)
     returns)

@@ -1,7 +1,6 @@
 -- `hello_read::sections_fit` meets its contract: what is left of the room is compared, and never a sum.
 -- Assumes nothing.
 use Rattle.hello_read.proofs.Laws.{fits-none, fits-one, fits-two, fits-three, fits-all}
-use borrow.Author.Needs.{needs}
 use Rattle.hello_read.proofs.sections_fit.Statement.{statement}
 use Rattle.hello_read.proofs.sections_fit.Tie as tie
 

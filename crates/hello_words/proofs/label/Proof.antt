@@ -1,7 +1,6 @@
 -- `hello_words::label` meets its contract: return by return.
 -- Assumes nothing.
 use Rattle.hello_words.proofs.Words.{label-fine, label-vlan}
-use borrow.Author.Needs.{needs}
 use Rattle.hello_words.proofs.label.Statement.{statement}
 use Rattle.hello_words.proofs.label.Tie as tie
 
