@@ -42,10 +42,14 @@ pub fn portion(
     let m = steps(slot, k, n);
     match flush_call::clear_portion(ingress, payload, slot, m, table) {
         Swept::Refused(r) => PortionAnswer::Refused(r),
-        Swept::Done(s) => PortionAnswer::Portioned(Portion {
-            cleared: s.cleared as u16,
-            next: (slot + s.examined) as u16,
-            examined: s.examined as u16,
-        }),
+        Swept::Done(s) => {
+            let cleared = s.cleared;
+            let examined = s.examined;
+            PortionAnswer::Portioned(Portion {
+                cleared: cleared as u16,
+                next: (slot + examined) as u16,
+                examined: examined as u16,
+            })
+        }
     }
 }

@@ -23,41 +23,36 @@ clear-portion-requires c κs =
     let a = c .before .before .before .before .before .before .before .before .args in
     portion-within (a .ingress) (a .payload .now) _ _ _ _ (c .before .before .before .before .table-good .ensures) (not-false _ (c .before .before .before .if1 .left)) (c .before .before .if2 .left) _ (c .before .steps .ensures)
 
-cast-t20 : tie.Need-cast-t20
-cast-t20 c =
-    let d = c .before in
-    let n = d .before .before .before .before .before .before .before .before .before .before in
-    let a = n .before .before .before .before .args in
-    omega (arith, count-fits (a .ingress) (a .payload .now) (a .slot) (a .k) (a .table .now) _ (n .table-good .ensures) (not-false _ (d .before .before .before .before .before .before .before .before .before .if1 .left)) (d .before .before .before .before .before .before .before .before .if2 .left) _ (d .before .before .before .before .before .before .before .steps .ensures) _ _ (d .before .before .before .before .before .clear-portion .ensures) _ (d .before .s .given .1))
-
-add-t21 : tie.Need-add-t21
-add-t21 c =
-    let d = c .before .before in
-    let n = d .before .before .before .before .before .before .before .before .before .before in
-    let a = n .before .before .before .before .args in
-    omega (arith, examined-fits (a .ingress) (a .payload .now) (a .slot) (a .k) (a .table .now) _ (n .table-good .ensures) (not-false _ (d .before .before .before .before .before .before .before .before .before .if1 .left)) (d .before .before .before .before .before .before .before .before .if2 .left) _ (d .before .before .before .before .before .before .before .steps .ensures) _ _ (d .before .before .before .before .before .clear-portion .ensures) _ (d .before .s .given .1))
-
 cast-t22 : tie.Need-cast-t22
 cast-t22 c =
-    let d = c .before .before in
-    let n = d .before .before .before .before .before .before .before .before .before .before in
+    let n = c .before .before .before .before .before .before .before .before .before .before in
     let a = n .before .before .before .before .args in
-    omega (arith, examined-fits (a .ingress) (a .payload .now) (a .slot) (a .k) (a .table .now) _ (n .table-good .ensures) (not-false _ (d .before .before .before .before .before .before .before .before .before .if1 .left)) (d .before .before .before .before .before .before .before .before .if2 .left) _ (d .before .before .before .before .before .before .before .steps .ensures) _ _ (d .before .before .before .before .before .clear-portion .ensures) _ (d .before .s .given .1))
+    omega (arith, count-fits (a .ingress) (a .payload .now) (a .slot) (a .k) (a .table .now) _ (n .table-good .ensures) (not-false _ (c .before .before .before .before .before .before .before .before .before .if1 .left)) (c .before .before .before .before .before .before .before .before .if2 .left) _ (c .before .before .before .before .before .before .before .steps .ensures) _ _ (c .before .before .before .before .before .clear-portion .ensures) _ (c .before .s .given .1))
 
-cast-t23 : tie.Need-cast-t23
-cast-t23 c =
-    let d = c .before .before .before in
-    let n = d .before .before .before .before .before .before .before .before .before .before in
+add-t23 : tie.Need-add-t23
+add-t23 c =
+    let n = c .before .before .before .before .before .before .before .before .before .before in
     let a = n .before .before .before .before .args in
-    omega (arith, examined-fits (a .ingress) (a .payload .now) (a .slot) (a .k) (a .table .now) _ (n .table-good .ensures) (not-false _ (d .before .before .before .before .before .before .before .before .before .if1 .left)) (d .before .before .before .before .before .before .before .before .if2 .left) _ (d .before .before .before .before .before .before .before .steps .ensures) _ _ (d .before .before .before .before .before .clear-portion .ensures) _ (d .before .s .given .1))
+    omega (arith, examined-fits (a .ingress) (a .payload .now) (a .slot) (a .k) (a .table .now) _ (n .table-good .ensures) (not-false _ (c .before .before .before .before .before .before .before .before .before .if1 .left)) (c .before .before .before .before .before .before .before .before .if2 .left) _ (c .before .before .before .before .before .before .before .steps .ensures) _ _ (c .before .before .before .before .before .clear-portion .ensures) _ (c .before .s .given .1))
+
+cast-t24 : tie.Need-cast-t24
+cast-t24 c =
+    let n = c .before .before .before .before .before .before .before .before .before .before in
+    let a = n .before .before .before .before .args in
+    omega (arith, examined-fits (a .ingress) (a .payload .now) (a .slot) (a .k) (a .table .now) _ (n .table-good .ensures) (not-false _ (c .before .before .before .before .before .before .before .before .before .if1 .left)) (c .before .before .before .before .before .before .before .before .if2 .left) _ (c .before .before .before .before .before .before .before .steps .ensures) _ _ (c .before .before .before .before .before .clear-portion .ensures) _ (c .before .s .given .1))
+
+cast-t25 : tie.Need-cast-t25
+cast-t25 c =
+    let n = c .before .before .before .before .before .before .before .before .before .before in
+    let a = n .before .before .before .before .args in
+    omega (arith, examined-fits (a .ingress) (a .payload .now) (a .slot) (a .k) (a .table .now) _ (n .table-good .ensures) (not-false _ (c .before .before .before .before .before .before .before .before .before .if1 .left)) (c .before .before .before .before .before .before .before .before .if2 .left) _ (c .before .before .before .before .before .before .before .steps .ensures) _ _ (c .before .before .before .before .before .clear-portion .ensures) _ (c .before .s .given .1))
 
 returns-3 : tie.Need-returns-3
 returns-3 c = portion-corrupt _ _ _ _ _ _ (c .before .before .before .before .before .before .before .before .before .before .table-good .ensures) (not-false _ (c .before .before .before .before .before .before .before .before .before .if1 .left)) (c .before .before .before .before .before .before .before .before .if2 .left) _ (c .before .before .before .before .before .before .before .steps .ensures) _ _ (c .before .before .before .before .before .clear-portion .ensures) _ (c .before .r .given .1)
 
 returns-4 : tie.Need-returns-4
 returns-4 c =
-    let d = c .before .before .before in
-    portion-done _ _ _ _ _ _ (d .before .before .before .before .before .before .before .before .before .before .table-good .ensures) (not-false _ (d .before .before .before .before .before .before .before .before .before .if1 .left)) (d .before .before .before .before .before .before .before .before .if2 .left) _ (d .before .before .before .before .before .before .before .steps .ensures) _ _ (d .before .before .before .before .before .clear-portion .ensures) _ (d .before .s .given .1)
+    portion-done _ _ _ _ _ _ (c .before .before .before .before .before .before .before .before .before .before .table-good .ensures) (not-false _ (c .before .before .before .before .before .before .before .before .before .if1 .left)) (c .before .before .before .before .before .before .before .before .if2 .left) _ (c .before .before .before .before .before .before .before .steps .ensures) _ _ (c .before .before .before .before .before .clear-portion .ensures) _ (c .before .s .given .1)
 
 pub portion-spec : {M : Type 1} → statement M
 portion-spec =
@@ -72,10 +67,10 @@ portion-spec =
     clear-portion-requires
     (λ c. search needs)
     (λ c. search needs)
-    cast-t20
-    add-t21
     cast-t22
-    cast-t23
+    add-t23
+    cast-t24
+    cast-t25
     (λ c. search needs)
     returns-3
     (λ c. search needs)
