@@ -26,7 +26,7 @@ const NICKNAME: u8 = 6;
 const TREES: u8 = 8;
 
 // How many numbers an area has.
-fn size(area: &[u8]) -> usize
+pub fn size(area: &[u8]) -> usize
     ensures { λ r. ⌜ (r ≡ length (numbersIn (now (area .entry)))) × (8 * r ≤ length (now (area .entry))) ⌝ }
 {
     area.len() / 8

@@ -2,3 +2,4 @@
 pub mod Taking
 pub mod Walking
 pub mod Calls
+pub mod Sizing

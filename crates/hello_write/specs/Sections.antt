@@ -1,8 +1,9 @@
 -- A contents area by its sections: their sub-TLVs, and the walk over them.
 -- Assumes nothing.
-use Prim.Native.Nat.{ℕ, _+_}
+use Prim.Native.Nat.{ℕ, _+_, _≤_}
 use mathlib.Core.List.{List, _++_}
-use lib.ListN.{getD}
+use mathlib.Core.Path.{_≡_}
+use lib.ListN.{length, getD}
 use Rattle.hello.specs.Pieces.{Sub, parametersType, smartMacType, nicknameType, treesType}
 use Rattle.hello.specs.Area.{takeCounted}
 use Rattle.hello_area.specs.Entries.{takeSub, reach, subsAt}
@@ -34,3 +35,11 @@ atFirst = record { cursor = unopened; next = 0 }
 
 unfoldable pub walked : ℕ → List ℕ → Walk → Walk
 walked k ns w = record { cursor = steppedAll (w .cursor) (sectionAt k ns (w .next)); next = sectionEnd k ns (w .next) }
+
+-- where a walk is not past the end, its cursor is that of the sub-TLVs
+pub record Follows (ns : List ℕ) (c : Cursor) (ss : List Sub) (r : Walk) : Type 0 where
+  pub is : r .next ≤ length ns → r .cursor ≡ steppedAll c ss
+
+-- where an area is not refused, its payload has the size
+pub record SizeIs (ns : List ℕ) (r size : ℕ) : Type 0 where
+  pub is : r ≡ 0 → size ≡ steppedAll unopened (subsIn ns) .at

@@ -6,12 +6,15 @@ ghost use lib.ListN.{length};
 ghost use Rattle.numbers.specs.After.{onArea};
 ghost use Rattle.hello.specs.Pieces.{parametersType, nicknameType};
 ghost use Rattle.hello.specs.Area.{takeMany};
-ghost use Rattle.hello.specs.Calls.{writeCall};
+ghost use Rattle.hello.specs.Calls.{areaWritten, writeCall};
 ghost use Rattle.hello_area.specs.Entries.{numbersIn, holderFor, takeSub, takeSubs, reach, subAt, subsAt};
+ghost use Rattle.hello_ends.specs.Below.{refusalOf};
 ghost use Rattle.hello_entry.specs.Kinds.{hasSection};
 ghost use Rattle.hello_put.specs.Placing.{unopened, steppedBy, placed, steppedAll, placedAll};
-ghost use Rattle.hello_write.specs.Sections.{sectionAt, sectionEnd, subsIn, frontIn, atFirst, walked};
+ghost use Rattle.hello_write.specs.Sections.{sectionAt, sectionEnd, subsIn, frontIn, atFirst, walked, Follows, SizeIs};
+use hello::HELLO_MALFORMED;
 use hello::HelloAnswer;
+use hello::PARAMETERS_MISSING;
 use hello_put::Cursor;
 use numbers::refusals::AREA_SHORT;
 
@@ -35,6 +38,12 @@ pub struct Walk {
     pub next: usize,
 }
 
+// What a contents area is refused with, or 0, and the size of its payload.
+pub struct Judgement {
+    pub refusal: u8,
+    pub size: usize,
+}
+
 // The TLV that holds sub-TLVs of a type.
 fn holder(kind: u8) -> u64
     ensures { λ r. ⌜ (r ≡ holderFor kind) × (r < 256) ⌝ }
@@ -56,15 +65,35 @@ fn entry_size(kind: u8, area: &[u8], i: usize, c: Cursor) -> Cursor
     hello_put::step(c, holder(kind), hello_entry::size(kind, area, i))
 }
 
-// So many entries of a section.
-fn entries_size(kind: u8, area: &[u8], i: usize, m: usize, c: Cursor) -> Walk
-    requires { ⌜ ((hasSection kind ≡ true) × (reach (takeMany (takeSub kind) m) (numbersIn (now area)) i ≤ length (numbersIn (now area)))) × ((c .start ≤ c .at) × (c .at ≤ 9 * i)) ⌝ }
-    ensures { λ r. ⌜ ((r .cursor ≡ steppedAll c (subsAt kind (numbersIn (now (area .entry))) i m)) × (r .next ≡ reach (takeMany (takeSub kind) m) (numbersIn (now (area .entry))) i)) × ((r .cursor .start ≤ r .cursor .at) × (r .cursor .at ≤ 9 * r .next)) ⌝ }
+// A walk that is past the end of an area of so many numbers.
+fn past(n: usize) -> Walk
+    requires { ⌜ 8 * n < 2 ^ 64 ⌝ }
+    ensures { λ r. ⌜ (r .next ≡ n + 1) × ((r .cursor .start ≤ r .cursor .at) × (r .cursor .at ≤ 9 * r .next)) ⌝ }
 {
+    Walk {
+        cursor: Cursor {
+            holder: 0,
+            start: 0,
+            at: 0,
+        },
+        next: n + 1,
+    }
+}
+
+// Judges so many entries of a section, with the cursor after them.
+fn entries_size(kind: u8, area: &[u8], i: usize, m: usize, c: Cursor) -> Walk
+    requires { ⌜ ((hasSection kind ≡ true) × (i ≤ length (numbersIn (now area)))) × ((c .start ≤ c .at) × (c .at ≤ 9 * i)) ⌝ }
+    ensures { λ r. ⌜ ((r .next ≡ reach (takeMany (takeSub kind) m) (numbersIn (now (area .entry))) i) × Follows (numbersIn (now (area .entry))) c (subsAt kind (numbersIn (now (area .entry))) i m) r) × ((r .cursor .start ≤ r .cursor .at) × (r .cursor .at ≤ 9 * r .next)) ⌝ }
+{
+    let n = hello_ends::size(area);
     let mut d = c;
     let mut at = i;
     let mut j = 0;
     while j < m {
+        let e = hello_ends::entry_end(kind, area, at);
+        if n < e {
+            return past(n);
+        }
         d = entry_size(kind, area, at, d);
         at = hello_entry::next(kind, area, at);
         j += 1;
@@ -77,9 +106,13 @@ fn entries_size(kind: u8, area: &[u8], i: usize, m: usize, c: Cursor) -> Walk
 
 // A section, behind its count.
 fn section_size(kind: u8, area: &[u8], w: Walk) -> Walk
-    requires { ⌜ ((hasSection kind ≡ true) × (sectionEnd kind (numbersIn (now area)) (w .next) ≤ length (numbersIn (now area)))) × ((w .cursor .start ≤ w .cursor .at) × (w .cursor .at ≤ 9 * w .next)) ⌝ }
-    ensures { λ r. ⌜ (r ≡ walked kind (numbersIn (now (area .entry))) w) × ((r .cursor .start ≤ r .cursor .at) × (r .cursor .at ≤ 9 * r .next)) ⌝ }
+    requires { ⌜ (hasSection kind ≡ true) × ((w .cursor .start ≤ w .cursor .at) × (w .cursor .at ≤ 9 * w .next)) ⌝ }
+    ensures { λ r. ⌜ ((r .next ≡ sectionEnd kind (numbersIn (now (area .entry))) (w .next)) × Follows (numbersIn (now (area .entry))) (w .cursor) (sectionAt kind (numbersIn (now (area .entry))) (w .next)) r) × ((r .cursor .start ≤ r .cursor .at) × (r .cursor .at ≤ 9 * r .next)) ⌝ }
 {
+    let n = hello_ends::size(area);
+    if n <= w.next {
+        return past(n);
+    }
     let m = hello_ends::number(area, w.next) as usize;
     entries_size(kind, area, w.next + 1, m, w.cursor)
 }
@@ -98,16 +131,47 @@ fn at_first() -> Walk
     }
 }
 
-// How long the payload is.
-fn payload_size(area: &[u8]) -> usize
-    requires { ⌜ reach takeSubs (numbersIn (now area)) 0 ≤ length (numbersIn (now area)) ⌝ }
-    ensures { λ r. ⌜ r ≡ steppedAll unopened (subsIn (numbersIn (now (area .entry)))) .at ⌝ }
+// The four sections.
+fn sections_size(area: &[u8]) -> Walk
+    ensures { λ r. ⌜ (r .next ≡ reach takeSubs (numbersIn (now (area .entry))) 0) × Follows (numbersIn (now (area .entry))) unopened (subsIn (numbersIn (now (area .entry)))) r ⌝ }
 {
     let a = section_size(PARAMETERS, area, at_first());
     let b = section_size(NICKNAME, area, a);
     let c = section_size(TREES, area, b);
-    let d = section_size(SMART_MAC, area, c);
-    d.cursor.at
+    section_size(SMART_MAC, area, c)
+}
+
+// The number that writing an area is refused with before its room is judged, or 0, and how long the payload is.
+fn judge(area: &[u8]) -> Judgement
+    ensures { λ r. ⌜ (r .refusal ≡ refusalOf (areaWritten (now (area .entry)))) × SizeIs (numbersIn (now (area .entry))) (r .refusal) (r .size) ⌝ }
+{
+    if area.len() % 8 != 0 {
+        return refused(HELLO_MALFORMED);
+    }
+    let w = sections_size(area);
+    if w.next != hello_ends::size(area) {
+        return refused(HELLO_MALFORMED);
+    }
+    let p = hello_ends::number(area, 0);
+    if 1 < p {
+        return refused(HELLO_MALFORMED);
+    }
+    if p < 1 {
+        return refused(PARAMETERS_MISSING);
+    }
+    Judgement {
+        refusal: 0,
+        size: w.cursor.at,
+    }
+}
+
+fn refused(n: u8) -> Judgement
+    ensures { λ r. ⌜ r .refusal ≡ n ⌝ }
+{
+    Judgement {
+        refusal: n,
+        size: 0,
+    }
 }
 
 // Writes an entry as its sub-TLV, and gives the cursor after it.
@@ -174,14 +238,13 @@ fn put_payload(area: &[u8], out: &mut [u8])
 pub fn hello_write(contents: &[u8], out: &mut [u8]) -> HelloAnswer
     ensures { λ r. ⌜ onArea r (now (out .exit)) ≡ writeCall (now (contents .entry)) (now (out .entry)) ⌝ }
 {
-    let j = hello_ends::judge(contents);
-    if j != 0 {
-        return HelloAnswer::Refused(j);
+    let j = judge(contents);
+    if j.refusal != 0 {
+        return HelloAnswer::Refused(j.refusal);
     }
-    let n = payload_size(contents);
-    if out.len() < n {
+    if out.len() < j.size {
         return HelloAnswer::Refused(AREA_SHORT);
     }
     put_payload(contents, out);
-    HelloAnswer::Written(n)
+    HelloAnswer::Written(j.size)
 }

@@ -1,36 +1,43 @@
--- `hello_write::entries_size` meets its contract. The invariant: the cursor, moved over what is left, is where the whole ends; and no number brings more than nine bytes.
+-- `hello_write::entries_size` meets its contract. The invariant: what is left to take reaches where the whole does, the cursor, moved over it, is where the whole ends; and no number brings more than nine bytes.
 -- Assumes nothing.
 use Prim.Native.Nat.{_-_, _*_, _≤_}
 use mathlib.Core.Path.{_≡_}
+use lib.ListN.{length}
 use Rattle.hello.specs.Area.{takeMany}
 use Rattle.hello_area.specs.Entries.{numbersIn, takeSub, reach, subsAt}
 use Rattle.hello_ends.proofs.Shapes.{suffix-sub, many-start, many-next}
 use Rattle.hello_put.specs.Placing.{steppedAll}
-use Rattle.hello_write.proofs.Walking.{entry-ordered, entry-most, entries-start, entry-good, entries-next, entries-done, entries-end, cursor-small}
+use Rattle.hello_write.proofs.Walking.{entry-ordered, entry-most, entries-start, entries-next}
+use Rattle.hello_write.proofs.Sizing.{past-follows, entry-within, next-within, walk-small, entry-past, walk-done, walk-follows}
 use borrow.Author.Needs.{needs}
 use Rattle.hello_write.proofs.entries_size.Statement.{statement}
 use Rattle.hello_write.proofs.entries_size.Tie as tie
 
 abbrev Inv-loop : tie.InvT-loop
-Inv-loop kind area i m d₀ at₀ j₀ d at j = ((j ≤ m) × ((d .start ≤ d .at) × (d .at ≤ 9 * at))) × ((reach (takeMany (takeSub kind) (m - j)) (numbersIn area) at ≡ reach (takeMany (takeSub kind) m) (numbersIn area) i) × (steppedAll d (subsAt kind (numbersIn area) at (m - j)) ≡ steppedAll d₀ (subsAt kind (numbersIn area) i m)))
+Inv-loop kind area i m n d₀ at₀ j₀ d at j = ((j ≤ m) × ((at ≤ length (numbersIn area)) × ((d .start ≤ d .at) × (d .at ≤ 9 * at)))) × ((reach (takeMany (takeSub kind) (m - j)) (numbersIn area) at ≡ reach (takeMany (takeSub kind) m) (numbersIn area) i) × (steppedAll d (subsAt kind (numbersIn area) at (m - j)) ≡ steppedAll d₀ (subsAt kind (numbersIn area) i m)))
 
 abbrev μ-loop : tie.MeasureT-loop
-μ-loop kind area i m d₀ at₀ j₀ d at j = m - j
+μ-loop kind area i m n d₀ at₀ j₀ d at j = m - j
 
 loop-holds : tie.Need-loop-holds Inv-loop μ-loop
-loop-holds c = ((search needs, (search needs, search needs)), (search (many-start, suffix-sub), search entries-start))
-
-entry-size-requires : tie.Need-entry-size-requires Inv-loop μ-loop
-entry-size-requires c κs = ((search needs, search entry-good), (search needs, search cursor-small))
-
-next-requires : tie.Need-next-requires Inv-loop μ-loop
-next-requires c κs = search entry-good
-
-loop-again : tie.Need-loop-again Inv-loop μ-loop
-loop-again c = ((search needs, (search (entry-ordered, entry-good), search (entry-most, entry-good))), (search (many-next, suffix-sub), search entries-next))
+loop-holds c = ((search needs, (search needs, (search needs, search needs))), (search (many-start, suffix-sub), search entries-start))
 
 returns : tie.Need-returns Inv-loop μ-loop
-returns c = ((search entries-done, search entries-end), (search needs, search needs))
+returns c = ((search entry-past, search past-follows), (search needs, search needs))
+
+entry-size-requires : tie.Need-entry-size-requires Inv-loop μ-loop
+entry-size-requires c κs = ((search needs, entry-within _ _ _ _ _ (c .before .before .before .before .size .ensures .0) (c .before .entry-end .ensures) (search needs)), (search needs, search walk-small))
+
+next-requires : tie.Need-next-requires Inv-loop μ-loop
+next-requires c κs = entry-within _ _ _ _ _ (c .before .before .before .before .before .size .ensures .0) (c .before .before .entry-end .ensures) (search needs)
+
+loop-again : tie.Need-loop-again Inv-loop μ-loop
+loop-again c =
+    let good = entry-within _ _ _ _ _ (c .before .before .before .before .before .before .size .ensures .0) (c .before .before .before .entry-end .ensures) (search needs) in
+    ((search needs, (search next-within, (search (entry-ordered, good), search (entry-most, good)))), (search (many-next, suffix-sub), search entries-next))
+
+returns-2 : tie.Need-returns-2 Inv-loop μ-loop
+returns-2 c = ((search walk-done, search walk-follows), (search needs, search needs))
 
 pub entries-size-spec : {M : Type 1} → statement M
 entries-size-spec =
@@ -38,10 +45,14 @@ entries-size-spec =
     (tie.spec
     Inv-loop
     μ-loop
+    (λ c κs. search needs)
     loop-holds
+    (λ c κs. search needs)
+    (λ c κs. search needs)
+    returns
     entry-size-requires
     next-requires
     (λ c. search needs)
     (λ c. search needs)
     loop-again
-    returns)
+    returns-2)

@@ -1,0 +1,33 @@
+-- `hello_write::sections_size` meets its contract: each section starts where the one before it ends.
+-- Assumes nothing.
+use Rattle.hello_write.proofs.Walking.{kinds, first-ordered, first-most}
+use Rattle.hello_write.proofs.Sizing.{sections-end, sections-follow}
+use borrow.Author.Needs.{needs}
+use Rattle.hello_write.proofs.sections_size.Statement.{statement}
+use Rattle.hello_write.proofs.sections_size.Tie as tie
+
+section-size-requires : tie.Need-section-size-requires
+section-size-requires c κs = (search kinds, (search first-ordered, search first-most))
+
+section-size-requires-2 : tie.Need-section-size-requires-2
+section-size-requires-2 c κs = (search kinds, (search needs, search needs))
+
+section-size-requires-3 : tie.Need-section-size-requires-3
+section-size-requires-3 c κs = (search kinds, (search needs, search needs))
+
+section-size-requires-4 : tie.Need-section-size-requires-4
+section-size-requires-4 c κs = (search kinds, (search needs, search needs))
+
+returns : tie.Need-returns
+returns c = (search sections-end, search sections-follow)
+
+pub sections-size-spec : {M : Type 1} → statement M
+sections-size-spec =
+    tie.close
+    (tie.spec
+    (λ c κs. search needs)
+    section-size-requires
+    section-size-requires-2
+    section-size-requires-3
+    section-size-requires-4
+    returns)
