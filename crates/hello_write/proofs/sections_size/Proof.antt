@@ -12,8 +12,8 @@ section-size-requires c κs = (search kinds, (search first-ordered, search first
 nickname-section-size-requires : tie.Need-nickname-section-size-requires
 nickname-section-size-requires c κs = (search needs, search needs)
 
-section-size-requires-2 : tie.Need-section-size-requires-2
-section-size-requires-2 c κs = (search kinds, (search needs, search needs))
+tree-section-size-requires : tie.Need-tree-section-size-requires
+tree-section-size-requires c κs = (search needs, search needs)
 
 mac-section-size-requires : tie.Need-mac-section-size-requires
 mac-section-size-requires c κs = (search needs, search needs)
@@ -28,6 +28,6 @@ sections-size-spec =
     (λ c κs. search needs)
     section-size-requires
     nickname-section-size-requires
-    section-size-requires-2
+    tree-section-size-requires
     mac-section-size-requires
     returns)
