@@ -7,6 +7,7 @@ use lib.ListN.{length, getD}
 use Rattle.hello.specs.Pieces.{Sub, parametersType, smartMacType, nicknameType, treesType}
 use Rattle.hello.specs.Area.{takeCounted}
 use Rattle.hello_area.specs.Entries.{takeSub, reach, subsAt}
+use Rattle.hello_put.specs.declared.Cursor.{Cursor}
 use Rattle.hello_put.specs.Placing.{unopened, steppedAll}
 use Rattle.hello_write.specs.declared.Walk.{Walk}
 

@@ -4,7 +4,7 @@ ghost use mathlib.Core.Bool.{true};
 ghost use mathlib.Core.Path.{_≡_};
 ghost use lib.ListN.{length};
 ghost use Rattle.numbers.specs.After.{onArea};
-ghost use Rattle.hello.specs.Pieces.{parametersType, nicknameType};
+ghost use Rattle.hello.specs.Pieces.{parametersType, smartMacType, nicknameType, treesType};
 ghost use Rattle.hello.specs.Area.{takeMany};
 ghost use Rattle.hello.specs.Calls.{areaWritten, writeCall};
 ghost use Rattle.hello_area.specs.Entries.{numbersIn, holderFor, takeSub, takeSubs, reach, subAt, subsAt};
@@ -117,6 +117,113 @@ fn section_size(kind: u8, area: &[u8], w: Walk) -> Walk
     entries_size(kind, area, w.next + 1, m, w.cursor)
 }
 
+// The same for the other types, with the type as a constant: the compiler then makes their loops without a test of it. Nicknames go on from
+// the end that was judged, so that entries without one follow without waiting for a count.
+fn nickname_entries_size(area: &[u8], i: usize, m: usize, c: Cursor) -> Walk
+    requires { ⌜ (i ≤ length (numbersIn (now area))) × ((c .start ≤ c .at) × (c .at ≤ 9 * i)) ⌝ }
+    ensures { λ r. ⌜ ((r .next ≡ reach (takeMany (takeSub nicknameType) m) (numbersIn (now (area .entry))) i) × Follows (numbersIn (now (area .entry))) c (subsAt nicknameType (numbersIn (now (area .entry))) i m) r) × ((r .cursor .start ≤ r .cursor .at) × (r .cursor .at ≤ 9 * r .next)) ⌝ }
+{
+    let n = hello_ends::size(area);
+    let mut d = c;
+    let mut at = i;
+    let mut j = 0;
+    while j < m {
+        let e = hello_ends::entry_end(NICKNAME, area, at);
+        if n < e {
+            return past(n);
+        }
+        d = entry_size(NICKNAME, area, at, d);
+        at = e;
+        j += 1;
+    }
+    Walk {
+        cursor: d,
+        next: at,
+    }
+}
+
+fn nickname_section_size(area: &[u8], w: Walk) -> Walk
+    requires { ⌜ (w .cursor .start ≤ w .cursor .at) × (w .cursor .at ≤ 9 * w .next) ⌝ }
+    ensures { λ r. ⌜ ((r .next ≡ sectionEnd nicknameType (numbersIn (now (area .entry))) (w .next)) × Follows (numbersIn (now (area .entry))) (w .cursor) (sectionAt nicknameType (numbersIn (now (area .entry))) (w .next)) r) × ((r .cursor .start ≤ r .cursor .at) × (r .cursor .at ≤ 9 * r .next)) ⌝ }
+{
+    let n = hello_ends::size(area);
+    if n <= w.next {
+        return past(n);
+    }
+    let m = hello_ends::number(area, w.next) as usize;
+    nickname_entries_size(area, w.next + 1, m, w.cursor)
+}
+
+fn tree_entries_size(area: &[u8], i: usize, m: usize, c: Cursor) -> Walk
+    requires { ⌜ (i ≤ length (numbersIn (now area))) × ((c .start ≤ c .at) × (c .at ≤ 9 * i)) ⌝ }
+    ensures { λ r. ⌜ ((r .next ≡ reach (takeMany (takeSub treesType) m) (numbersIn (now (area .entry))) i) × Follows (numbersIn (now (area .entry))) c (subsAt treesType (numbersIn (now (area .entry))) i m) r) × ((r .cursor .start ≤ r .cursor .at) × (r .cursor .at ≤ 9 * r .next)) ⌝ }
+{
+    let n = hello_ends::size(area);
+    let mut d = c;
+    let mut at = i;
+    let mut j = 0;
+    while j < m {
+        let e = hello_ends::entry_end(TREES, area, at);
+        if n < e {
+            return past(n);
+        }
+        d = entry_size(TREES, area, at, d);
+        at = hello_entry::next(TREES, area, at);
+        j += 1;
+    }
+    Walk {
+        cursor: d,
+        next: at,
+    }
+}
+
+fn mac_entries_size(area: &[u8], i: usize, m: usize, c: Cursor) -> Walk
+    requires { ⌜ (i ≤ length (numbersIn (now area))) × ((c .start ≤ c .at) × (c .at ≤ 9 * i)) ⌝ }
+    ensures { λ r. ⌜ ((r .next ≡ reach (takeMany (takeSub smartMacType) m) (numbersIn (now (area .entry))) i) × Follows (numbersIn (now (area .entry))) c (subsAt smartMacType (numbersIn (now (area .entry))) i m) r) × ((r .cursor .start ≤ r .cursor .at) × (r .cursor .at ≤ 9 * r .next)) ⌝ }
+{
+    let n = hello_ends::size(area);
+    let mut d = c;
+    let mut at = i;
+    let mut j = 0;
+    while j < m {
+        let e = hello_ends::entry_end(SMART_MAC, area, at);
+        if n < e {
+            return past(n);
+        }
+        d = entry_size(SMART_MAC, area, at, d);
+        at = hello_entry::next(SMART_MAC, area, at);
+        j += 1;
+    }
+    Walk {
+        cursor: d,
+        next: at,
+    }
+}
+
+fn tree_section_size(area: &[u8], w: Walk) -> Walk
+    requires { ⌜ (w .cursor .start ≤ w .cursor .at) × (w .cursor .at ≤ 9 * w .next) ⌝ }
+    ensures { λ r. ⌜ ((r .next ≡ sectionEnd treesType (numbersIn (now (area .entry))) (w .next)) × Follows (numbersIn (now (area .entry))) (w .cursor) (sectionAt treesType (numbersIn (now (area .entry))) (w .next)) r) × ((r .cursor .start ≤ r .cursor .at) × (r .cursor .at ≤ 9 * r .next)) ⌝ }
+{
+    let n = hello_ends::size(area);
+    if n <= w.next {
+        return past(n);
+    }
+    let m = hello_ends::number(area, w.next) as usize;
+    tree_entries_size(area, w.next + 1, m, w.cursor)
+}
+
+fn mac_section_size(area: &[u8], w: Walk) -> Walk
+    requires { ⌜ (w .cursor .start ≤ w .cursor .at) × (w .cursor .at ≤ 9 * w .next) ⌝ }
+    ensures { λ r. ⌜ ((r .next ≡ sectionEnd smartMacType (numbersIn (now (area .entry))) (w .next)) × Follows (numbersIn (now (area .entry))) (w .cursor) (sectionAt smartMacType (numbersIn (now (area .entry))) (w .next)) r) × ((r .cursor .start ≤ r .cursor .at) × (r .cursor .at ≤ 9 * r .next)) ⌝ }
+{
+    let n = hello_ends::size(area);
+    if n <= w.next {
+        return past(n);
+    }
+    let m = hello_ends::number(area, w.next) as usize;
+    mac_entries_size(area, w.next + 1, m, w.cursor)
+}
+
 // The walk before the first section.
 fn at_first() -> Walk
     ensures { λ r. ⌜ r ≡ atFirst ⌝ }
@@ -136,9 +243,9 @@ fn sections_size(area: &[u8]) -> Walk
     ensures { λ r. ⌜ (r .next ≡ reach takeSubs (numbersIn (now (area .entry))) 0) × Follows (numbersIn (now (area .entry))) unopened (subsIn (numbersIn (now (area .entry)))) r ⌝ }
 {
     let a = section_size(PARAMETERS, area, at_first());
-    let b = section_size(NICKNAME, area, a);
-    let c = section_size(TREES, area, b);
-    section_size(SMART_MAC, area, c)
+    let b = nickname_section_size(area, a);
+    let c = tree_section_size(area, b);
+    mac_section_size(area, c)
 }
 
 // The number that writing an area is refused with before its room is judged, or 0, and how long the payload is.
@@ -187,6 +294,42 @@ fn put_entry(kind: u8, area: &[u8], i: usize, c: Cursor, out: &mut [u8]) -> Curs
     d
 }
 
+fn put_nickname_entry(area: &[u8], i: usize, c: Cursor, out: &mut [u8]) -> Cursor
+    requires { ⌜ (reach (takeSub nicknameType) (numbersIn (now area)) i ≤ length (numbersIn (now area))) × ((c .start ≤ c .at) × (steppedBy c (subAt nicknameType (numbersIn (now area)) i) .at ≤ length (now out))) ⌝ }
+    ensures { λ r. ⌜ (r ≡ steppedBy c (subAt nicknameType (numbersIn (now (area .entry))) i)) × (now (out .exit) ≡ placed (now (out .entry)) c (subAt nicknameType (numbersIn (now (area .entry))) i)) ⌝ }
+{
+    let h = holder(NICKNAME);
+    let n = hello_entry::size(NICKNAME, area, i);
+    let d = hello_put::step(c, h, n);
+    hello_put::open(out, c, h, n);
+    hello_entry::put(NICKNAME, area, i, out, d.at - n);
+    d
+}
+
+fn put_tree_entry(area: &[u8], i: usize, c: Cursor, out: &mut [u8]) -> Cursor
+    requires { ⌜ (reach (takeSub treesType) (numbersIn (now area)) i ≤ length (numbersIn (now area))) × ((c .start ≤ c .at) × (steppedBy c (subAt treesType (numbersIn (now area)) i) .at ≤ length (now out))) ⌝ }
+    ensures { λ r. ⌜ (r ≡ steppedBy c (subAt treesType (numbersIn (now (area .entry))) i)) × (now (out .exit) ≡ placed (now (out .entry)) c (subAt treesType (numbersIn (now (area .entry))) i)) ⌝ }
+{
+    let h = holder(TREES);
+    let n = hello_entry::size(TREES, area, i);
+    let d = hello_put::step(c, h, n);
+    hello_put::open(out, c, h, n);
+    hello_entry::put(TREES, area, i, out, d.at - n);
+    d
+}
+
+fn put_mac_entry(area: &[u8], i: usize, c: Cursor, out: &mut [u8]) -> Cursor
+    requires { ⌜ (reach (takeSub smartMacType) (numbersIn (now area)) i ≤ length (numbersIn (now area))) × ((c .start ≤ c .at) × (steppedBy c (subAt smartMacType (numbersIn (now area)) i) .at ≤ length (now out))) ⌝ }
+    ensures { λ r. ⌜ (r ≡ steppedBy c (subAt smartMacType (numbersIn (now (area .entry))) i)) × (now (out .exit) ≡ placed (now (out .entry)) c (subAt smartMacType (numbersIn (now (area .entry))) i)) ⌝ }
+{
+    let h = holder(SMART_MAC);
+    let n = hello_entry::size(SMART_MAC, area, i);
+    let d = hello_put::step(c, h, n);
+    hello_put::open(out, c, h, n);
+    hello_entry::put(SMART_MAC, area, i, out, d.at - n);
+    d
+}
+
 // So many entries of a section.
 fn put_entries(kind: u8, area: &[u8], i: usize, m: usize, c: Cursor, out: &mut [u8]) -> Walk
     requires { ⌜ ((hasSection kind ≡ true) × (reach (takeMany (takeSub kind) m) (numbersIn (now area)) i ≤ length (numbersIn (now area)))) × ((c .start ≤ c .at) × (steppedAll c (subsAt kind (numbersIn (now area)) i m) .at ≤ length (now out))) ⌝ }
@@ -215,13 +358,92 @@ fn put_section(kind: u8, area: &[u8], w: Walk, out: &mut [u8]) -> Walk
     put_entries(kind, area, w.next + 1, m, w.cursor, out)
 }
 
+// The same for the other types.
+fn put_nickname_entries(area: &[u8], i: usize, m: usize, c: Cursor, out: &mut [u8]) -> Walk
+    requires { ⌜ (reach (takeMany (takeSub nicknameType) m) (numbersIn (now area)) i ≤ length (numbersIn (now area))) × ((c .start ≤ c .at) × (steppedAll c (subsAt nicknameType (numbersIn (now area)) i m) .at ≤ length (now out))) ⌝ }
+    ensures { λ r. ⌜ ((r .cursor ≡ steppedAll c (subsAt nicknameType (numbersIn (now (area .entry))) i m)) × (r .next ≡ reach (takeMany (takeSub nicknameType) m) (numbersIn (now (area .entry))) i)) × ((r .cursor .start ≤ r .cursor .at) × (now (out .exit) ≡ placedAll (now (out .entry)) c (subsAt nicknameType (numbersIn (now (area .entry))) i m))) ⌝ }
+{
+    let mut d = c;
+    let mut at = i;
+    let mut j = 0;
+    while j < m {
+        d = put_nickname_entry(area, at, d, out);
+        at = hello_entry::next(NICKNAME, area, at);
+        j += 1;
+    }
+    Walk {
+        cursor: d,
+        next: at,
+    }
+}
+
+fn put_nickname_section(area: &[u8], w: Walk, out: &mut [u8]) -> Walk
+    requires { ⌜ (sectionEnd nicknameType (numbersIn (now area)) (w .next) ≤ length (numbersIn (now area))) × ((w .cursor .start ≤ w .cursor .at) × (walked nicknameType (numbersIn (now area)) w .cursor .at ≤ length (now out))) ⌝ }
+    ensures { λ r. ⌜ (r ≡ walked nicknameType (numbersIn (now (area .entry))) w) × ((r .cursor .start ≤ r .cursor .at) × (now (out .exit) ≡ placedAll (now (out .entry)) (w .cursor) (sectionAt nicknameType (numbersIn (now (area .entry))) (w .next)))) ⌝ }
+{
+    let m = hello_ends::number(area, w.next) as usize;
+    put_nickname_entries(area, w.next + 1, m, w.cursor, out)
+}
+
+fn put_tree_entries(area: &[u8], i: usize, m: usize, c: Cursor, out: &mut [u8]) -> Walk
+    requires { ⌜ (reach (takeMany (takeSub treesType) m) (numbersIn (now area)) i ≤ length (numbersIn (now area))) × ((c .start ≤ c .at) × (steppedAll c (subsAt treesType (numbersIn (now area)) i m) .at ≤ length (now out))) ⌝ }
+    ensures { λ r. ⌜ ((r .cursor ≡ steppedAll c (subsAt treesType (numbersIn (now (area .entry))) i m)) × (r .next ≡ reach (takeMany (takeSub treesType) m) (numbersIn (now (area .entry))) i)) × ((r .cursor .start ≤ r .cursor .at) × (now (out .exit) ≡ placedAll (now (out .entry)) c (subsAt treesType (numbersIn (now (area .entry))) i m))) ⌝ }
+{
+    let mut d = c;
+    let mut at = i;
+    let mut j = 0;
+    while j < m {
+        d = put_tree_entry(area, at, d, out);
+        at = hello_entry::next(TREES, area, at);
+        j += 1;
+    }
+    Walk {
+        cursor: d,
+        next: at,
+    }
+}
+
+fn put_mac_entries(area: &[u8], i: usize, m: usize, c: Cursor, out: &mut [u8]) -> Walk
+    requires { ⌜ (reach (takeMany (takeSub smartMacType) m) (numbersIn (now area)) i ≤ length (numbersIn (now area))) × ((c .start ≤ c .at) × (steppedAll c (subsAt smartMacType (numbersIn (now area)) i m) .at ≤ length (now out))) ⌝ }
+    ensures { λ r. ⌜ ((r .cursor ≡ steppedAll c (subsAt smartMacType (numbersIn (now (area .entry))) i m)) × (r .next ≡ reach (takeMany (takeSub smartMacType) m) (numbersIn (now (area .entry))) i)) × ((r .cursor .start ≤ r .cursor .at) × (now (out .exit) ≡ placedAll (now (out .entry)) c (subsAt smartMacType (numbersIn (now (area .entry))) i m))) ⌝ }
+{
+    let mut d = c;
+    let mut at = i;
+    let mut j = 0;
+    while j < m {
+        d = put_mac_entry(area, at, d, out);
+        at = hello_entry::next(SMART_MAC, area, at);
+        j += 1;
+    }
+    Walk {
+        cursor: d,
+        next: at,
+    }
+}
+
+fn put_tree_section(area: &[u8], w: Walk, out: &mut [u8]) -> Walk
+    requires { ⌜ (sectionEnd treesType (numbersIn (now area)) (w .next) ≤ length (numbersIn (now area))) × ((w .cursor .start ≤ w .cursor .at) × (walked treesType (numbersIn (now area)) w .cursor .at ≤ length (now out))) ⌝ }
+    ensures { λ r. ⌜ (r ≡ walked treesType (numbersIn (now (area .entry))) w) × ((r .cursor .start ≤ r .cursor .at) × (now (out .exit) ≡ placedAll (now (out .entry)) (w .cursor) (sectionAt treesType (numbersIn (now (area .entry))) (w .next)))) ⌝ }
+{
+    let m = hello_ends::number(area, w.next) as usize;
+    put_tree_entries(area, w.next + 1, m, w.cursor, out)
+}
+
+fn put_mac_section(area: &[u8], w: Walk, out: &mut [u8]) -> Walk
+    requires { ⌜ (sectionEnd smartMacType (numbersIn (now area)) (w .next) ≤ length (numbersIn (now area))) × ((w .cursor .start ≤ w .cursor .at) × (walked smartMacType (numbersIn (now area)) w .cursor .at ≤ length (now out))) ⌝ }
+    ensures { λ r. ⌜ (r ≡ walked smartMacType (numbersIn (now (area .entry))) w) × ((r .cursor .start ≤ r .cursor .at) × (now (out .exit) ≡ placedAll (now (out .entry)) (w .cursor) (sectionAt smartMacType (numbersIn (now (area .entry))) (w .next)))) ⌝ }
+{
+    let m = hello_ends::number(area, w.next) as usize;
+    put_mac_entries(area, w.next + 1, m, w.cursor, out)
+}
+
 // The first two sections.
 fn put_front(area: &[u8], out: &mut [u8]) -> Walk
     requires { ⌜ (reach takeSubs (numbersIn (now area)) 0 ≤ length (numbersIn (now area))) × (steppedAll unopened (subsIn (numbersIn (now area))) .at ≤ length (now out)) ⌝ }
     ensures { λ r. ⌜ (r ≡ walked nicknameType (numbersIn (now (area .entry))) (walked parametersType (numbersIn (now (area .entry))) atFirst)) × ((r .cursor .start ≤ r .cursor .at) × (now (out .exit) ≡ placedAll (now (out .entry)) unopened (frontIn (numbersIn (now (area .entry)))))) ⌝ }
 {
     let w = put_section(PARAMETERS, area, at_first(), out);
-    put_section(NICKNAME, area, w, out)
+    put_nickname_section(area, w, out)
 }
 
 // Writes the payload.
@@ -230,8 +452,8 @@ fn put_payload(area: &[u8], out: &mut [u8])
     ensures { λ _. ⌜ now (out .exit) ≡ placedAll (now (out .entry)) unopened (subsIn (numbersIn (now (area .entry)))) ⌝ }
 {
     let b = put_front(area, out);
-    let c = put_section(TREES, area, b, out);
-    put_section(SMART_MAC, area, c, out);
+    let c = put_tree_section(area, b, out);
+    put_mac_section(area, c, out);
 }
 
 // Writes the Smart-Hello of a contents area.

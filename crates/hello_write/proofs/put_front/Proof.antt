@@ -8,8 +8,8 @@ use Rattle.hello_write.proofs.put_front.Tie as tie
 put-section-requires : tie.Need-put-section-requires
 put-section-requires c κs = ((search kinds, search at-22), (search first-ordered, search room-22))
 
-put-section-requires-2 : tie.Need-put-section-requires-2
-put-section-requires-2 c κs = ((search kinds, search at-6), (search needs, search room-6))
+put-nickname-section-requires : tie.Need-put-nickname-section-requires
+put-nickname-section-requires c κs = (search at-6, (search needs, search room-6))
 
 returns : tie.Need-returns
 returns c = (search front-walked, (search needs, search front-placed))
@@ -17,4 +17,4 @@ returns c = (search front-walked, (search needs, search front-placed))
 pub put-front-spec : {M : Type 1} → statement M
 put-front-spec =
     tie.close
-    (tie.spec (λ c κs. search needs) put-section-requires put-section-requires-2 (λ c. search needs) returns)
+    (tie.spec (λ c κs. search needs) put-section-requires put-nickname-section-requires (λ c. search needs) returns)

@@ -9,14 +9,14 @@ use Rattle.hello_write.proofs.sections_size.Tie as tie
 section-size-requires : tie.Need-section-size-requires
 section-size-requires c κs = (search kinds, (search first-ordered, search first-most))
 
-section-size-requires-2 : tie.Need-section-size-requires-2
-section-size-requires-2 c κs = (search kinds, (search needs, search needs))
+nickname-section-size-requires : tie.Need-nickname-section-size-requires
+nickname-section-size-requires c κs = (search needs, search needs)
 
-section-size-requires-3 : tie.Need-section-size-requires-3
-section-size-requires-3 c κs = (search kinds, (search needs, search needs))
+tree-section-size-requires : tie.Need-tree-section-size-requires
+tree-section-size-requires c κs = (search needs, search needs)
 
-section-size-requires-4 : tie.Need-section-size-requires-4
-section-size-requires-4 c κs = (search kinds, (search needs, search needs))
+mac-section-size-requires : tie.Need-mac-section-size-requires
+mac-section-size-requires c κs = (search needs, search needs)
 
 returns : tie.Need-returns
 returns c = (search sections-end, search sections-follow)
@@ -27,7 +27,7 @@ sections-size-spec =
     (tie.spec
     (λ c κs. search needs)
     section-size-requires
-    section-size-requires-2
-    section-size-requires-3
-    section-size-requires-4
+    nickname-section-size-requires
+    tree-section-size-requires
+    mac-section-size-requires
     returns)

@@ -1,0 +1,49 @@
+-- `hello_write::put_tree_entries` meets its contract. The invariant: what is left, placed at the cursor, is the whole placed.
+-- Assumes nothing.
+use Prim.Native.Nat.{_-_, _≤_}
+use mathlib.Core.Path.{_≡_, refl}
+use lib.ListN.{length}
+use Rattle.hello.specs.Area.{takeMany}
+use Rattle.hello_area.specs.Entries.{numbersIn, takeSub, reach, subsAt}
+use Rattle.hello_ends.proofs.Shapes.{suffix-sub, many-start, many-next}
+use Rattle.hello_put.specs.Placing.{steppedAll, placedAll}
+use Rattle.hello_write.proofs.Walking.{entry-ordered, entries-start, entry-good, entries-next, entries-done, entries-end, puts-start, puts-room, puts-next, puts-done}
+use borrow.Author.Needs.{needs}
+use Rattle.hello_write.proofs.put_tree_entries.Statement.{statement}
+use Rattle.hello_write.proofs.put_tree_entries.Tie as tie
+
+abbrev Inv-loop : tie.InvT-loop
+Inv-loop area i m out₀ d₀ at₀ j₀ out d at j = ((j ≤ m) × (d .start ≤ d .at)) × ((reach (takeMany (takeSub 8) (m - j)) (numbersIn area) at ≡ reach (takeMany (takeSub 8) m) (numbersIn area) i) × ((steppedAll d (subsAt 8 (numbersIn area) at (m - j)) ≡ steppedAll d₀ (subsAt 8 (numbersIn area) i m)) × ((length out ≡ length out₀) × (placedAll out d (subsAt 8 (numbersIn area) at (m - j)) ≡ placedAll out₀ d₀ (subsAt 8 (numbersIn area) i m)))))
+
+abbrev μ-loop : tie.MeasureT-loop
+μ-loop area i m out₀ d₀ at₀ j₀ out d at j = m - j
+
+loop-holds : tie.Need-loop-holds Inv-loop μ-loop
+loop-holds c = ((search needs, search needs), (search (many-start, suffix-sub), (search entries-start, (refl, search puts-start))))
+
+put-tree-entry-requires : tie.Need-put-tree-entry-requires Inv-loop μ-loop
+put-tree-entry-requires c κs = (search entry-good, (search needs, search puts-room))
+
+next-requires : tie.Need-next-requires Inv-loop μ-loop
+next-requires c κs = search entry-good
+
+loop-again : tie.Need-loop-again Inv-loop μ-loop
+loop-again c = ((search needs, search (entry-ordered, entry-good)), (search (many-next, suffix-sub), (search entries-next, (search needs, search puts-next))))
+
+returns : tie.Need-returns Inv-loop μ-loop
+returns c = ((search entries-done, search entries-end), (search needs, search puts-done))
+
+pub put-tree-entries-spec : {M : Type 1} → statement M
+put-tree-entries-spec =
+    tie.close
+    (tie.spec
+    Inv-loop
+    μ-loop
+    loop-holds
+    put-tree-entry-requires
+    next-requires
+    (λ c. search needs)
+    (λ c. search needs)
+    loop-again
+    (λ c. search needs)
+    returns)
