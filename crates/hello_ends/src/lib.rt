@@ -16,8 +16,6 @@ ghost use Rattle.hello_ends.specs.Below.{takeBelow, fieldTop, Over};
 // The types of the sections.
 const PARAMETERS: u8 = 22;
 
-const SMART_MAC: u8 = 23;
-
 const NICKNAME: u8 = 6;
 
 const TREES: u8 = 8;
