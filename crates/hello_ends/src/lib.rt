@@ -9,17 +9,12 @@ ghost use Rattle.numbers.specs.Bytes.{num};
 ghost use Rattle.numbers.specs.Swapped.{swapped4};
 ghost use Rattle.hello.specs.Pieces.{smartMacType, nicknameType};
 ghost use Rattle.hello.specs.Writing.{mostNicknames, mostTrees, labelTop};
-ghost use Rattle.hello.specs.Area.{takeMany, takeCounted};
-ghost use Rattle.hello.specs.Calls.{areaWritten};
-ghost use Rattle.hello_area.specs.Entries.{numbersIn, takeHead, takeItem, mostOf, takeList, takeSub, takeSubs, reach};
-ghost use Rattle.hello_ends.specs.Below.{takeBelow, fieldTop, Over, refusalOf};
-use hello::HELLO_MALFORMED;
-use hello::PARAMETERS_MISSING;
+ghost use Rattle.hello.specs.Area.{takeMany};
+ghost use Rattle.hello_area.specs.Entries.{numbersIn, takeHead, takeItem, mostOf, takeList, takeSub, reach};
+ghost use Rattle.hello_ends.specs.Below.{takeBelow, fieldTop, Over};
 
 // The types of the sections.
 const PARAMETERS: u8 = 22;
-
-const SMART_MAC: u8 = 23;
 
 const NICKNAME: u8 = 6;
 
@@ -253,66 +248,4 @@ pub fn entry_end(kind: u8, area: &[u8], i: usize) -> usize
         return h;
     }
     list_end(kind, area, h)
-}
-
-// So many entries of a section.
-fn entries_end(kind: u8, area: &[u8], i: usize, m: usize) -> usize
-    ensures { λ r. ⌜ r ≡ reach (takeMany (takeSub kind) m) (numbersIn (now (area .entry))) i ⌝ }
-{
-    let n = size(area);
-    let mut at = i;
-    let mut j = 0;
-    while j < m {
-        if n < at {
-            return n + 1;
-        }
-        at = entry_end(kind, area, at);
-        j += 1;
-    }
-    if n < at {
-        return n + 1;
-    }
-    at
-}
-
-// A section, behind its count.
-fn section_end(kind: u8, area: &[u8], i: usize) -> usize
-    ensures { λ r. ⌜ r ≡ reach (takeCounted (takeSub kind)) (numbersIn (now (area .entry))) i ⌝ }
-{
-    let n = size(area);
-    if n <= i {
-        return n + 1;
-    }
-    entries_end(kind, area, i + 1, number(area, i) as usize)
-}
-
-// The four sections.
-pub fn area_end(area: &[u8]) -> usize
-    ensures { λ r. ⌜ r ≡ reach takeSubs (numbersIn (now (area .entry))) 0 ⌝ }
-{
-    let a = section_end(PARAMETERS, area, 0);
-    let b = section_end(NICKNAME, area, a);
-    let c = section_end(TREES, area, b);
-    section_end(SMART_MAC, area, c)
-}
-
-// The number that writing a contents area is refused with before its room is judged, or 0.
-pub fn judge(area: &[u8]) -> u8
-    ensures { λ r. ⌜ r ≡ refusalOf (areaWritten (now (area .entry))) ⌝ }
-{
-    if area.len() % 8 != 0 {
-        return HELLO_MALFORMED;
-    }
-    let n = size(area);
-    if area_end(area) != n {
-        return HELLO_MALFORMED;
-    }
-    let p = number(area, 0);
-    if 1 < p {
-        return HELLO_MALFORMED;
-    }
-    if p < 1 {
-        return PARAMETERS_MISSING;
-    }
-    0
 }

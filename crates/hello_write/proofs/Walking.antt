@@ -184,13 +184,6 @@ module _ (k : ℕ) (ns : List ℕ) (i m : ℕ) where
       let z : m - j ≡ 0 = omega arith in
       sym (ap (λ (n : ℕ). placedAll o d (subsAt k ns at n)) z) ∙ inv
 
--- the cursor fits a machine number
-pub cursor-small : (k : ℕ) (area : List ℕ) (i m j at x : ℕ) → x ≤ 9 * at → j < m → reach (takeMany (takeSub k) (m - j)) (numbersIn area) at ≡ reach (takeMany (takeSub k) m) (numbersIn area) i → reach (takeMany (takeSub k) m) (numbersIn area) i ≤ length (numbersIn area) → length area * 1 < 2 ^ 63 → x < 3 * 2 ^ 62
-cursor-small k area i m j at x h more e good few =
-    let a = reach-got (takeSub k) (numbersIn area) at (entry-good k (numbersIn area) i m j at more e good) .starts in
-    let n = numbers-length area in
-    omega arith
-
 -- ---- a section
 
 module _ (k : ℕ) (ns : List ℕ) (w : Walk) (within : sectionEnd k ns (w .next) ≤ length ns) where
@@ -267,13 +260,6 @@ module _ (ns : List ℕ) (within : reach takeSubs ns 0 ≤ length ns) (z : Walk)
         pub at-23 : sectionEnd 23 ns (c .next) ≤ length ns
         unfolding walked
         at-23 = rw (ec, eb, ea, ez) (within-23 ns within)
-
-        pub all-walked : (d : Walk) → d ≡ walked 23 ns c → d .cursor .at ≡ steppedAll unopened (subsIn ns) .at
-        unfolding walked subsIn
-        all-walked d ed =
-            rw (ed, ec, eb, ea, ez)
-            (ap (λ (c : Cursor). c .at)
-            (sym (stepped-append (sectionAt 22 ns 0) _ unopened ∙ stepped-append (sectionAt 6 ns _) _ _ ∙ stepped-append (sectionAt 8 ns _) _ _)))
 
 -- ---- and written
 
