@@ -79,7 +79,7 @@
  * flush and writes no report, which is every call but receive, receive_port, flush, flush_vlan_only,
  * flush_portion and report.
  * Measured on x86-64: tests/c/stack.c paints the stack of a thread, makes the calls that take most, and
- * fails where one takes more. What the dynamic loader takes when it binds memmove and memset, about
+ * fails where one takes more. What the dynamic loader takes when it binds memcpy, memmove and memset, about
  * 3,000 bytes, is counted. */
 #define SHINGLEBAR_STACK_MAX 98304
 #define SHINGLEBAR_STACK_MAX_WITHOUT_FLUSH 8192
