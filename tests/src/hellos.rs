@@ -6,6 +6,45 @@ use crate::reference::{Contents, Nickname, Parameters, SmartMac, Trees};
 pub const CAPABILITY: u8 = 242;
 pub const GENINFO: u8 = 251;
 
+/// The payload of the request, in hexadecimal, and the numbers that it is read as.
+pub const VECTOR: &str =
+    "FB 09 00 0001 16 04 001E 0000  F2 14 00000000 00 06 05 40 8000 1234 08 06 0001 1234 1235 \
+     FB 0F 00 0001 17 0A 40 00000A 020000000001";
+pub const NUMBERS: [u64; 19] = [
+    1,
+    30,
+    0,
+    1,
+    1,
+    0x40,
+    0x8000,
+    0x1234,
+    1,
+    1,
+    2,
+    0x1234,
+    0x1235,
+    1,
+    0,
+    1,
+    10,
+    1,
+    0x0200_0000_0001,
+];
+
+/// The bytes of hexadecimal digits.
+pub fn bytes(hex: &str) -> Vec<u8> {
+    let digits: String = hex.split_whitespace().collect();
+    (0..digits.len() / 2)
+        .map(|at| u8::from_str_radix(&digits[2 * at..2 * at + 2], 16).unwrap())
+        .collect()
+}
+
+/// A contents area of these numbers.
+pub fn area(numbers: &[u64]) -> Vec<u8> {
+    numbers.iter().flat_map(|n| n.to_be_bytes()).collect()
+}
+
 /// A number of so many bits, its ends often.
 fn field(random: &mut Random, bits: u32) -> u64 {
     let most = (1 << bits) - 1;

@@ -813,32 +813,9 @@ fn offer_hello(replay: &mut Replay) {
 /// Writing Smart-Hellos (2026-13): the contents of the request, in areas with and without room, cut, too long and without parameters, and
 /// any.
 fn offer_hello_write(replay: &mut Replay) {
-    const NUMBERS: [u64; 19] = [
-        1,
-        30,
-        0,
-        1,
-        1,
-        0x40,
-        0x8000,
-        0x1234,
-        1,
-        1,
-        2,
-        0x1234,
-        0x1235,
-        1,
-        0,
-        1,
-        10,
-        1,
-        0x0200_0000_0001,
-    ];
-    let area =
-        |numbers: &[u64]| -> Vec<u8> { numbers.iter().flat_map(|n| n.to_be_bytes()).collect() };
-    let good = area(&NUMBERS);
-    let without = area(&[&[0], &NUMBERS[3..]].concat());
-    let mut wide = NUMBERS;
+    let good = hellos::area(&hellos::NUMBERS);
+    let without = hellos::area(&[&[0], &hellos::NUMBERS[3..]].concat());
+    let mut wide = hellos::NUMBERS;
     wide[16] = 0x1000;
     for (room, contents) in [
         (50, &good[..]),
@@ -846,10 +823,10 @@ fn offer_hello_write(replay: &mut Replay) {
         (60, &good),
         (60, &good[..151]),
         (60, &good[..144]),
-        (60, &area(&wide)),
+        (60, &hellos::area(&wide)),
         (60, &without),
         (0, &without),
-        (60, &area(&[&NUMBERS[..], &[0]].concat())),
+        (60, &hellos::area(&[&hellos::NUMBERS[..], &[0]].concat())),
         (0, &[]),
     ] {
         let contents = contents.to_vec();

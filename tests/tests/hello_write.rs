@@ -3,21 +3,10 @@
 use shinglebar_tests::c_program;
 use shinglebar_tests::compare;
 use shinglebar_tests::generate;
-use shinglebar_tests::hellos;
+use shinglebar_tests::hellos::{self, area, bytes, NUMBERS, VECTOR};
 use shinglebar_tests::random::Random;
 use shinglebar_tests::reference::{Contents, Nickname, Parameters, SmartMac, Trees};
 use shinglebar_tests::run;
-
-fn bytes(hex: &str) -> Vec<u8> {
-    let digits: String = hex.split_whitespace().collect();
-    (0..digits.len() / 2)
-        .map(|at| u8::from_str_radix(&digits[2 * at..2 * at + 2], 16).unwrap())
-        .collect()
-}
-
-fn area(numbers: &[u64]) -> Vec<u8> {
-    numbers.iter().flat_map(|n| n.to_be_bytes()).collect()
-}
 
 /// What is read of a payload, in an area that has room.
 fn read(random: &mut Random, payload: &[u8]) -> Vec<u8> {
@@ -36,31 +25,6 @@ fn write(random: &mut Random, contents: &[u8]) -> (u64, Vec<u8>) {
     out.truncate(written as usize);
     (word, out)
 }
-
-const VECTOR: &str =
-    "FB 09 00 0001 16 04 001E 0000  F2 14 00000000 00 06 05 40 8000 1234 08 06 0001 1234 1235 \
-     FB 0F 00 0001 17 0A 40 00000A 020000000001";
-const NUMBERS: [u64; 19] = [
-    1,
-    30,
-    0,
-    1,
-    1,
-    0x40,
-    0x8000,
-    0x1234,
-    1,
-    1,
-    2,
-    0x1234,
-    0x1235,
-    1,
-    0,
-    1,
-    10,
-    1,
-    0x0200_0000_0001,
-];
 
 #[test]
 fn the_vector_of_the_request_is_written() {
