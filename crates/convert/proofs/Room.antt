@@ -6,14 +6,14 @@ use native.Mathlib.Omega.{arith}
 use mathlib.Core.Bool.{Bool, true, false, not}
 use mathlib.Core.List.{List}
 use mathlib.Core.Logic.{_↔_}
-use mathlib.Core.Path.{_≡_, refl, sym, ap, _∙_}
+use mathlib.Core.Path.{_≡_, refl, sym, ap}
 use lib.Dec.{leb}
 use lib.ListN.{length, drop, length-drop}
-use borrow.Author.Tests.{leb-true, leb-false, le-leb, lt-leb}
-use Rattle.numbers.specs.Tests.{pick, both}
+use borrow.Author.Tests.{leb-true, leb-false, le-leb}
+use Rattle.numbers.specs.Tests.{pick}
 use Rattle.numbers.specs.Result.{Result, refused, got, check, andThen, settled}
 use Rattle.numbers.specs.Refusals.{settings-bad, area-short, not-compactable}
-use Rattle.numbers.specs.After.{OnArea, onArea}
+use Rattle.numbers.specs.After.{onArea}
 use Rattle.numbers.specs.Bytes.{num, laid}
 use Rattle.numbers.proofs.Truth.{between-is}
 use Rattle.numbers.proofs.Answers.{refused-got, check-got}

@@ -13,7 +13,7 @@ use Rattle.numbers.specs.Result.{Result, refused, got, check, andThen, settled}
 use Rattle.numbers.specs.Refusals.{table-length-bad}
 use Rattle.numbers.specs.After.{OnTable, onTable}
 use Rattle.numbers.proofs.Answers.{got-got, check-got, then-got}
-use Rattle.numbers.proofs.Truth.{not-true-false, both-true, both-pass, pick-true, pick-false}
+use Rattle.numbers.proofs.Truth.{not-true-false, both-true, both-pass, pick-true, pick-false, false-true}
 use Rattle.table.specs.Record.{unpacked, isFree, isLearned}
 use Rattle.table.specs.Slots.{tableGood, slotsOf, slotAt, freed, onSlots, countSlots}
 use Rattle.table.specs.Claims.{Apart}
@@ -31,7 +31,6 @@ use Rattle.flush.specs.Sets.{Meant}
 use Rattle.flush.specs.Claims.{learnedThenFree, SlotFacts, Flushes, FlushExact, FlushingKeepsApart, FlushRefusal}
 use Rattle.flush.specs.declared.FlushAnswer.{FlushAnswer}
 use Rattle.flush.specs.declared.FlushAnswer.the-variants.{Refused, Flushed}
-use Rattle.flush.proofs.Lists.{false-true}
 use Rattle.flush.proofs.Sets.{nickname-agrees, label-agrees, mac-agrees, sets-agree}
 use Rattle.flush.proofs.Payloads.{payload-facts}
 

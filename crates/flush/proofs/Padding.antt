@@ -15,7 +15,7 @@ use borrow.Author.Tests.{leb-true, le-leb, eq-eqb, ne-eqb, not-true}
 use Rattle.numbers.specs.Tests.{pick, both, either, anyOf}
 use Rattle.numbers.specs.Bytes.{parts}
 use Rattle.numbers.specs.Result.{got, andThen}
-use Rattle.numbers.proofs.Truth.{both-right, pick-true, pick-false}
+use Rattle.numbers.proofs.Truth.{both-right, pick-true, pick-false, false-true}
 use Rattle.numbers.proofs.Answers.{got-got, check-got, check-pass}
 use Rattle.table.specs.Record.{unpacked}
 use Rattle.table.specs.declared.Label.{Label}
@@ -26,7 +26,6 @@ use Rattle.flush.specs.Payload.{Types, everyType, Piece, tlv, block, stu
 use Rattle.flush.specs.Meaning.{vlanIn, fineIn, macIn, someMacIn, bringsLabel, bringsMac, gathersMac, nicknameMeant, labelMeant, macMeant, entryMeant}
 use Rattle.flush.specs.Flush.{heldMeant, slotMeant, clearedBy, clearing, flushed}
 use Rattle.flush.specs.Padding.{zeros, padded, SameSets, Padded, PaddedFlush}
-use Rattle.flush.proofs.Lists.{false-true}
 use Rattle.flush.proofs.Validity.{tlvs-end, tlvs-padding, tlvs-lone, tlvs-stump, tlvs-more, false-not}
 
 -- ---- TLVs and zeros after them

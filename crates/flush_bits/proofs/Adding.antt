@@ -12,8 +12,8 @@ use lib.ListN.{length, getD, set, length-set}
 use borrow.Author.Tests.{eq-eqb, ne-eqb, leb-true}
 use Rattle.numbers.specs.Tests.{pick, both, either}
 use Rattle.numbers.specs.Numberings.{bitOf, bitAt}
-use Rattle.numbers.proofs.Truth.{both-true}
-use Rattle.flush_bits.proofs.Laws.{every, every-at, alike, alike-same, byte-other, added-same, either-none}
+use Rattle.numbers.proofs.Truth.{both-true, either-none}
+use Rattle.flush_bits.proofs.Laws.{every, every-at, alike, alike-same, byte-other, added-same}
 use Rattle.flush_bits.specs.Ranged.{Widened}
 
 -- ---- bit k of a byte, or none

@@ -15,7 +15,7 @@ use lib.Seq.{getD-set-same, getD-set-other}
 use borrow.Author.Tests.{le-leb, lt-leb, leb-true, leb-false, eqb-true}
 use Rattle.numbers.specs.Tests.{both, either}
 use Rattle.numbers.specs.Numberings.{bitOf, bitAt}
-use Rattle.numbers.proofs.Truth.{both-true, both-right}
+use Rattle.numbers.proofs.Truth.{both-true, both-right, either-none, either-all}
 use Rattle.flush_bits.specs.Ranged.{maskOf, Ranged}
 
 -- ---- a rule that is computed for every number below a bound
@@ -136,16 +136,6 @@ module _ (s : List ℕ) (i m : ℕ) (h : i < length s) (x : ℕ) where
   added-same e = byte-same s i _ x h e ∙ or-bit (getD s i 0) m (x % 8) ∙ rw e
 
 -- ---- numbers added
-
-pub either-none : (a : Bool) → either a false ≡ a
-unfolding either
-either-none true = refl
-either-none false = refl
-
-pub either-all : (a : Bool) → either a true ≡ true
-unfolding either
-either-all true = refl
-either-all false = refl
 
 pub range-none : (s : List ℕ) (first : ℕ) → Ranged s s first first
 range-none s first = record { long = refl; below = λ x h. refl; inside = λ x h g. absurd (omega arith); above = λ x h. refl }

@@ -9,8 +9,7 @@ use native.Mathlib.Omega.{arith}
 use lib.Dec.{leb}
 use borrow.Author.Tests.{leb-true}
 use Rattle.numbers.specs.Tests.{both}
-use Rattle.numbers.proofs.Truth.{both-true}
-use Rattle.flush.proofs.Lists.{false-true}
+use Rattle.numbers.proofs.Truth.{both-true, false-true}
 use Rattle.numbers.specs.Numberings.{bitAt}
 use Rattle.flush_bits.specs.Ranged.{Ranged}
 use Rattle.flush_buckets.specs.Buckets.{bucketOf, aloneOf, Keeps, Added, Names}

@@ -11,6 +11,7 @@ use Rattle.numbers.specs.Result.{Result, refused, got, check, andThen, settled}
 use Rattle.numbers.specs.Refusals.{payload-corrupt, table-length-bad}
 use Rattle.numbers.specs.After.{OnTable, onTable, tableAs}
 use Rattle.numbers.proofs.Answers.{got-got, then-got}
+use Rattle.numbers.proofs.Lists.{rest-is}
 use Rattle.table.specs.Slots.{mostSlots, tableGood, slotsOf, countSlots}
 use Rattle.table.proofs.Slots.{count-few, good-slots}
 use Rattle.flush.specs.Payload.{everyType, nickBytes, blockCount, behind, blockBytes, piecesOf, made}
@@ -18,7 +19,6 @@ use Rattle.flush.specs.Flush.{slotMeant, clearedBy, clearing, flushed}
 use Rattle.flush.specs.Validity.{Valid}
 use Rattle.flush.specs.declared.FlushAnswer.the-variants as answer
 use Rattle.flush.proofs.Validity.{validity}
-use Rattle.flush_payload.proofs.Laws.{rest-is}
 use Rattle.flush_payload.specs.Judging.{Noted, JudgedPayload}
 use Rattle.flush_payload.specs.declared.Kinds.{Kinds}
 use Rattle.flush_payload.specs.declared.Judged.{Judged}

@@ -1,7 +1,7 @@
 -- Laws of the filters in a row: what the kinds that were noted say of labels and MACs, and that a slot is meant exactly if it passes all
 -- filters.
 -- Assumes nothing.
-use Prim.Native.Nat.{ℕ, _+_, _≤_}
+use Prim.Native.Nat.{ℕ}
 use mathlib.Core.Bool.{Bool, true, false, not, _||_}
 use mathlib.Core.List.{List, [], _∷_}
 use mathlib.Core.Path.{_≡_, refl, sym, ap, _∙_}
@@ -9,7 +9,7 @@ use native.Mathlib.Decide.{ℕ-discrete}
 use lib.Dec.{eqb}
 use borrow.Author.Tests.{eq-eqb}
 use Rattle.numbers.specs.Tests.{pick, both, either, anyOf}
-use Rattle.numbers.proofs.Truth.{or-either}
+use Rattle.numbers.proofs.Truth.{or-either, either-neither, either-all, false-true, either-passes}
 use Rattle.table.specs.Record.{recordOf, kindOf, labelOf, macOf, nicknameOf, labelFrom, entryOf, unpacked, isLearned}
 use Rattle.table.specs.Slots.{slotsOf}
 use Rattle.table.specs.declared.Label.the-variants.{Vlan, Fine}
@@ -19,8 +19,7 @@ use Rattle.table.proofs.Contents.{learned-entry}
 use Rattle.flush.specs.Payload.{everyType, Piece, tlv, block, stump, tlvs, piecesOf, Payload}
 use Rattle.flush.specs.Meaning.{fineIn, someMacIn, bringsLabel, gathersMac, nicknameMeant, labelMeant, macMeant, entryMeant}
 use Rattle.flush.specs.Flush.{heldMeant, slotMeant}
-use Rattle.flush.proofs.Lists.{false-true}
-use Rattle.flush_payload.specs.Judging.{everyKind, vlanKind, listKind, mapKind, macKind, ofKind, Noted}
+use Rattle.flush_payload.specs.Judging.{everyKind, listKind, mapKind, macKind, ofKind, Noted}
 use Rattle.flush_payload.specs.declared.Kinds.{Kinds}
 use Rattle.flush_payload.proofs.Laws.{none-brought}
 use Rattle.flush_vlans.specs.Vlans.{VlansNoted}
@@ -31,18 +30,6 @@ use Rattle.flush_nicknames.specs.First.{kindMeant, fineNoted, slotFirst, FirstP
 use Rattle.flush_call.specs.Clearing.{payloadFrom, fineLeft}
 
 -- ---- tests of some piece
-
-pub either-neither : (a b : Bool) → either a b ≡ false → (a ≡ false) × (b ≡ false)
-unfolding either
-either-neither true b e = (cc, cc)
-either-neither false b e = (refl, e)
-
-either-passes : (a b c d : Bool) → (a ≡ true → c ≡ true) → (b ≡ true → d ≡ true) → either a b ≡ true → either c d ≡ true
-unfolding either
-either-passes true b true d f g e = refl
-either-passes true b false d f g e = false-true (f refl)
-either-passes false b true d f g e = refl
-either-passes false b false d f g e = g e
 
 module _ (p q : Piece → Bool) where
   any-same : ((x : Piece) → p x ≡ q x) → (ps : List Piece) → anyOf p ps ≡ anyOf q ps
@@ -146,11 +133,6 @@ module _ (p : Payload) (ingress : ℕ) where
   three-tests r =
       four-assoc (isLearned (unpacked r)) (nicknameMeant ingress (p .nicks) (nicknameOf (recordOf r))) (labelMeant everyType (p .pieces) (labelFrom (kindOf (recordOf r)) (labelOf (recordOf r)))) (macMeant everyType (p .pieces) (macOf (recordOf r)))
       ∙ sym (by-learned r (isLearned (unpacked r)) refl)
-
-either-all : (a : Bool) → either a true ≡ true
-unfolding either
-either-all true = refl
-either-all false = refl
 
 module _ (n : ℕ) (r : List ℕ) (f : Kinds) (noted : Noted everyType n (piecesOf n r) f) where
   pub vlans-noted : VlansNoted (piecesOf n r) f

@@ -1,16 +1,15 @@
 -- Laws of clearing by a walk: what was noted of a good payload says what its pieces mean.
 -- Assumes nothing.
 use Prim.Native.Nat.{ℕ, zero, suc, _+_}
-use mathlib.Core.Bool.{Bool, true, false, not}
+use mathlib.Core.Bool.{Bool, true, false}
 use mathlib.Core.List.{List}
-use mathlib.Core.Path.{_≡_, refl, sym, ap, _∙_}
+use mathlib.Core.Path.{_≡_, refl, sym, _∙_}
 use lib.Dec.{eqb}
-use Rattle.numbers.specs.Tests.{pick, both, either, anyOf}
-use Rattle.numbers.specs.After.{onTable}
-use Rattle.numbers.proofs.Truth.{both-true}
-use Rattle.table.specs.Record.{recordOf, kindOf, labelOf, macOf, nicknameOf, vlanKind, labelFrom, entryOf, unpacked, isLearned}
+use Rattle.numbers.specs.Tests.{pick, both, either}
+use Rattle.numbers.proofs.Truth.{either-neither}
+use Rattle.table.specs.Record.{recordOf, kindOf, labelOf, macOf, vlanKind, labelFrom, entryOf, unpacked, isLearned}
 use Rattle.table.specs.Slots.{slotAt, onSlots, countSlots}
-use Rattle.table.specs.declared.Label.the-variants.{Vlan, Fine}
+use Rattle.table.specs.declared.Label.the-variants.{Fine}
 use Rattle.flush.specs.Payload.{everyType, Piece, piecesOf}
 use Rattle.flush.specs.Meaning.{labelMeant, macMeant, entryMeant}
 use Rattle.flush.specs.Flush.{slotMeant, clearedSlot}
@@ -19,7 +18,7 @@ use Rattle.flush_payload.specs.declared.Kinds.{Kinds}
 use Rattle.flush_marks.specs.Marks.{clearedIn, sweptIn}
 use Rattle.flush_walk.specs.Noted.{labelNoted, macNoted, slotNoted}
 use Rattle.flush_call.specs.Clearing.{payloadFrom}
-use Rattle.flush_call.proofs.Tests.{either-neither, any-passes, every-fine, none-fine, none-gathers, by-learned}
+use Rattle.flush_call.proofs.Tests.{any-passes, every-fine, none-fine, none-gathers, by-learned}
 
 -- ---- two tests that say the same clear the same
 

@@ -10,9 +10,9 @@ use lib.ListN.{length, take, replicate}
 use lib.Seq.{length-take-le}
 use Rattle.numbers.specs.Tests.{both, either, anyOf}
 use Rattle.numbers.specs.Numberings.{macs, bitAt}
+use Rattle.numbers.proofs.Truth.{false-true}
 use Rattle.table.specs.Slots.{slotsOf, slotAt, mostSlots}
 use Rattle.flush.specs.Payload.{Piece}
-use Rattle.flush.proofs.Lists.{false-true}
 use Rattle.flush_sort.specs.Sorting.{SortOf}
 use Rattle.flush_parts.specs.Named.{fineNaming, namedOf}
 use Rattle.flush_buckets.specs.Buckets.{HasBits}

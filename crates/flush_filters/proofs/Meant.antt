@@ -9,6 +9,7 @@ use lib.Dec.{eqb}
 use borrow.Author.Tests.{ne-eqb}
 use Rattle.numbers.specs.Tests.{pick, both, either, anyOf}
 use Rattle.numbers.specs.Numberings.{fines, macs, inBlocks, inList, inMap}
+use Rattle.numbers.proofs.Truth.{either-swap}
 use Rattle.table.specs.Record.{recordOf, kindOf, labelOf, macOf}
 use Rattle.table.specs.declared.Label.the-variants as label
 use Rattle.flush.specs.Payload.{everyType, Piece, tlv, block, stump, tlvs, piecesOf}
@@ -34,20 +35,13 @@ piece-apart x (tlv k v) = go (eqb k 6) (pick (eqb k 3) (inBlocks fines x v) (pic
 piece-apart x (block b) = refl
 piece-apart x stump = refl
 
-mixed : (a b c d : Bool) → either (either a b) (either c d) ≡ either (either a c) (either b d)
-unfolding either
-mixed true b c d = refl
-mixed false true true d = refl
-mixed false true false d = refl
-mixed false false c d = refl
-
 fines-apart : (x : ℕ) (ps : List Piece) → labelMeant everyType ps (label.Fine x) ≡ either (anyOf (isType 6) ps) (namedOf (namingOf Fine) ps x)
 unfolding labelMeant namedOf anyOf either
 fines-apart x [] = refl
 fines-apart x (p ∷ ps) =
     ap (λ (b : Bool). either b (anyOf (bringsLabel everyType (label.Fine x)) ps)) (piece-apart x p)
     ∙ ap (either (either (isType 6 p) (namedIn (namingOf Fine) p x))) (fines-apart x ps)
-    ∙ mixed (isType 6 p) (namedIn (namingOf Fine) p x) (anyOf (isType 6) ps) _
+    ∙ either-swap (isType 6 p) (namedIn (namingOf Fine) p x) (anyOf (isType 6) ps) _
 
 not-twice : (b : Bool) → not (not b) ≡ b
 not-twice true = refl

@@ -1,10 +1,10 @@
 -- Laws of hits: where a list is split, which keys a range hits, and which a bit map.
 -- Assumes nothing.
 use Prim.{tt}
-use Prim.Native.Nat.{ℕ, zero, suc, _+_, _-_, _*_, _/_, _^_, _≤_, _<_}
+use Prim.Native.Nat.{ℕ, suc, _+_, _-_, _*_, _/_, _≤_, _<_}
 use mathlib.Core.Bool.{Bool, true, false}
-use mathlib.Core.List.{List, [], _∷_}
-use mathlib.Core.Path.{_≡_, refl, sym, ap, _∙_}
+use mathlib.Core.List.{List}
+use mathlib.Core.Path.{_≡_, refl, sym, _∙_}
 use native.Mathlib.Decide.{decLt, ℕ-discrete}
 use native.Mathlib.Numerals.{add-one}
 use native.Mathlib.Omega.{arith}
@@ -15,12 +15,10 @@ use lib.Seq.{length-take-le, getD-take, getD-drop}
 use Rattle.numbers.specs.Tests.{both, either}
 use Rattle.numbers.specs.Numberings.{bitAt, inMap}
 use Rattle.numbers.specs.declared.Numbering.{Numbering}
-use Rattle.numbers.proofs.Truth.{both-left, both-right, both-pass, not-true-false}
-use Rattle.flush.proofs.Lists.{false-true}
+use Rattle.numbers.proofs.Truth.{both-left, both-right, both-pass, not-true-false, either-none, either-all, false-true}
 use Rattle.flush_bits.specs.Ranged.{Ranged, Widened}
-use Rattle.flush_bits.proofs.Laws.{either-all}
 use Rattle.flush_sort.specs.Sorting.{All, Sorted}
-use Rattle.flush_sort.proofs.Laws.{all-at, either-none}
+use Rattle.flush_sort.proofs.Laws.{all-at}
 use Rattle.flush_buckets.specs.Buckets.{bucketOf, aloneOf, Nears, keySlots}
 use Rattle.flush_intervals.specs.Hits.{Splits, Searched, Hits, HitsTo}
 use Rattle.flush_intervals.proofs.Ranges.{all-map, sorted-below, sorted-above}

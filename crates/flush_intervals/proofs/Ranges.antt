@@ -1,20 +1,20 @@
 -- Laws of sorted lists, and of the search by halves.
 -- Assumes nothing.
 use Prim.{tt}
-use Prim.Native.Nat.{ℕ, zero, suc, _+_, _-_, _*_, _/_, _%_, _^_, _≤_, _<_}
+use Prim.Native.Nat.{ℕ, zero, suc, _+_, _-_, _*_, _/_, _^_, _≤_, _<_}
 use mathlib.Core.Bool.{Bool, true, false}
-use mathlib.Core.List.{List, [], _∷_, _++_}
-use mathlib.Core.Path.{_≡_, refl, sym, ap, _∙_}
+use mathlib.Core.List.{List, [], _∷_}
+use mathlib.Core.Path.{_≡_, refl}
 use native.Mathlib.Nat.{mul-one, mul-zero, le-trans, lt-of-le-of-lt}
 use native.Mathlib.Numerals.{add-one}
 use native.Mathlib.Omega.{arith}
 use lib.Dec.{leb}
-use borrow.Author.Tests.{le-leb, lt-leb, leb-true, leb-false}
-use lib.ListN.{length, take, drop, getD, set, take-append-drop, length-set, drop-of-length-le, List·getD-eq-default}
-use lib.Seq.{drop-drop, drop-cons, take-suc-set, append-snoc, take-all}
-use Rattle.numbers.specs.Tests.{pick, both, either, anyOf}
+use borrow.Author.Tests.{leb-true, leb-false}
+use lib.ListN.{length, take, drop, getD, drop-of-length-le}
+use lib.Seq.{drop-drop}
+use Rattle.numbers.specs.Tests.{pick}
 use Rattle.flush_sort.specs.Sorting.{All, Sorted}
-use Rattle.flush_sort.proofs.Laws.{all-at, any-append, either-none, either-assoc}
+use Rattle.flush_sort.proofs.Laws.{all-at}
 use Rattle.flush_buckets.specs.Buckets.{keySlots}
 use Rattle.flush_intervals.specs.Hits.{Splits}
 

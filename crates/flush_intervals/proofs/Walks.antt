@@ -13,11 +13,10 @@ use borrow.Author.Tests.{eq-eqb, ne-eqb}
 use Rattle.numbers.specs.Tests.{pick, both, either, anyOf}
 use Rattle.numbers.specs.Numberings.{inBlocks, inList, inMap, bitAt}
 use Rattle.numbers.specs.declared.Numbering.{Numbering}
-use Rattle.numbers.proofs.Truth.{and-both}
+use Rattle.numbers.proofs.Truth.{and-both, either-none, either-assoc}
+use Rattle.numbers.proofs.Parts.{parts-end, parts-more}
 use Rattle.flush.specs.Payload.{tlv, tlvEnd, tlvs}
-use Rattle.flush.proofs.Lists.{parts-end, parts-more}
 use Rattle.flush.proofs.Validity.{tlvs-end, tlvs-rest, tlvs-more}
-use Rattle.flush_sort.proofs.Laws.{either-none, either-assoc}
 use Rattle.flush_parts.specs.Parts.{spanFor, lowFor, pastFor, hitFor, partsHit}
 use Rattle.flush_parts.specs.Named.{namedIn, namedOf}
 use Rattle.flush_parts.specs.declared.Naming.{Naming}

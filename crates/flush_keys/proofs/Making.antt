@@ -14,9 +14,9 @@ use lib.Seq.{take-suc-set, take-set-le}
 use borrow.Author.Tests.{eq-eqb, ne-eqb}
 use Rattle.numbers.specs.Tests.{pick, both, either, anyOf}
 use Rattle.numbers.specs.Numberings.{bitAt}
-use Rattle.numbers.proofs.Truth.{both-right}
+use Rattle.numbers.proofs.Truth.{both-right, either-none}
 use Rattle.table.specs.Slots.{slotBytes, mostSlots, slotAt}
-use Rattle.flush_sort.proofs.Laws.{either-none, any-append}
+use Rattle.flush_sort.proofs.Laws.{any-append}
 use Rattle.flush_buckets.specs.Buckets.{bucketOf, HasBits, keySlots}
 use Rattle.flush_keys.specs.Keys.{numberIn, appliesTo, InTable, keyed, KeysOf}
 use Rattle.flush_keys.specs.declared.Field.{Field}

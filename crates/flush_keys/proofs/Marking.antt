@@ -10,9 +10,8 @@ use lib.Dec.{eqb}
 use lib.ListN.{length, drop, getD}
 use Rattle.numbers.specs.Tests.{both, either, anyOf}
 use Rattle.numbers.specs.Numberings.{bitAt}
-use Rattle.numbers.proofs.Truth.{both-right}
+use Rattle.numbers.proofs.Truth.{both-right, either-none, either-assoc}
 use Rattle.table.specs.Slots.{slotBytes, slotAt}
-use Rattle.flush_sort.proofs.Laws.{either-none, either-assoc}
 use Rattle.flush_buckets.specs.Buckets.{bucketBytes, bucketOf, aloneOf, Keeps, Nears, keySlots}
 use Rattle.flush_bits.specs.Ranged.{Widened}
 use Rattle.flush_keys.specs.Keys.{appliesTo, keyed, Hit, Marked, Joined}

@@ -6,14 +6,14 @@ use mathlib.Core.List.{List}
 use mathlib.Core.Path.{_≡_, refl, sym, ap, _∙_}
 use native.Mathlib.Decide.{ℕ-discrete}
 use native.Mathlib.Omega.{arith}
-use lib.ListN.{length, drop}
+use lib.ListN.{drop}
 use Rattle.numbers.specs.Tests.{both}
 use Rattle.numbers.specs.Numberings.{bitAt}
-use Rattle.numbers.proofs.Truth.{both-left, both-right}
+use Rattle.numbers.proofs.Truth.{both-left}
 use Rattle.table.specs.Slots.{slotBytes, slotsOf, slotAt}
 use Rattle.table.proofs.Slots.{Local}
 use Rattle.flush_bits.specs.Ranged.{Ranged}
-use Rattle.flush_marks.specs.Marks.{markBytes, Unmarked, NoMarks, MarkedTo, Filtered, Chosen}
+use Rattle.flush_marks.specs.Marks.{Unmarked, NoMarks, MarkedTo, Filtered, Chosen}
 
 both-all : (a b : Bool) → b ≡ true → both a b ≡ a
 unfolding both

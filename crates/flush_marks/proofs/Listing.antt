@@ -15,8 +15,9 @@ use lib.Seq.{take-suc-set, take-set-le}
 use borrow.Author.Tests.{eq-eqb, ne-eqb}
 use Rattle.numbers.specs.Tests.{pick, either, anyOf}
 use Rattle.numbers.specs.Numberings.{bitAt}
+use Rattle.numbers.proofs.Truth.{either-none}
 use Rattle.flush_sort.specs.Sorting.{All}
-use Rattle.flush_sort.proofs.Laws.{any-append, all-append, either-none}
+use Rattle.flush_sort.proofs.Laws.{any-append, all-append}
 use Rattle.flush_marks.specs.Marks.{Unmarked, Listed, Listing}
 use Rattle.flush_marks.specs.declared.Room.the-variants.{Held, Full}
 

@@ -8,7 +8,7 @@ use native.Mathlib.Decide.{decLt}
 use native.Mathlib.Omega.{arith}
 use lib.Count.{leadingZeros}
 use Rattle.numbers.specs.Numberings.{bitAt}
-use Rattle.flush.proofs.Lists.{false-true}
+use Rattle.numbers.proofs.Truth.{false-true}
 use Rattle.table.specs.declared.Place.{Place}
 use Rattle.table.specs.declared.Place.the-variants.{At, Nowhere}
 use Rattle.flush_marks.specs.Marks.{highBit, RestOf, Unmarked, Found, NextMark}

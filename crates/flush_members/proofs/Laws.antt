@@ -18,7 +18,7 @@ use Rattle.numbers.proofs.Truth.{between-below}
 use Rattle.numbers.proofs.Lists.{part-prefix}
 use Rattle.numbers.proofs.Widths.{blocks-hold, bit-past}
 use Rattle.numbers.proofs.Truth.{and-both}
-use Rattle.flush.proofs.Lists.{parts-end, parts-more}
+use Rattle.numbers.proofs.Parts.{parts-end, parts-more}
 
 -- ---- a block at a place
 

@@ -3,7 +3,7 @@
 use Prim.Native.Nat.{ℕ, suc, _+_, _-_, _≤_, _<_}
 use mathlib.Core.Bool.{Bool, true, false, _&&_}
 use mathlib.Core.List.{List}
-use mathlib.Core.Path.{_≡_, refl, sym, ap, _∙_}
+use mathlib.Core.Path.{_≡_, refl, sym, _∙_}
 use native.Mathlib.Nat.{add-zero}
 use native.Mathlib.Omega.{arith}
 use lib.Dec.{leb, eqb}
@@ -12,10 +12,10 @@ use lib.Seq.{drop-drop, getD-drop}
 use borrow.Author.Tests.{eq-eqb, ne-eqb, le-leb, lt-leb}
 use Rattle.numbers.specs.Tests.{pick, both, either, anyOf}
 use Rattle.numbers.specs.Numberings.{inBlocks, inList, bitAt, inMap}
-use Rattle.numbers.proofs.Truth.{and-both, both-left, both-pass}
+use Rattle.numbers.proofs.Truth.{and-both, both-left, both-pass, false-true}
 use Rattle.numbers.specs.declared.Numbering.{Numbering}
+use Rattle.numbers.proofs.Parts.{parts-end, parts-more}
 use Rattle.flush.specs.Payload.{tlv, tlvEnd, tlvs}
-use Rattle.flush.proofs.Lists.{false-true, parts-end, parts-more}
 use Rattle.flush.proofs.Validity.{tlvs-end, tlvs-rest, tlvs-more}
 use Rattle.flush_parts.specs.Parts.{spanFor, lowFor, pastFor, hitFor, partsHit}
 use Rattle.flush_parts.specs.Named.{namedIn, namedOf}

@@ -12,18 +12,17 @@ use lib.Bits.{bitOr}
 use lib.Dec.{leb, eqb}
 use lib.ListN.{length, take, drop, getD, set, replicate, length-replicate}
 use borrow.Author.Tests.{eq-eqb, ne-eqb, eqb-true, leb-true, not-true, not-false}
-use Rattle.numbers.specs.Tests.{pick, both, either, between, anyOf}
+use Rattle.numbers.specs.Tests.{pick, both, either, anyOf}
 use Rattle.numbers.specs.Bytes.{num}
 use Rattle.numbers.specs.Numberings.{bitAt}
 use Rattle.numbers.specs.Ranges.{vlanGood}
-use Rattle.numbers.proofs.Truth.{both-left, both-right, both-true, between-is, or-either}
+use Rattle.numbers.proofs.Truth.{both-left, both-right, both-true, between-is, or-either, either-neither, false-true, either-passes, and-true}
 use Rattle.table.specs.Record.{recordOf, stateOf, kindOf, labelOf, nicknameOf, learnedState, labelFrom, labelGood, entryOf, entryGood, unpacked, isLearned}
 use Rattle.table.specs.Slots.{slotBytes, mostSlots, slotAt}
-use Rattle.table.specs.declared.Label.the-variants.{Vlan, Fine}
+use Rattle.table.specs.declared.Label.the-variants.{Fine}
 use Rattle.table.proofs.Slots.{Local}
 use Rattle.table.proofs.Contents.{record-near, unpacked-near, learned-is, learned-parts}
 use Rattle.flush.specs.Payload.{everyType, Piece, tlv, block, stump, tlvs, piecesOf}
-use Rattle.flush.proofs.Lists.{false-true}
 use Rattle.flush.specs.Meaning.{fineIn, bringsLabel, nicknameMeant, labelMeant}
 use Rattle.flush_sets.specs.Gains.{Gains, None, inNicknames}
 use Rattle.flush_sets.proofs.Adding.{single-listed}
@@ -43,7 +42,6 @@ use Rattle.flush_marks.specs.Filters.{slotNamed}
 use Rattle.flush_marks.proofs.Bits.{both-all, zeros-none}
 use Rattle.flush_marks.proofs.Filters.{chosen-same}
 use Rattle.flush_nicknames.specs.First.{roundSlots, NoneOfRound, NicknamesAre, EveryMeant, kindMeant, slotFirst, nearBit, mayPass, labelPart, slotMarked, slotNames, fineNoted, FirstNamed, FirstPass}
-use Rattle.flush_nicknames.specs.declared.Nicknames.{Nicknames}
 use Rattle.flush_nicknames.specs.declared.Nicknames.the-variants.{One, Several}
 
 -- ---- a slot's own bytes
@@ -306,32 +304,16 @@ piece-named x (tlv k v) e h = rw e at h
 piece-named x (block b) e h = h
 piece-named x stump e h = h
 
-either-cases : (a b c d : Bool) → (a ≡ true → c ≡ true) → (b ≡ true → d ≡ true) → either a b ≡ true → either c d ≡ true
-unfolding either
-either-cases true b true d f g e = refl
-either-cases true b false d f g e = false-true (f refl)
-either-cases false b true d f g e = refl
-either-cases false b false d f g e = g e
-
-neither : (a b : Bool) → either a b ≡ false → (a ≡ false) × (b ≡ false)
-unfolding either
-neither true b e = (cc, cc)
-neither false b e = (refl, e)
-
 some-named : (x : ℕ) (ps : List Piece) → anyOf (ofKind everyType everyKind) ps ≡ false → anyOf (bringsLabel everyType (Fine x)) ps ≡ true → namedOf fineNaming ps x ≡ true
 unfolding anyOf namedOf
 some-named x [] e h = h
 some-named x (p ∷ ps) e h =
-    let n = neither (ofKind everyType everyKind p) (anyOf (ofKind everyType everyKind) ps) e in
-    either-cases (bringsLabel everyType (Fine x) p) (anyOf (bringsLabel everyType (Fine x)) ps) (namedIn fineNaming p x) (anyOf (λ p. namedIn fineNaming p x) ps) (piece-named x p (n .0)) (some-named x ps (n .1)) h
+    let n = either-neither (ofKind everyType everyKind p) (anyOf (ofKind everyType everyKind) ps) e in
+    either-passes (bringsLabel everyType (Fine x) p) (anyOf (bringsLabel everyType (Fine x)) ps) (namedIn fineNaming p x) (anyOf (λ p. namedIn fineNaming p x) ps) (piece-named x p (n .0)) (some-named x ps (n .1)) h
 
 block-fine : (x : ℕ) (b : List ℕ) → bringsLabel everyType (Fine x) (block b) ≡ false
 unfolding bringsLabel
 block-fine x b = refl
-
-and-parts : (a b : Bool) → a && b ≡ true → (a ≡ true) × (b ≡ true)
-and-parts true b e = (refl, e)
-and-parts false b e = false-true e
 
 -- no VLAN is in an empty set, whatever its length
 empty-none : (x : ℕ) → bitAt x [] ≡ false
@@ -393,7 +375,7 @@ module _ (n : ℕ) (l : List ℕ) (f : Kinds) (noted : VlansNoted (piecesOf n l)
         near = mayPass (f .every) bits;
         chosen = first-chosen p q same (piecesOf n l) (mayPass (f .every) bits) t from count k first vlans told m c;
         all = λ a x b. by-every (f .every) (flagged e (f .every) refl a) bits x;
-        none = λ a x. by-near (f .every) (neither (f .every) (either (f .lists) (f .maps)) a .0) bits x ∙ sym (no-bits bits x gone);
+        none = λ a x. by-near (f .every) (either-neither (f .every) (either (f .lists) (f .maps)) a .0) bits x ∙ sym (no-bits bits x gone);
       }
 
       pub plain-first : not (f .every) && (f .lists || f .maps) ≡ false → Chosen (slotMarked p vlans (λ x. f .every)) k (from + count - k) t m → FirstPass q (piecesOf n l) (fineNoted f) from count t m
@@ -401,14 +383,14 @@ module _ (n : ℕ) (l : List ℕ) (f : Kinds) (noted : VlansNoted (piecesOf n l)
         near = λ x. f .every;
         chosen = first-chosen p q same (piecesOf n l) (λ x. f .every) t from count k first vlans told m c;
         all = λ a x b. flagged e (f .every) refl a;
-        none = λ a x. neither (f .every) (either (f .lists) (f .maps)) a .0;
+        none = λ a x. either-neither (f .every) (either (f .lists) (f .maps)) a .0;
       }
 
     -- or by filter bits alone, since no VLAN is named
     pub fine-first : (m : List ℕ) → not (f .every) && (f .lists || f .maps) ≡ true → eqb n 0 && not (f .vlans) ≡ true → (bits : List ℕ) → HasBits (namedOf fineNaming (tlvs l)) bits → Chosen (slotMarked p [] (mayPass false bits)) k (from + count - k) t m → FirstPass q (piecesOf n l) (fineNoted f) from count t m
     fine-first m e none bits has c =
-        let every-not = and-parts (not (f .every)) _ e .0 in
-        let parts = and-parts (eqb n 0) (not (f .vlans)) none in
+        let every-not = and-true (not (f .every)) _ e .0 in
+        let parts = and-true (eqb n 0) (not (f .vlans)) none in
         let zeros : List ℕ = replicate {A = ℕ} vlanBytes 0 in
         let told : VlansMeant (piecesOf n l) zeros =
         set-named n l f noted zeros (length-replicate {A = ℕ} vlanBytes 0) (zeros-none vlanBytes) (not-true (f .every) every-not) zeros (added-none n l f noted zeros (eqb-true n 0 (parts .0)) (not-true (f .vlans) (parts .1)))

@@ -1,6 +1,6 @@
 -- Laws of parts: a part means an interval, and a bit map lies in one.
 -- Assumes nothing.
-use Prim.Native.Nat.{ℕ, suc, _+_, _-_, _*_, _/_, _%_, _^_, _≤_, _<_}
+use Prim.Native.Nat.{ℕ, suc, _+_, _-_, _*_, _%_, _^_, _≤_, _<_}
 use mathlib.Core.Bool.{Bool, true, false}
 use mathlib.Core.List.{List}
 use mathlib.Core.Path.{_≡_, refl, sym, _∙_}
@@ -14,10 +14,9 @@ use lib.Seq.{drop-drop}
 use Rattle.numbers.specs.Tests.{pick, both, between}
 use Rattle.numbers.specs.Bytes.{num}
 use Rattle.numbers.specs.Numberings.{numberOf, atLeast, atMost, startOf, endOf, inBlock, bitAt, mapBits, inMap}
-use Rattle.numbers.proofs.Truth.{both-true, between-is}
+use Rattle.numbers.proofs.Truth.{both-true, between-is, false-true}
 use Rattle.numbers.proofs.Widths.{bit-past}
 use Rattle.numbers.specs.declared.Numbering.{Numbering}
-use Rattle.flush.proofs.Lists.{false-true}
 use Rattle.flush_members.proofs.Laws.{Near, item-near, block-near}
 use Rattle.flush_sets.proofs.Adding.{leb-next, one-is}
 use Rattle.flush_parts.specs.Parts.{Narrow, spanFor, lowFor, pastFor, hitFor}

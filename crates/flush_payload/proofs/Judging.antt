@@ -3,29 +3,27 @@
 -- Assumes nothing.
 use Prim.Native.Nat.{ℕ, _+_, _-_, _*_, _%_, _<_, _≤_}
 use mathlib.Core.Bool.{Bool, true, false, not, _&&_, _||_}
-use mathlib.Core.List.{List, [], _∷_}
+use mathlib.Core.List.{List}
 use mathlib.Core.Path.{_≡_, refl, sym, ap, _∙_}
-use native.Mathlib.Decide.{decLt}
 use native.Mathlib.Nat.{add-zero}
 use native.Mathlib.Omega.{arith}
 use lib.Dec.{leb, eqb}
 use lib.ListN.{length, take, drop, getD, length-drop}
 use lib.Seq.{length-take-le, getD-drop}
-use borrow.Author.Tests.{le-leb, lt-leb, eq-eqb, ne-eqb, leb-false}
+use borrow.Author.Tests.{le-leb, lt-leb, eq-eqb, ne-eqb}
 use Rattle.numbers.specs.Tests.{pick, both, either, anyOf, between}
 use Rattle.numbers.specs.Result.{Result, refused, got, check}
 use Rattle.numbers.specs.Refusals.{payload-corrupt}
-use Rattle.numbers.proofs.Truth.{and-both, or-either, pick-true, pick-false, both-right, both-true, between-in, between-below, between-above}
+use Rattle.numbers.proofs.Truth.{and-both, or-either, both-right, both-true, between-in, either-none}
 use Rattle.numbers.proofs.Answers.{check-pass}
-use Rattle.flush.specs.Payload.{Types, everyType, vlanTypes, typesOf, Piece, tlv, block, stump, tlvEnd, isPadding, tlvs, lengthGood, corrupt, nickBytes, blockCount, behind, blockBytes, piecesOf, Payload, made, payloadOf}
-use Rattle.flush.specs.declared.Model.{Model}
-use Rattle.flush.specs.declared.Model.the-variants.{Full, VlanOnly}
+use Rattle.numbers.proofs.Lists.{rest-is}
+use Rattle.flush.specs.Payload.{Types, everyType, vlanTypes, Piece, tlv, tlvEnd, isPadding, tlvs, lengthGood, corrupt, nickBytes, blockCount, behind, blockBytes, piecesOf, Payload, made, payloadOf}
 use Rattle.flush_tlvs.proofs.Laws.{tlvs-done, tlv-padding, tlv-stump, tlv-here, tlv-hit, tlv-next}
 use Rattle.flush_payload.specs.Judging.{everyKind, vlanKind, listKind, mapKind, macKind, ofKind, ruled, EmptyPassed, Noted, NotedMore, Nothing, JudgedTlvs, JudgedPayload}
 use Rattle.flush_payload.specs.declared.Kinds.{Kinds}
 use Rattle.flush_payload.specs.declared.Judged.{Judged}
 use Rattle.flush_payload.specs.declared.Judged.the-variants.{Corrupt, Good}
-use Rattle.flush_payload.proofs.Laws.{rest-is, of-tlvs, none-brought}
+use Rattle.flush_payload.proofs.Laws.{none-brought}
 
 -- ---- the length rules
 
@@ -148,11 +146,6 @@ noted-more f g k a b c d e h = record {
 }
 
 -- ---- the walk
-
-either-none : (a : Bool) → either a false ≡ a
-unfolding either
-either-none true = refl
-either-none false = refl
 
 either-assoc : (a b c : Bool) → either a (either b c) ≡ either (either a b) c
 unfolding either

@@ -1,28 +1,21 @@
 -- Laws of a payload: the pieces behind K-VLBs in both forms of the message, and membership in the three sets.
 -- Assumes nothing.
-use Prim.Native.Nat.{ℕ, _-_, _*_}
+use Prim.Native.Nat.{ℕ, _*_}
 use mathlib.Core.Bool.{Bool, true, false}
 use mathlib.Core.List.{List, [], _∷_, map}
 use mathlib.Core.Path.{_≡_, refl, sym, ap, _∙_}
 use native.Mathlib.Decide.{ℕ-discrete}
-use native.Mathlib.Omega.{arith}
 use lib.Dec.{eqb}
-use lib.ListN.{length, take, drop, length-drop}
-use lib.Seq.{take-all}
+use lib.ListN.{take}
 use borrow.Author.Tests.{eq-eqb, ne-eqb}
 use Rattle.numbers.specs.Tests.{either, anyOf}
 use Rattle.numbers.specs.Bytes.{parts}
 use Rattle.numbers.specs.Numberings.{vlans, inBlocks}
-use Rattle.numbers.proofs.Truth.{pick-true, pick-false}
+use Rattle.numbers.proofs.Truth.{pick-true, pick-false, false-true}
 use Rattle.table.specs.Record.{labelFrom}
 use Rattle.flush.specs.Payload.{everyType, Piece, block, tlvs, blockBytes, piecesOf}
 use Rattle.flush.specs.Meaning.{bringsLabel, bringsMac, gathersMac, labelMeant, macMeant}
-use Rattle.flush.proofs.Lists.{false-true}
 use Rattle.flush_tlvs.proofs.Laws.{label-vlan, label-fine}
-
--- a part from a place on
-pub rest-is : (k : ℕ) (l : List ℕ) → take (length l - k) (drop k l) ≡ drop k l
-rest-is k l = let d : length (drop k l) ≡ length l - k = length-drop k l in take-all (length l - k) (drop k l) (omega arith)
 
 -- ---- the pieces
 

@@ -13,23 +13,13 @@ use borrow.Author.Tests.{le-leb, lt-leb, leb-true, leb-false, eq-eqb, ne-eqb, eq
 use Rattle.numbers.specs.Tests.{pick, both, either, anyOf, between}
 use Rattle.numbers.specs.Bytes.{num, parts}
 use Rattle.numbers.specs.Numberings.{vlans, nicknames, numberOf, atLeast, atMost, startOf, endOf, inBlock, inBlocks, inList, bitAt}
-use Rattle.numbers.proofs.Truth.{between-none}
+use Rattle.numbers.proofs.Truth.{between-none, either-none, either-assoc}
+use Rattle.numbers.proofs.Parts.{parts-end, parts-more}
 use Rattle.flush.specs.Meaning.{nicknameMeant}
-use Rattle.flush.proofs.Lists.{parts-end, parts-more}
 use Rattle.flush_members.proofs.Laws.{Near, item-near, block-near}
 use Rattle.flush_bits.specs.Ranged.{Ranged}
 use Rattle.flush_bits.proofs.Laws.{range-tells}
-use Rattle.flush_sets.specs.Gains.{Gains, None, inNicknames, inVlanBlock, inVlanBlocks}
-
-pub either-none : (a : Bool) → either a false ≡ a
-unfolding either
-either-none true = refl
-either-none false = refl
-
-pub either-assoc : (a b c : Bool) → either (either a b) c ≡ either a (either b c)
-unfolding either
-either-assoc true b c = refl
-either-assoc false b c = refl
+use Rattle.flush_sets.specs.Gains.{Gains, inNicknames, inVlanBlock, inVlanBlocks}
 
 -- ---- a test that says the same
 

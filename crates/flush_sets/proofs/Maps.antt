@@ -15,11 +15,11 @@ use borrow.Author.Tests.{le-leb, lt-leb, leb-true, leb-false, eq-eqb, ne-eqb}
 use Rattle.numbers.specs.Tests.{both, either, between}
 use Rattle.numbers.specs.Bytes.{num}
 use Rattle.numbers.specs.Numberings.{vlans, numberOf, bitOf, bitAt, inMap}
-use Rattle.numbers.proofs.Truth.{both-left, both-right, between-above}
+use Rattle.numbers.proofs.Truth.{both-left, both-right, between-above, either-none, either-assoc}
 use Rattle.numbers.proofs.Widths.{bit-past}
 use Rattle.flush_bits.proofs.Laws.{every, every-at, alike, alike-same, byte-other, added-same}
 use Rattle.flush_sets.specs.Gains.{Gains, inVlanMap, Edged, inByte, vlanInByte, inShifted, vlanInShifted}
-use Rattle.flush_sets.proofs.Adding.{either-none, either-assoc, gains-none}
+use Rattle.flush_sets.proofs.Adding.{gains-none}
 
 -- ---- the bits that are no VLAN's
 

@@ -3,13 +3,14 @@
 use Prim.Native.Nat.{ℕ, _+_, _-_, _<_, _≤_}
 use mathlib.Core.Bool.{Bool, true, false}
 use mathlib.Core.List.{List}
-use mathlib.Core.Path.{_≡_, refl, sym, ap, _∙_}
+use mathlib.Core.Path.{_≡_, sym, ap, _∙_}
 use native.Mathlib.Nat.{add-zero}
 use native.Mathlib.Omega.{arith}
 use lib.ListN.{length, take, drop, getD, length-drop, List·getD-eq-default}
 use lib.Seq.{drop-drop, getD-drop}
 use borrow.Author.Tests.{eq-eqb, ne-eqb}
 use Rattle.numbers.specs.Tests.{pick, either, anyOf}
+use Rattle.numbers.proofs.Truth.{either-none}
 use Rattle.table.specs.Record.{labelFrom}
 use Rattle.table.specs.declared.Label.the-variants.{Vlan, Fine}
 use Rattle.flush.specs.Payload.{Piece, tlv, stump, tlvEnd, isPadding, tlvs}
@@ -36,11 +37,6 @@ module _ (l : List ℕ) (at : ℕ) where
   pub end-told : (n : ℕ) → n ≡ getD l (at + 1) 0 → at + 2 + n ≡ at + tlvEnd (drop at l)
   end-told n e = let g : getD (drop at l) 1 0 ≡ getD l (at + 1) 0 = getD-drop at l 1 0 in omega arith
 
-either-false : (b : Bool) → either b false ≡ b
-unfolding either
-either-false true = refl
-either-false false = refl
-
 module _ (ask : Piece → Bool) (l : List ℕ) (at : ℕ) (x : Bool) (inv : x ≡ anyOf ask (tlvs (drop at l))) where
   pub tlvs-done : length l ≤ at → false ≡ x
   unfolding anyOf
@@ -65,7 +61,7 @@ module _ (ask : Piece → Bool) (l : List ℕ) (at : ℕ) (x : Bool) (inv : x �
       unfolding anyOf
       tlv-stump not short h said =
           let d : length (drop at l) ≡ length l - at = length-drop at l in
-          sym (inv ∙ ap (anyOf ask) (tlvs-cut (drop at l) (omega arith) (sym test ∙ not) (omega arith)) ∙ rw (← said, either-false h))
+          sym (inv ∙ ap (anyOf ask) (tlvs-cut (drop at l) (omega arith) (sym test ∙ not) (omega arith)) ∙ rw (← said, either-none h))
 
     module _ (fits : e ≤ length l) (h : Bool) (here : h ≡ ask (tlv (getD l at 0) (take (e - (at + 2)) (drop (at + 2) l)))) where
       pub tlv-here : x ≡ either h (anyOf ask (tlvs (drop e l)))

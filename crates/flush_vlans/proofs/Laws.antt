@@ -3,7 +3,7 @@
 use Prim.Native.Nat.{ℕ, zero, suc, _+_, _-_, _*_, _<_, _≤_}
 use mathlib.Core.Bool.{Bool, true, false}
 use mathlib.Core.List.{List, [], _∷_}
-use mathlib.Core.Path.{_≡_, refl, sym, ap, _∙_}
+use mathlib.Core.Path.{_≡_, refl, sym, _∙_}
 use native.Mathlib.Nat.{add-zero}
 use native.Mathlib.Omega.{arith}
 use lib.Dec.{eqb}
@@ -12,6 +12,7 @@ use lib.Seq.{drop-drop, getD-drop}
 use borrow.Author.Tests.{eq-eqb, ne-eqb}
 use Rattle.numbers.specs.Tests.{pick, both, either, anyOf}
 use Rattle.numbers.specs.Numberings.{vlans, inBlocks, bitAt}
+use Rattle.numbers.proofs.Truth.{either-neither, either-none, either-assoc, either-swap}
 use Rattle.table.specs.declared.Label.the-variants.{Vlan}
 use Rattle.flush.specs.Payload.{everyType, Piece, tlv, block, stump, tlvEnd, tlvsFrom, tlvs, piecesOf}
 use Rattle.flush.specs.Meaning.{vlanIn, bringsLabel, labelMeant}
@@ -20,9 +21,9 @@ use Rattle.flush_bits.specs.Ranged.{Ranged}
 use Rattle.flush_tlvs.proofs.Laws.{label-vlan}
 use Rattle.flush_payload.specs.Judging.{everyKind, vlanKind, ofKind}
 use Rattle.flush_payload.specs.declared.Kinds.{Kinds}
-use Rattle.flush_payload.proofs.Laws.{of-tlvs, none-brought, blocks-vlan}
+use Rattle.flush_payload.proofs.Laws.{none-brought, blocks-vlan}
 use Rattle.flush_sets.specs.Gains.{Gains, None, inVlanBlock, inVlanBlocks, inVlanMap}
-use Rattle.flush_sets.proofs.Adding.{either-none, either-assoc, gains-none, gains-same}
+use Rattle.flush_sets.proofs.Adding.{gains-none, gains-same}
 use Rattle.flush_vlans.specs.Vlans.{vlanBytes, vlansIn, vlansOf, VlansNoted, VlansMeant}
 
 -- ---- a TLV
@@ -95,13 +96,6 @@ brings-is x (tlv k v) = pick-either (eqb k 6) _
 brings-is x (block b) = refl
 brings-is x stump = refl
 
-either-swap : (a b c d : Bool) → either (either a b) (either c d) ≡ either (either a c) (either b d)
-unfolding either
-either-swap true b c d = refl
-either-swap false true true d = refl
-either-swap false true false d = refl
-either-swap false false c d = refl
-
 meant-is : (x : ℕ) (ps : List Piece) → either (anyOf (ofKind everyType everyKind) ps) (vlansOf ps x) ≡ labelMeant everyType ps (Vlan x)
 unfolding labelMeant vlansOf anyOf either
 meant-is x [] = refl
@@ -110,11 +104,6 @@ meant-is x (p ∷ ps) = either-swap (ofKind everyType everyKind p) (anyOf (ofKin
 pub every-meant : (ps : List Piece) (f : Kinds) → VlansNoted ps f → f .every ≡ true → (x : ℕ) → labelMeant everyType ps (Vlan x) ≡ true
 unfolding either
 every-meant ps f noted e x = sym (meant-is x ps) ∙ rw (← noted .every, e)
-
-either-neither : (a b : Bool) → either a b ≡ false → (a ≡ false) × (b ≡ false)
-unfolding either
-either-neither true b e = (cc, cc)
-either-neither false b e = (refl, e)
 
 -- TLVs of other types name no VLAN
 abbrev noneNamed : ℕ → List Piece → Type 0

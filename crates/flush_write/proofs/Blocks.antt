@@ -1,24 +1,25 @@
 -- What is written of a list reads as the list: blocks and nicknames, over the width.
 -- Assumes nothing.
-use Prim.Native.Nat.{ℕ, _+_, _*_, _%_, _^_, _<_, _≤_}
-use mathlib.Core.Bool.{Bool, true, false, not}
-use mathlib.Core.List.{List, [], _∷_, _++_, map, flatMap}
-use mathlib.Core.Path.{_≡_, refl, sym, ap, _∙_}
+use Prim.Native.Nat.{ℕ, _*_, _^_, _<_, _≤_}
+use mathlib.Core.Bool.{true, not}
+use mathlib.Core.List.{List, [], _∷_, _++_, map}
+use mathlib.Core.Path.{_≡_, refl, ap, _∙_}
 use native.Mathlib.Nat.{mod-eq-of-lt}
 use native.Mathlib.Omega.{arith}
 use lib.Dec.{leb, eqb}
-use lib.ListN.{length, take, drop, length-append}
+use lib.ListN.{length, length-append}
 use lib.Seq.{take-at, drop-at}
 use borrow.Author.Tests.{leb-true, le-leb, ne-eqb}
-use Rattle.numbers.specs.Tests.{pick, both, either, anyOf, between}
-use Rattle.numbers.specs.Bytes.{num, bytesOf, parts}
+use Rattle.numbers.specs.Tests.{pick, either, anyOf, allOf}
+use Rattle.numbers.specs.Bytes.{bytesOf, parts}
 use Rattle.numbers.specs.Numberings.{nicknames, numberOf, atLeast, atMost, startOf, endOf, inBlock, filled, inBlocks, someFilled, inList}
 use Rattle.numbers.specs.declared.Numbering.{Numbering}
 use Rattle.numbers.proofs.Truth.{both-true}
 use Rattle.numbers.proofs.Bytes.{length-bytesOf, num-same, take-bytesOf}
-use Rattle.flush_write.specs.Writing.{allOf, Block, blockGood, blockBytes, blocksBytes, nicksBytes}
+use Rattle.numbers.proofs.Parts.{parts-joined, length-joined}
+use Rattle.flush_write.specs.Writing.{Block, blockGood, blockBytes, blocksBytes, nicksBytes}
 use Rattle.flush_write.specs.Claims.{blockHas}
-use Rattle.flush_write.proofs.Lists.{any-map, any-where, parts-joined, length-joined}
+use Rattle.flush_write.proofs.Lists.{any-map, any-where}
 
 at-least : (m n : ℕ) → m ≤ n → atLeast m n ≡ n
 unfolding atLeast pick

@@ -1,21 +1,20 @@
 -- WriterLength: the length as a sum; every count is a byte.
 -- Assumes nothing.
-use Prim.Native.Nat.{ℕ, zero, suc, _+_, _-_, _*_, _/_, _%_, _<_, _≤_}
+use Prim.Native.Nat.{ℕ, zero, suc, _+_, _-_, _*_, _<_, _≤_}
 use mathlib.Core.Bool.{Bool, true, false}
-use mathlib.Core.List.{List, [], _∷_, _++_, map, flatMap}
+use mathlib.Core.List.{List, [], _∷_, _++_, flatMap}
 use mathlib.Core.Path.{_≡_, refl, sym, ap, _∙_, subst}
 use native.Mathlib.Decide.{decLt}
 use native.Mathlib.Omega.{arith}
 use lib.Dec.{leb}
-use lib.ListN.{length, take, drop, getD, length-append, length-drop, length-take, take-append-drop}
+use lib.ListN.{length, take, drop, length-append, length-drop, length-take, take-append-drop}
 use borrow.Author.Tests.{leb-true, leb-false}
-use Rattle.numbers.specs.Tests.{pick, both}
+use Rattle.numbers.specs.Tests.{pick, allOf}
 use Rattle.numbers.specs.Bytes.{AreBytes, bytesOf}
-use Rattle.numbers.specs.Result.{got}
 use Rattle.numbers.specs.Numberings.{vlans, fines, macs}
 use Rattle.numbers.specs.declared.Numbering.{Numbering}
 use Rattle.numbers.proofs.Truth.{both-true}
-use Rattle.flush_write.specs.Writing.{allOf, Block, Asked, mostListed, blockGood, blocksGood, labelsNamed, askedGood, blockBytes, blocksBytes, nicksBytes, groupsFrom, groups, perTlv, tlvBytes, tlvsBytes, onlyVlans, blockForm, tlvForm, flushBytes, writtenFlush}
+use Rattle.flush_write.specs.Writing.{Block, Asked, mostListed, blockGood, blocksGood, labelsNamed, askedGood, blockBytes, blocksBytes, nicksBytes, groupsFrom, groups, perTlv, tlvBytes, tlvsBytes, onlyVlans, blockForm, tlvForm, flushBytes}
 use Rattle.flush_write.specs.Claims.{tlvsLength, flushLength, WriterLength}
 use Rattle.flush_write.proofs.Blocks.{length-blocks, length-nicks}
 use Rattle.flush_write.proofs.Exact.{written-is}

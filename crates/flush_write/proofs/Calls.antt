@@ -1,15 +1,15 @@
 -- WriterCalls: what the call left at the start of its area is the message, and a refusal left the area.
 -- Assumes nothing.
-use Prim.Native.Nat.{ℕ, zero, suc, _+_, _*_, _<_, _≤_}
+use Prim.Native.Nat.{ℕ, zero, suc, _+_, _≤_}
 use mathlib.Core.Bool.{Bool, true, false}
 use mathlib.Core.List.{List, [], _∷_, map}
-use mathlib.Core.Path.{_≡_, refl, sym, ap, _∙_, subst}
+use mathlib.Core.Path.{_≡_, refl, sym, ap, _∙_}
 use native.Mathlib.Omega.{arith}
 use lib.Dec.{leb}
 use lib.ListN.{length, take, drop}
 use lib.Seq.{take-at, getD-drop}
 use borrow.Author.Tests.{le-leb, leb-true, leb-false}
-use Rattle.numbers.specs.Tests.{pick, both}
+use Rattle.numbers.specs.Tests.{pick, allOf}
 use Rattle.numbers.specs.Result.{Result, refused, got, check, andThen, settled}
 use Rattle.numbers.specs.Refusals.{area-short}
 use Rattle.numbers.specs.After.{OnArea, onArea}
@@ -18,9 +18,9 @@ use Rattle.numbers.proofs.Truth.{both-pass}
 use Rattle.numbers.proofs.Answers.{refused-got, check-got}
 use Rattle.numbers.proofs.Bytes.{num-part-lt}
 use Rattle.convert.specs.Compaction.{written}
-use Rattle.flush_write.specs.Writing.{allOf, lists-bad, Asked, askedGood, flushBytes, writtenFlush}
+use Rattle.flush_write.specs.Writing.{lists-bad, Asked, askedGood, flushBytes, writtenFlush}
 use Rattle.flush_write.specs.Areas.{nicksIn, areasWhole, askedIn, flushOf, flushWritten}
-use Rattle.flush_write.specs.Claims.{NicksFit, Means, longestFlush, WriterCalls}
+use Rattle.flush_write.specs.Claims.{WriterCalls}
 use Rattle.flush_write.specs.declared.WriteAnswer.{WriteAnswer}
 use Rattle.flush_write.specs.declared.WriteAnswer.the-variants.{Refused, Written}
 use Rattle.flush_write.proofs.Exact.{writer-exact}

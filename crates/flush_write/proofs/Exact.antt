@@ -1,32 +1,32 @@
 -- WriterExact: a payload is a front and a body; both forms of the body bring, block by block, what was asked.
 -- Assumes nothing.
-use Prim.Native.Nat.{ℕ, zero, suc, _+_, _*_, _%_, _<_, _≤_}
+use Prim.Native.Nat.{ℕ, _+_, _*_, _%_, _<_, _≤_}
 use mathlib.Core.Bool.{Bool, true, false, not}
-use mathlib.Core.List.{List, [], _∷_, _++_, map, flatMap, append-assoc, append-nil}
+use mathlib.Core.List.{List, [], _∷_, _++_, map, append-assoc, append-nil}
 use mathlib.Core.Path.{_≡_, refl, sym, ap, _∙_, subst}
 use native.Mathlib.Omega.{arith}
 use lib.Dec.{leb, eqb}
-use lib.ListN.{length, take, drop, getD, length-append}
+use lib.ListN.{length, drop, getD, length-append}
 use lib.Seq.{take-at, drop-at, getD-at}
 use borrow.Author.Tests.{le-leb, leb-true, eqb-true, eqb-false, eq-eqb, ne-eqb}
-use Rattle.numbers.specs.Tests.{pick, both, either, anyOf}
+use Rattle.numbers.specs.Tests.{pick, both, either, anyOf, allOf}
 use Rattle.numbers.specs.Bytes.{parts}
-use Rattle.numbers.specs.Result.{Result, got}
-use Rattle.numbers.specs.Numberings.{vlans, fines, macs, nicknames, inBlock, filled, inList}
+use Rattle.numbers.specs.Result.{got}
+use Rattle.numbers.specs.Numberings.{vlans, fines, macs, inBlock, filled}
 use Rattle.numbers.specs.declared.Numbering.{Numbering}
-use Rattle.numbers.proofs.Truth.{both-true, pick-true, pick-false}
+use Rattle.numbers.proofs.Truth.{both-true, pick-false}
 use Rattle.numbers.proofs.Answers.{got-got, check-got, check-pass}
 use Rattle.table.specs.declared.Label.{Label}
 use Rattle.table.specs.declared.Label.the-variants.{Vlan, Fine}
-use Rattle.flush.specs.Payload.{everyType, Piece, tlv, block, tlvs, lengthGood, corrupt, nickBytes, blockCount, behind, piecesOf, Payload, made, payloadOf}
+use Rattle.flush.specs.Payload.{everyType, Piece, tlv, block, tlvs, lengthGood, corrupt, piecesOf, made, payloadOf}
 use Rattle.flush.specs.Meaning.{nicknameMeant, vlanIn, fineIn, macIn, someMacIn, bringsLabel, bringsMac, gathersMac, labelMeant, macMeant}
 use Rattle.flush.specs.Padding.{padded}
 use Rattle.flush.proofs.Validity.{tlvs-end}
 use Rattle.flush.proofs.Padding.{padded-flush}
-use Rattle.flush_write.specs.Writing.{allOf, Block, Asked, lists-bad, mostListed, blockGood, blocksGood, labelsNamed, askedGood, blockBytes, blocksBytes, nicksBytes, groups, perTlv, tlvBytes, tlvsBytes, onlyVlans, blockForm, tlvForm, flushBytes, writtenFlush}
-use Rattle.flush_write.specs.Claims.{blockHas, nicknameAsked, labelAsked, macAsked, SaysAsked, NicksFit, Means, WriterExact}
-use Rattle.flush_write.proofs.Lists.{any-append, any-map, any-same, any-never, any-groups, tlvs-cons, tlvs-all}
-use Rattle.flush_write.proofs.Blocks.{length-block, length-blocks, blocks-have, blocks-filled, blocks-cut, in-blocks, some-filled, length-nicks, nicks-listed}
+use Rattle.flush_write.specs.Writing.{Block, Asked, lists-bad, mostListed, blockGood, blocksGood, labelsNamed, askedGood, blockBytes, blocksBytes, nicksBytes, groups, perTlv, tlvsBytes, onlyVlans, blockForm, tlvForm, flushBytes, writtenFlush}
+use Rattle.flush_write.specs.Claims.{blockHas, labelAsked, macAsked, NicksFit, Means, WriterExact}
+use Rattle.flush_write.proofs.Lists.{any-append, any-map, any-same, any-never, any-groups, tlvs-all}
+use Rattle.flush_write.proofs.Blocks.{length-blocks, blocks-have, blocks-filled, blocks-cut, in-blocks, some-filled, length-nicks, nicks-listed}
 
 -- ---- the front
 

@@ -2,12 +2,11 @@
 -- Assumes nothing.
 use mathlib.Core.Path.{_≡_, refl}
 use lib.ListN.{replicate}
-use Prim.Native.Nat.{ℕ}
-use mathlib.Core.List.{List, [], _∷_, map, flatMap}
-use Rattle.numbers.specs.Tests.{pick, both}
+use mathlib.Core.List.{[], _∷_, map, flatMap}
+use Rattle.numbers.specs.Tests.{pick, both, allOf}
 use Rattle.numbers.specs.Bytes.{bytesOf}
-use Rattle.numbers.specs.Result.{refused, check, got}
-use Rattle.flush_write.specs.Writing.{allOf, lists-bad, blockGood, blocksGood, labelsNamed, askedGood, blockBytes, blocksBytes, nicksBytes, groupsFrom, groups, tlvBytes, tlvsBytes, onlyVlans, flushBytes, writtenFlush}
+use Rattle.numbers.specs.Result.{refused, check}
+use Rattle.flush_write.specs.Writing.{lists-bad, blockGood, blocksGood, labelsNamed, askedGood, blockBytes, blocksBytes, nicksBytes, groupsFrom, groups, tlvBytes, tlvsBytes, onlyVlans, flushBytes, writtenFlush}
 use Rattle.flush_write.specs.Cases.{askedCases, writtenCases, refusedAsked, fullAsked, writtenLength, WriterCases}
 
 writes : map writtenFlush askedCases ≡ writtenCases

@@ -6,7 +6,7 @@ use mathlib.Core.List.{List, _++_}
 use mathlib.Core.Path.{_≡_}
 use lib.Dec.{leb, eqb}
 use lib.ListN.{length, take}
-use Rattle.numbers.specs.Tests.{pick, both, either, anyOf, between}
+use Rattle.numbers.specs.Tests.{pick, both, either, anyOf, between, allOf}
 use Rattle.numbers.specs.Result.{got}
 use Rattle.numbers.specs.Bytes.{AreBytes}
 use Rattle.numbers.specs.Numberings.{vlans, fines, macs}
@@ -20,7 +20,7 @@ use Rattle.flush.specs.Payload.{everyType, Payload, payloadOf}
 use Rattle.flush.specs.Meaning.{nicknameMeant, labelMeant, macMeant}
 use Rattle.flush.specs.Flush.{flushed}
 use Rattle.flush.specs.Padding.{padded}
-use Rattle.flush_write.specs.Writing.{allOf, lists-bad, Block, Asked, perTlv, onlyVlans, writtenFlush}
+use Rattle.flush_write.specs.Writing.{lists-bad, Block, Asked, perTlv, onlyVlans, writtenFlush}
 use Rattle.flush_write.specs.Areas.{askedIn, flushWritten}
 use Rattle.flush_write.specs.declared.WriteAnswer.the-variants.{Refused, Written}
 

@@ -1,20 +1,15 @@
 -- An Address Flush written (2026-03): what is asked for, when it is refused, and the bytes.
 -- Assumes nothing.
 use Prim.Native.Nat.{ℕ, zero, suc, _+_, _*_, _/_}
-use mathlib.Core.Bool.{Bool, true, false}
+use mathlib.Core.Bool.{Bool}
 use mathlib.Core.List.{List, [], _∷_, _++_, flatMap}
 use lib.Dec.{leb, eqb}
 use lib.ListN.{length, take, drop}
-use Rattle.numbers.specs.Tests.{pick, both}
+use Rattle.numbers.specs.Tests.{pick, both, allOf}
 use Rattle.numbers.specs.Result.{Result, check, got}
 use Rattle.numbers.specs.Bytes.{bytesOf}
 use Rattle.numbers.specs.Ranges.{firstVlan, lastVlan, lastFine, lastAddress}
 use Rattle.numbers.specs.Numberings.{vlans, fines, macs, nicknames}
-
--- every element passes the test
-unfoldable pub allOf : {A : Type 0} → (A → Bool) → List A → Bool
-allOf p [] = true
-allOf p (x ∷ xs) = both (p x) (allOf p xs)
 
 -- a block of numbers, both ends included
 pub record Block : Type 0 where

@@ -1,35 +1,35 @@
 -- Laws of the writing call: what the tests leave known, the two forms of the message, and the ways out.
 -- Assumes nothing.
-use Prim.Native.Nat.{ℕ, zero, suc, _+_, _-_, _*_, _/_, _%_, _^_, _<_, _≤_}
+use Prim.Native.Nat.{ℕ, zero, suc, _+_, _-_, _/_, _%_, _^_, _<_, _≤_}
 use mathlib.Core.Bool.{Bool, true, false, not, _&&_}
 use mathlib.Core.List.{List, [], _∷_, _++_, map, flatMap, append-assoc}
 use mathlib.Core.Path.{_≡_, refl, sym, ap, _∙_}
 use native.Mathlib.Decide.{decLt}
 use native.Mathlib.Omega.{arith}
 use lib.Dec.{leb, eqb}
-use lib.ListN.{length, take, drop, length-append, length-drop, length-map, take-append-drop}
+use lib.ListN.{length, drop, length-append, length-drop, length-map, take-append-drop}
 use lib.Seq.{getD-drop}
-use borrow.Author.Tests.{le-leb, lt-leb, leb-true, eqb-true, eqb-false, eq-eqb, ne-eqb}
+use borrow.Author.Tests.{le-leb, lt-leb, eqb-true, eqb-false, eq-eqb, ne-eqb}
 use Rattle.numbers.specs.Tests.{pick, both}
 use Rattle.numbers.specs.Result.{Result, check, got, andThen, settled}
 use Rattle.numbers.specs.Ranges.{firstVlan, lastVlan, lastFine, lastAddress}
-use Rattle.numbers.specs.After.{OnArea, onArea}
+use Rattle.numbers.specs.After.{onArea}
 use Rattle.numbers.specs.Bytes.{AreBytes, num, bytesOf, laid, parts}
-use Rattle.numbers.proofs.Bytes.{length-bytesOf, bytesOf-part}
-use Rattle.numbers.proofs.Truth.{and-both, both-true}
-use Rattle.flush.proofs.Lists.{false-true, parts-end, parts-more}
+use Rattle.numbers.proofs.Bytes.{bytesOf-part}
+use Rattle.numbers.proofs.Truth.{and-both, both-true, false-true}
+use Rattle.numbers.proofs.Parts.{parts-end, parts-more}
 use Rattle.frame_copy.specs.Areas.{pasted}
 use Rattle.frame_copy.proofs.Copying.{paste-next, paste-after, paste-laid}
 use Rattle.convert.specs.Compaction.{written}
-use Rattle.flush_write.specs.Writing.{lists-bad, Asked, mostListed, blocksGood, labelsNamed, askedGood, blocksBytes, nicksBytes, perTlv, tlvsBytes, onlyVlans, blockForm, tlvForm, flushBytes, writtenFlush}
+use Rattle.flush_write.specs.Writing.{lists-bad, labelsNamed, askedGood, blocksBytes, nicksBytes, onlyVlans, flushBytes, writtenFlush}
 use Rattle.flush_write.specs.Areas.{blocksIn, nicksIn, askedIn, itemsWhole, areasWhole, flushOf, flushWritten}
-use Rattle.flush_write.specs.Claims.{tlvsLength, flushLength}
+use Rattle.flush_write.specs.Claims.{tlvsLength}
 use Rattle.flush_write.specs.declared.WriteAnswer.the-variants.{Refused, Written}
 use Rattle.flush_write.proofs.Bounds.{flush-length, flush-most, short}
 use Rattle.flush_write_lists.specs.Widths.{Item, Filling, listGood}
 use Rattle.flush_write_lists.proofs.Cuts.{parts-count, blocks-count}
 use Rattle.flush_write_lists.proofs.Laws.{length-pasted}
-use Rattle.flush_write_call.specs.Steps.{listsGood, nicksGood, Whole, Sized, frontBytes, listsBytes}
+use Rattle.flush_write_call.specs.Steps.{listsGood, nicksGood, Sized, frontBytes, listsBytes}
 
 -- ---- the widths
 

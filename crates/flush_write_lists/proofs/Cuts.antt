@@ -1,20 +1,18 @@
 -- A list's bytes cut into blocks: one more, none left, how many; and cut where a TLV is full.
 -- Assumes nothing.
 use Prim.Native.Nat.{ℕ, zero, suc, _+_, _-_, _*_, _/_, _<_, _≤_}
-use mathlib.Core.Bool.{Bool, true, false}
 use mathlib.Core.List.{List, [], _∷_, _++_, map, flatMap}
 use mathlib.Core.Path.{_≡_, refl, sym, ap, _∙_}
 use native.Mathlib.Decide.{decLt}
 use native.Mathlib.Nat.{zero-mul, suc-mul, div-eq-of-lt, div-eq-sub-div}
 use native.Mathlib.Omega.{arith}
-use lib.Dec.{leb}
 use lib.ListN.{length, take, drop, length-take, length-drop, length-map}
-use lib.Seq.{take-take, drop-drop, take-all, length-take-le, drop-at, take-add, take-nil, drop-nil}
+use lib.Seq.{take-take, drop-drop, length-take-le, drop-at, take-add}
 use borrow.Author.Tests.{le-leb, lt-leb}
 use Rattle.numbers.specs.Tests.{pick}
-use Rattle.numbers.specs.Bytes.{num, parts}
+use Rattle.numbers.specs.Bytes.{parts}
 use Rattle.numbers.proofs.Lists.{part-prefix}
-use Rattle.flush.proofs.Lists.{parts-end, parts-more}
+use Rattle.numbers.proofs.Parts.{parts-end, parts-more}
 use Rattle.flush_write.specs.Writing.{Block, blocksBytes, groupsFrom, groups, perTlv, tlvBytes, tlvsBytes}
 use Rattle.flush_write.specs.Areas.{blockIn, blocksIn}
 

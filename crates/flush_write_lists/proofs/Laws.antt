@@ -4,14 +4,13 @@ use Prim.Native.Nat.{ℕ, _+_, _-_, _*_, _/_, _%_, _^_, _<_, _≤_}
 use mathlib.Core.Bool.{Bool, true, false, _&&_}
 use mathlib.Core.List.{List, [], _∷_, _++_, flatMap, append-nil}
 use mathlib.Core.Path.{_≡_, refl, sym, ap, _∙_, subst}
-use native.Mathlib.Decide.{decLt}
 use native.Mathlib.Nat.{mul-comm, mul-le-mul-left, mul-le-mul-right}
 use native.Mathlib.Omega.{arith}
 use lib.Dec.{leb, eqb}
 use lib.ListN.{length, take, drop, length-append, length-drop, length-take, take-append-drop, drop-of-length-le}
 use lib.Seq.{drop-drop, take-all, length-take-le}
 use borrow.Author.Tests.{le-leb, lt-leb, leb-true, leb-false, eqb-true, ne-eqb, eq-eqb}
-use Rattle.numbers.specs.Tests.{pick, both}
+use Rattle.numbers.specs.Tests.{pick, both, allOf}
 use Rattle.numbers.specs.Bytes.{AreBytes, num, bytesOf}
 use Rattle.numbers.specs.Numberings.{atMost}
 use Rattle.numbers.specs.declared.Numbering.{Numbering}
@@ -19,7 +18,7 @@ use Rattle.numbers.proofs.Bytes.{length-bytesOf, num-add, num-part-lt, bytesOf-
 use Rattle.numbers.proofs.Truth.{and-both, both-true}
 use Rattle.frame_copy.specs.Areas.{pasted}
 use Rattle.frame_copy.proofs.Copying.{paste-next}
-use Rattle.flush_write.specs.Writing.{allOf, Block, mostListed, blockGood, blocksGood, blockBytes, blocksBytes, perTlv, tlvBytes, tlvsBytes}
+use Rattle.flush_write.specs.Writing.{Block, mostListed, blockGood, blocksGood, blockBytes, blocksBytes, perTlv, tlvBytes, tlvsBytes}
 use Rattle.flush_write.specs.Areas.{blockIn, blocksIn, itemsWhole}
 use Rattle.flush_write.proofs.Blocks.{length-block, length-blocks}
 use Rattle.flush_write_lists.specs.Widths.{Item, Filling, listGood}
@@ -243,10 +242,6 @@ tlv-put out o₁ o₂ v at kind n h g e room w₁ w₂ = (
 
 abbrev pub tlvsFrom : ℕ → ℕ → ℕ → List ℕ → ℕ → List ℕ
 tlvsFrom kind size k l from = tlvsBytes kind size (blocksIn k (drop from l))
-
-pub at-most-second : (m n : ℕ) → n ≤ m → n ≡ atMost m n
-unfolding atMost pick
-at-most-second m n h = rw (le-leb n m h)
 
 pub at-most-first : (m n : ℕ) → m < n → m ≡ atMost m n
 unfolding atMost pick

@@ -1,14 +1,14 @@
 -- The laws at the calls: the area of what was read is read back, since a payload has fewer pieces than bytes.
 -- Assumes nothing.
-use Prim.Native.Nat.{ℕ, zero, suc, _+_, _-_, _*_, _^_, _<_, _≤_}
+use Prim.Native.Nat.{ℕ, zero, suc, _+_, _^_, _<_, _≤_}
 use mathlib.Core.Bool.{Bool, true, false}
-use mathlib.Core.List.{List, [], _∷_, _++_, map, flatMap}
+use mathlib.Core.List.{List, [], _∷_, map, flatMap}
 use mathlib.Core.Path.{_≡_, refl, sym, ap, _∙_, subst}
 use native.Mathlib.Omega.{arith}
 use lib.Dec.{leb, ltb, eqb}
-use lib.ListN.{length, take, drop, getD, length-append, length-drop, length-map}
+use lib.ListN.{length, drop, getD, length-append, length-drop, length-map}
 use borrow.Author.Tests.{leb-true, leb-false, lt-ltb, ltb-true}
-use Rattle.numbers.specs.Tests.{pick, both}
+use Rattle.numbers.specs.Tests.{pick, allOf}
 use Rattle.numbers.specs.Bytes.{AreBytes, laid}
 use Rattle.numbers.specs.Result.{Result, refused, got, check, andThen, settled}
 use Rattle.numbers.specs.Refusals.{area-short}
@@ -16,9 +16,8 @@ use Rattle.numbers.specs.After.{OnArea, onArea}
 use Rattle.numbers.proofs.Truth.{both-true, both-pass}
 use Rattle.numbers.proofs.Answers.{got-got, then-got}
 use Rattle.numbers.proofs.Bytes.{length-part}
-use Rattle.hello.specs.Lists.{allOf}
 use Rattle.hello.specs.Tlvs.{Tlv, tlv, stump, tlvEnd, tlvsFrom, tlvs}
-use Rattle.hello.specs.Pieces.{capability, geninfo, application, geninfoHead, Piece, skipped, broken, inside, capabilityPieces, geninfoPieces, tlvPieces, pieces}
+use Rattle.hello.specs.Pieces.{capability, geninfo, application, geninfoHead, Piece, inside, capabilityPieces, geninfoPieces, tlvPieces, pieces}
 use Rattle.hello.specs.Contents.{Parameters, Nickname, Trees, SmartMac, Contents, Item, parameters, nicknames, trees, smartMac, ignored, malformed}
 use Rattle.hello.specs.Reading.{says, parametersIn, nicknamesIn, treesIn, macsIn, gathered, items, helloRead}
 use Rattle.hello.specs.Writing.{within, parametersGood, nicknameGood, nicknamesGood, treesGood, labelTop, smartMacGood, contentsGood, mostNicknames, mostTrees, mostMacs, helloWritten}
@@ -29,7 +28,7 @@ use Rattle.hello.specs.declared.HelloAnswer.{HelloAnswer}
 use Rattle.hello.specs.declared.HelloAnswer.the-variants.{Refused, Written}
 use Rattle.hello.specs.Form.{PlainForm}
 use Rattle.hello.proofs.Lists.{Each, each-append}
-use Rattle.hello.proofs.Bounds.{each-all, items-good, gathered-good, read-is, read-is-writable}
+use Rattle.hello.proofs.Bounds.{items-good, gathered-good, read-is, read-is-writable}
 use Rattle.hello.proofs.RoundTrip.{written-hello-reads}
 use Rattle.hello.proofs.Saying.{read-hello-writes}
 use Rattle.hello.proofs.Areas.{area-is}

@@ -1,14 +1,13 @@
 -- The two calls: a payload to a contents area, a contents area to a payload; refusal 16, and what is lent.
 -- Assumes nothing.
-use Prim.Native.Nat.{ℕ, _+_, _*_, _^_, _<_}
+use Prim.Native.Nat.{ℕ, _^_, _<_}
 use mathlib.Core.List.{List}
 use mathlib.Core.Path.{_≡_}
 use lib.ListN.{length}
 use Rattle.numbers.specs.Bytes.{AreBytes}
-use Rattle.numbers.specs.Result.{Result, refused, got, andThen, settled}
+use Rattle.numbers.specs.Result.{Result, got, andThen, settled}
 use Rattle.numbers.specs.After.{OnArea, onArea}
 use Rattle.convert.specs.Compaction.{written}
-use Rattle.hello.specs.Contents.{Contents}
 use Rattle.hello.specs.Reading.{helloRead}
 use Rattle.hello.specs.Writing.{helloWritten}
 use Rattle.hello.specs.Area.{areaOf, contentsIn}

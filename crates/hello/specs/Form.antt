@@ -5,14 +5,13 @@ use mathlib.Core.Bool.{Bool, true, false, not}
 use mathlib.Core.List.{List, [], _∷_, map}
 use mathlib.Core.Path.{_≡_}
 use lib.Dec.{leb, eqb}
-use lib.ListN.{length, take, drop, getD}
-use Rattle.numbers.specs.Tests.{both, either, pick}
+use lib.ListN.{length, take, drop}
+use Rattle.numbers.specs.Tests.{both, either, pick, allOf}
 use Rattle.numbers.specs.Bytes.{num}
 use Rattle.hello.specs.Tlvs.{Tlv, tlv, stump, tlvEnd, tlvs}
-use Rattle.hello.specs.Pieces.{capability, geninfo, parametersType, smartMacType, nicknameType, treesType, Sub, Piece, sub, skipped, broken, tlvPieces, pieces}
+use Rattle.hello.specs.Pieces.{capability, geninfo, parametersType, smartMacType, nicknameType, treesType, Piece, sub, skipped, broken, tlvPieces, pieces}
 use Rattle.hello.specs.Contents.{Item, parameters, nicknames, trees, smartMac, ignored, malformed}
 use Rattle.hello.specs.Reading.{items}
-use Rattle.hello.specs.Lists.{allOf}
 
 -- the list starts with those bytes
 unfoldable pub startsAs : List ℕ → List ℕ → Bool

@@ -1,5 +1,4 @@
 -- Smart-Hellos (RFC 8384, sections 4.2 and 4.3): payloads read into contents, contents written as payloads.
-pub mod Lists
 pub mod Tlvs
 pub mod Pieces
 pub mod Contents

@@ -2,7 +2,6 @@
 -- Layouts of the two TLVs: RFC 7981 and RFC 6823.
 -- Assumes nothing.
 use Prim.Native.Nat.{ℕ, _+_, _*_, _/_, _%_}
-use mathlib.Core.Bool.{Bool}
 use mathlib.Core.List.{List, [], _∷_, map, flatMap}
 use lib.Dec.{leb, eqb}
 use lib.ListN.{length, take, drop, getD}

@@ -8,7 +8,7 @@ use lib.ListN.{length, take, drop}
 use Rattle.numbers.specs.Tests.{pick, both, anyOf}
 use Rattle.numbers.specs.Bytes.{num, parts}
 use Rattle.numbers.specs.Result.{Result, check, got}
-use Rattle.hello.specs.Pieces.{capability, geninfo, parametersType, smartMacType, nicknameType, treesType, Sub, Piece, sub, skipped, broken, pieces}
+use Rattle.hello.specs.Pieces.{capability, geninfo, parametersType, smartMacType, nicknameType, treesType, Piece, sub, skipped, broken, pieces}
 use Rattle.hello.specs.Contents.{Parameters, Nickname, Trees, SmartMac, Contents, Item, parameters, nicknames, trees, smartMac, ignored, malformed}
 
 abbrev pub hello-malformed : ℕ

@@ -1,14 +1,13 @@
 -- Writing a Smart-Hello: which contents can be written, each sub-TLV's bytes, and how they are put into TLVs.
 -- Assumes nothing.
 use Prim.Native.Nat.{ℕ, _+_, _*_, _^_}
-use mathlib.Core.Bool.{Bool, true, false}
+use mathlib.Core.Bool.{Bool}
 use mathlib.Core.List.{List, [], _∷_, _++_, map, flatMap}
 use lib.Dec.{leb, ltb, eqb}
 use lib.ListN.{length}
-use Rattle.numbers.specs.Tests.{pick, both}
+use Rattle.numbers.specs.Tests.{pick, both, allOf}
 use Rattle.numbers.specs.Bytes.{bytesOf}
 use Rattle.numbers.specs.Result.{Result, check, got}
-use Rattle.hello.specs.Lists.{allOf}
 use Rattle.hello.specs.Tlvs.{tlvBytes}
 use Rattle.hello.specs.Pieces.{capability, geninfo, parametersType, smartMacType, nicknameType, treesType, Sub}
 use Rattle.hello.specs.Contents.{Parameters, Nickname, Trees, SmartMac, Contents}

@@ -1,22 +1,20 @@
 -- Entries of each type, taken in one shape, are those of the contents with their tests and their sub-TLVs.
 -- Assumes nothing.
-use Prim.Native.Nat.{ℕ, zero, suc, _+_, _-_, _≤_}
+use Prim.Native.Nat.{ℕ, zero, suc}
 use mathlib.Core.Bool.{Bool, true, false}
 use mathlib.Core.List.{List, [], _∷_, _++_, map, flatMap}
 use mathlib.Core.Path.{_≡_, refl, sym, ap, _∙_}
-use native.Mathlib.Omega.{arith}
-use lib.Dec.{leb, ltb, eqb}
+use lib.Dec.{leb}
 use lib.ListN.{length}
-use Rattle.numbers.specs.Tests.{pick, both, either}
+use Rattle.numbers.specs.Tests.{pick, both, either, allOf}
 use Rattle.numbers.specs.Bytes.{bytesOf}
 use Rattle.numbers.specs.Result.{Result, refused, got, check, andThen}
-use Rattle.numbers.proofs.Answers.{refused-got, got-got, then-got}
-use Rattle.hello.specs.Lists.{allOf}
+use Rattle.numbers.proofs.Answers.{got-got, then-got}
 use Rattle.hello.specs.Pieces.{Sub}
-use Rattle.hello.specs.Contents.{Parameters, Nickname, Trees, SmartMac, Contents}
+use Rattle.hello.specs.Contents.{Nickname, SmartMac}
 use Rattle.hello.specs.Writing.{within, parametersGood, nicknameGood, nicknamesGood, treesGood, smartMacGood, nicknameBytes, parametersSub, nicknamesSub, treesSub, smartMacSub}
 use Rattle.hello.specs.Area.{Taken, Taker, taken, takeOne, then, takeMany, takeCounted, takeParameters, takeNickname, takeTrees, takeSmartMac}
-use Rattle.hello_area.specs.Entries.{via, Label, takeLabel, labelGood, labelBytes, parametersBytes, takeHead, takeItem, mostOf, takeList, takeSub}
+use Rattle.hello_area.specs.Entries.{via, takeLabel, labelGood, labelBytes, parametersBytes, takeHead, takeItem, takeList, takeSub}
 use Rattle.hello_area.proofs.Takers.{Only, only-many, only-one, only-nickname, only-counted, then-then, then-same, check-check, after-check, many-via}
 
 check-refused : {A : Type 0} (b : Bool) (n : ℕ) → n ≡ 25 → check {A = A} b 25 (refused n) ≡ refused n

@@ -1,21 +1,19 @@
 -- Where a taker ends, by the place where it starts: takers one behind the other, and many of one.
 -- Assumes nothing.
-use Prim.Native.Nat.{ℕ, zero, suc, _+_, _-_, _*_, _/_, _%_, _<_, _≤_}
+use Prim.Native.Nat.{ℕ, zero, suc, _+_, _-_, _<_, _≤_}
 use mathlib.Core.Bool.{Bool, true, false}
-use mathlib.Core.List.{List, [], _∷_, _++_, map, flatMap}
+use mathlib.Core.List.{List, [], _∷_}
 use mathlib.Core.Path.{_≡_, refl, sym, ap, _∙_}
 use native.Mathlib.Omega.{arith}
-use native.Mathlib.Numerals.{add-one}
-use lib.Dec.{leb, ltb, eqb}
-use lib.ListN.{length, take, drop, getD, length-drop}
-use lib.Seq.{drop-drop, drop-cons}
+use lib.Dec.{leb}
+use lib.ListN.{length, drop, length-drop}
+use lib.Seq.{drop-drop}
 use borrow.Author.Tests.{le-leb, lt-leb, leb-true, leb-false}
-use Rattle.numbers.specs.Tests.{pick, both}
-use Rattle.numbers.specs.Result.{Result, refused, got, check, andThen}
+use Rattle.numbers.specs.Tests.{pick}
+use Rattle.numbers.specs.Result.{Result, refused, got, andThen}
 use Rattle.numbers.proofs.Answers.{refused-got, got-got, then-got, check-got}
-use Rattle.hello.specs.Pieces.{Sub}
-use Rattle.hello.specs.Area.{Taken, Taker, taken, takeOne, then, takeMany, takeCounted, takeParameters, takeNickname}
-use Rattle.hello_area.specs.Entries.{via, Label, takeLabel, takeHead, takeItem, takeList, takeSub, takeBoth, takeSubs, endIn, endFrom, reach}
+use Rattle.hello.specs.Area.{Taken, Taker, taken, takeOne, then, takeMany, takeCounted}
+use Rattle.hello_area.specs.Entries.{via, endIn, endFrom, reach}
 
 -- ---- what is left is the end of what there was
 

@@ -1,15 +1,12 @@
 -- Takers: every refusal is 25, so that a test may be made with each entry or after all of them.
 -- Assumes nothing.
-use Prim.Native.Nat.{ℕ, zero, suc, _+_, _-_, _≤_}
+use Prim.Native.Nat.{ℕ, zero, suc}
 use mathlib.Core.Bool.{Bool, true, false}
-use mathlib.Core.List.{List, [], _∷_, _++_, map, flatMap}
+use mathlib.Core.List.{List, [], _∷_, map}
 use mathlib.Core.Path.{_≡_, refl, sym, ap, _∙_}
-use native.Mathlib.Omega.{arith}
-use lib.ListN.{length}
-use Rattle.numbers.specs.Tests.{pick, both}
+use Rattle.numbers.specs.Tests.{both, allOf}
 use Rattle.numbers.specs.Result.{Result, refused, got, check, andThen}
 use Rattle.numbers.proofs.Answers.{refused-got}
-use Rattle.hello.specs.Lists.{allOf}
 use Rattle.hello.specs.Area.{Taken, Taker, taken, takeOne, then, takeMany, takeCounted, takeParameters, takeNickname, takeTrees, takeSmartMac}
 use Rattle.hello_area.specs.Entries.{via}
 

@@ -1,23 +1,22 @@
 -- The area taken entry by entry is the area taken as contents: one payload, one refusal.
 -- Assumes nothing.
-use Prim.Native.Nat.{ℕ, zero, suc, _+_, _-_, _%_, _≤_}
+use Prim.Native.Nat.{ℕ, _%_}
 use mathlib.Core.Bool.{Bool, true, false}
-use mathlib.Core.List.{List, [], _∷_, _++_, map, flatMap}
+use mathlib.Core.List.{List, [], _∷_, _++_, map}
 use mathlib.Core.Path.{_≡_, refl, sym, ap, _∙_}
 use lib.Dec.{leb, eqb}
 use lib.ListN.{length, getD}
-use Rattle.numbers.specs.Tests.{pick, both}
+use Rattle.numbers.specs.Tests.{both, allOf}
 use Rattle.numbers.specs.Result.{Result, refused, got, check, andThen}
 use Rattle.numbers.proofs.Answers.{then-got, got-got}
-use Rattle.hello.specs.Lists.{allOf}
 use Rattle.hello.specs.Pieces.{Sub}
 use Rattle.hello.specs.Contents.{Parameters, Nickname, Trees, SmartMac, Contents}
 use Rattle.hello.specs.Reading.{single}
-use Rattle.hello.specs.Writing.{parametersGood, nicknameGood, nicknamesGood, treesGood, smartMacGood, contentsGood, parametersSub, nicknamesSub, treesSub, smartMacSub, subsOf, tlvsOf, helloWritten}
-use Rattle.hello.specs.Area.{Taken, Taker, taken, takeOne, then, takeMany, takeCounted, takeParameters, takeNickname, takeTrees, takeSmartMac, takeContents, contentsOf, contentsIn}
+use Rattle.hello.specs.Writing.{parametersGood, nicknamesGood, treesGood, smartMacGood, contentsGood, parametersSub, nicknamesSub, treesSub, smartMacSub, subsOf, tlvsOf, helloWritten}
+use Rattle.hello.specs.Area.{Taken, Taker, taken, takeOne, then, takeCounted, takeParameters, takeNickname, takeTrees, takeSmartMac, takeContents, contentsOf, contentsIn}
 use Rattle.hello.specs.Calls.{areaWritten}
 use Rattle.hello_area.specs.Entries.{via, takeSub, takeBoth, takeSubs, numbersIn, entriesWritten}
-use Rattle.hello_area.proofs.Takers.{Only, only-taken, only-then, only-counted, only-parameters, only-nickname, only-trees, only-smartMac, then-then, then-same, check-then, check-check}
+use Rattle.hello_area.proofs.Takers.{Only, only-taken, only-then, only-counted, only-parameters, only-nickname, only-trees, only-smartMac, then-then, then-same, check-then}
 use Rattle.hello_area.proofs.Entries.{Pair, pair-via, got-then, section-via, sub-22, sub-6, sub-8, sub-23, many-length}
 
 -- ---- two sections

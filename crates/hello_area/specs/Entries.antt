@@ -7,10 +7,10 @@ use lib.Dec.{leb, ltb, eqb}
 use lib.ListN.{length, drop, getD}
 use Rattle.numbers.specs.Tests.{pick, both, either}
 use Rattle.numbers.specs.Bytes.{num, bytesOf, parts}
-use Rattle.numbers.specs.Result.{Result, refused, got, check, andThen, settled}
+use Rattle.numbers.specs.Result.{Result, refused, got, check, andThen}
 use Rattle.hello.specs.Pieces.{capability, geninfo, parametersType, smartMacType, nicknameType, treesType, Sub}
-use Rattle.hello.specs.Contents.{Parameters, Nickname, SmartMac}
-use Rattle.hello.specs.Reading.{hello-malformed, parameters-missing, single}
+use Rattle.hello.specs.Contents.{Parameters}
+use Rattle.hello.specs.Reading.{hello-malformed, parameters-missing}
 use Rattle.hello.specs.Writing.{within, mostNicknames, mostTrees, mostMacs, parametersGood, nicknameGood, labelTop, nicknameBytes, tlvsOf}
 use Rattle.hello.specs.Area.{Taken, Taker, taken, takeOne, then, takeMany, takeCounted, takeParameters, takeNickname}
 

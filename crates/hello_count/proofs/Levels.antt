@@ -1,9 +1,9 @@
 -- The levels of counting: a TLV of another kind brings nothing, one that holds the type brings what its sub-TLVs bring, and a payload
 -- what its TLVs bring.
 -- Assumes nothing.
-use Prim.Native.Nat.{ℕ, zero, suc, _+_, _<_, _≤_}
+use Prim.Native.Nat.{ℕ, _<_, _≤_}
 use mathlib.Core.Bool.{Bool, true, false}
-use mathlib.Core.List.{List, [], _∷_, _++_, map, flatMap, append-nil}
+use mathlib.Core.List.{List, [], _∷_, map, flatMap}
 use mathlib.Core.Path.{_≡_, refl, sym, ap, _∙_}
 use native.Mathlib.Omega.{arith}
 use lib.Dec.{leb, eqb}
@@ -12,12 +12,11 @@ use borrow.Author.Tests.{eq-eqb, ne-eqb, le-leb, lt-leb, eqb-true}
 use Rattle.numbers.specs.Tests.{pick, both, either}
 use Rattle.numbers.specs.Bytes.{parts}
 use Rattle.numbers.proofs.Truth.{both-true}
+use Rattle.numbers.proofs.Lists.{map-append, flatMap-append}
 use Rattle.hello.specs.Tlvs.{Tlv, tlv, stump, tlvs}
 use Rattle.hello.specs.Pieces.{capability, geninfo, application, geninfoHead, Piece, skipped, broken, inside, capabilityPieces, geninfoPieces, tlvPieces, pieces}
 use Rattle.hello.specs.Contents.{Parameters, Nickname, Trees, SmartMac, Item, parameters, nicknames, trees, smartMac, ignored, malformed}
 use Rattle.hello.specs.Reading.{parametersOf, nicknameOf, treesOf, smartMacOf, subSays, says, items}
-use Rattle.hello.specs.Area.{counted, parametersNumbers, treesNumbers, smartMacNumbers}
-use Rattle.hello.proofs.Lists.{map-append, flatMap-append}
 use Rattle.hello.proofs.Cuts.{tlvs-end}
 use Rattle.hello_count.specs.Sections.{brought, joined, holderFor, bodyAt, subBrought, tlvBrought, subNumbers, tlvNumbers}
 

@@ -6,10 +6,10 @@ use mathlib.Core.Path.{_≡_, refl, sym, ap, _∙_}
 use native.Mathlib.Omega.{arith}
 use lib.ListN.{length, length-map}
 use Rattle.numbers.specs.Tests.{pick}
+use Rattle.numbers.proofs.Lists.{map-append}
 use Rattle.hello.specs.Contents.{Item, parameters, nicknames, trees, smartMac, ignored, malformed}
 use Rattle.hello.specs.Reading.{parametersIn, nicknamesIn, treesIn, macsIn, gathered}
 use Rattle.hello.specs.Area.{counted, alone, parametersNumbers, nicknameNumbers, treesNumbers, smartMacNumbers, numbersOf}
-use Rattle.hello.proofs.Lists.{map-append}
 use Rattle.hello_judge.specs.declared.Counts.{Counts}
 use Rattle.hello_judge.specs.Counting.{walked, nothing, counting}
 use Rattle.hello_judge.proofs.Sums.{from-nothing}

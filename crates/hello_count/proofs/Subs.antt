@@ -1,19 +1,19 @@
 -- What one sub-TLV of a type brings, by its length; and how many numbers.
 -- Assumes nothing.
-use Prim.Native.Nat.{ℕ, zero, _+_, _-_, _*_, _/_, _%_, _<_, _≤_}
-use mathlib.Core.List.{List, [], _∷_, _++_, map, flatMap, append-nil}
-use mathlib.Core.Path.{_≡_, refl, sym, ap, _∙_}
+use Prim.Native.Nat.{ℕ, _+_, _-_, _*_, _/_, _%_, _<_, _≤_}
+use mathlib.Core.List.{List, [], _∷_, map, flatMap, append-nil}
+use mathlib.Core.Path.{_≡_, refl, sym, ap}
 use native.Mathlib.Omega.{arith}
 use lib.ListN.{length, drop, length-drop, length-map}
 use borrow.Author.Tests.{eq-eqb, ne-eqb, le-leb, lt-leb}
 use Rattle.numbers.specs.Tests.{pick, both, either}
 use Rattle.numbers.specs.Bytes.{num, parts}
+use Rattle.numbers.proofs.Parts.{length-joined}
 use Rattle.hello.specs.Tlvs.{Tlv, tlv}
 use Rattle.hello.specs.Pieces.{inside}
 use Rattle.hello.specs.Contents.{Nickname}
 use Rattle.hello.specs.Reading.{parametersOf, nicknameOf, treesOf, smartMacOf, subSays, says}
 use Rattle.hello.specs.Area.{counted, alone, parametersNumbers, nicknameNumbers, treesNumbers, smartMacNumbers}
-use Rattle.hello.proofs.Lists.{length-joined}
 use Rattle.hello_judge.proofs.Subs.{parts-count}
 use Rattle.hello_count.specs.Sections.{brought, joined, subBrought, subNumbers}
 

@@ -12,8 +12,8 @@ use lib.Seq.{drop-drop, drop-cons}
 use borrow.Author.Tests.{lt-ltb, le-ltb, leb-true, leb-false}
 use Rattle.numbers.specs.Bytes.{num, parts}
 use Rattle.numbers.specs.Result.{check, andThen}
+use Rattle.numbers.proofs.Parts.{parts-end, parts-more}
 use Rattle.hello.specs.Area.{takeOne}
-use Rattle.hello.proofs.Lists.{parts-end, parts-more}
 use Rattle.hello_area.specs.Entries.{via, numbersIn, endIn, reach}
 use Rattle.hello_area.proofs.Places.{Suffix, suffix-one, suffix-via, reach-in, reach-over}
 use Rattle.hello_ends.specs.Below.{takeBelow}

@@ -1,6 +1,6 @@
 -- What a TLV and a payload count: what their pieces do.
 -- Assumes nothing.
-use Prim.Native.Nat.{ℕ, _+_, _-_, _*_, _/_, _%_, _<_, _≤_}
+use Prim.Native.Nat.{ℕ, _-_, _<_, _≤_}
 use mathlib.Core.List.{List, [], _∷_, _++_, map, flatMap}
 use mathlib.Core.Path.{_≡_, refl, sym, ap, _∙_}
 use native.Mathlib.Omega.{arith}
@@ -8,11 +8,11 @@ use lib.ListN.{length, take, drop, length-drop}
 use lib.Seq.{take-all}
 use borrow.Author.Tests.{eq-eqb, ne-eqb, le-leb, lt-leb}
 use Rattle.numbers.specs.Tests.{pick}
+use Rattle.numbers.proofs.Lists.{map-append}
 use Rattle.hello.specs.Tlvs.{Tlv, tlv, stump, tlvs}
 use Rattle.hello.specs.Pieces.{application, geninfoHead, inside, capabilityPieces, geninfoPieces, tlvPieces, pieces}
 use Rattle.hello.specs.Contents.{malformed}
 use Rattle.hello.specs.Reading.{says, items}
-use Rattle.hello.proofs.Lists.{map-append}
 use Rattle.hello_judge.specs.declared.Counts.{Counts}
 use Rattle.hello_judge.specs.Counting.{walked, nothing, counting, subCounting, tlvCounting, total, pastEmpty, refusalFor}
 use Rattle.hello_judge.proofs.Laws.{past-same}

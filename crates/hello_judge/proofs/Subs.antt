@@ -1,18 +1,18 @@
 -- What a sub-TLV counts, by its type and its length.
 -- Assumes nothing.
 use Prim.Native.Nat.{ℕ, zero, suc, _+_, _-_, _*_, _/_, _%_, _<_, _≤_}
-use mathlib.Core.List.{List, _∷_, map}
+use mathlib.Core.List.{List, map}
 use mathlib.Core.Path.{_≡_, refl, ap, _∙_}
 use native.Mathlib.Omega.{arith}
 use lib.ListN.{length, drop, length-drop, length-map}
 use borrow.Author.Tests.{eq-eqb, ne-eqb, le-leb, lt-leb}
 use Rattle.numbers.specs.Tests.{pick, both}
 use Rattle.numbers.specs.Bytes.{num, parts}
+use Rattle.numbers.proofs.Parts.{parts-end, parts-more}
 use Rattle.hello.specs.Tlvs.{tlv, stump}
 use Rattle.hello.specs.Pieces.{inside}
 use Rattle.hello.specs.Contents.{malformed}
 use Rattle.hello.specs.Reading.{nicknameOf, treesOf, smartMacOf, subSays, says}
-use Rattle.hello.proofs.Lists.{parts-end, parts-more}
 use Rattle.hello_judge.specs.declared.Counts.{Counts}
 use Rattle.hello_judge.specs.Counting.{addMalformed, addParameters, addNicknames, addTrees, addMacs, counting, subCounting}
 

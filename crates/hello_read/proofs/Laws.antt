@@ -1,8 +1,8 @@
 -- The sections one behind the other are the contents; each way out of the call is an outcome of the definition.
 -- Assumes nothing.
-use Prim.Native.Nat.{ℕ, zero, suc, _+_, _-_, _*_, _/_, _<_, _≤_}
+use Prim.Native.Nat.{ℕ, _+_, _-_, _*_, _/_, _<_, _≤_}
 use mathlib.Core.Bool.{Bool, true, false, not}
-use mathlib.Core.List.{List, [], _∷_, _++_, map, flatMap, append-assoc}
+use mathlib.Core.List.{List, _++_, flatMap, append-assoc}
 use mathlib.Core.Path.{_≡_, refl, sym, ap, _∙_}
 use native.Mathlib.Omega.{arith}
 use lib.Dec.{leb}
@@ -12,15 +12,14 @@ use Rattle.numbers.specs.Tests.{anyOf}
 use Rattle.numbers.specs.Bytes.{laid}
 use Rattle.numbers.specs.Result.{Result, refused, got, check, andThen, settled}
 use Rattle.numbers.specs.Refusals.{area-short}
-use Rattle.numbers.specs.After.{OnArea, onArea}
+use Rattle.numbers.specs.After.{onArea}
 use Rattle.convert.specs.Compaction.{written}
 use Rattle.frame_copy.specs.Areas.{pasted}
 use Rattle.frame_copy.proofs.Copying.{paste-next, paste-laid}
 use Rattle.hello.specs.Contents.{Contents, Item}
 use Rattle.hello.specs.Reading.{isMalformed, parametersIn, gathered, items, single, understood, helloRead}
-use Rattle.hello.specs.Area.{numbersOf, areaOf}
+use Rattle.hello.specs.Area.{areaOf}
 use Rattle.hello.specs.Calls.{areaRead, answered, readCall}
-use Rattle.hello.specs.declared.HelloAnswer.{HelloAnswer}
 use Rattle.hello.specs.declared.HelloAnswer.the-variants.{Refused, Written}
 use Rattle.hello_judge.specs.declared.Counts.{Counts}
 use Rattle.hello_judge.specs.Counting.{walked, nothing, counting, refusalFor, refusalOf}

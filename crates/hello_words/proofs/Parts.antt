@@ -1,7 +1,7 @@
 -- A loop over parts of k bytes that writes c bytes for each: what is left to write makes what is there the whole.
 -- Assumes nothing.
 use Prim.Native.Nat.{ℕ, _+_, _-_, _*_, _/_, _%_, _^_, _<_, _≤_}
-use mathlib.Core.List.{List, [], _∷_, _++_, flatMap, append-nil}
+use mathlib.Core.List.{List, [], _∷_, flatMap, append-nil}
 use mathlib.Core.Path.{_≡_, sym, ap, _∙_}
 use native.Mathlib.Nat.{add-zero}
 use native.Mathlib.Omega.{arith}
@@ -9,10 +9,10 @@ use lib.ListN.{length, take, drop, length-drop, take-append-drop}
 use lib.Seq.{drop-drop}
 use Rattle.numbers.specs.Bytes.{AreBytes, num, bytesOf, parts}
 use Rattle.numbers.proofs.Bytes.{length-bytesOf, num-add, num-part-lt}
+use Rattle.numbers.proofs.Parts.{parts-end, parts-more}
 use Rattle.frame_copy.specs.Areas.{pasted}
 use Rattle.frame_copy.proofs.Copying.{paste-next}
 use Rattle.hello.specs.Area.{nicknameNumbers}
-use Rattle.hello.proofs.Lists.{parts-end, parts-more}
 use Rattle.hello_words.specs.Words.{recordWords, numberWord}
 use Rattle.hello_words.proofs.Words.{length-words}
 

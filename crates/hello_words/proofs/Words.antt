@@ -1,25 +1,21 @@
 -- Numbers as words, one behind the other in an area.
 -- Assumes nothing.
-use Prim.Native.Nat.{ℕ, zero, suc, _+_, _-_, _*_, _/_, _%_, _^_, _<_, _≤_}
-use mathlib.Core.Bool.{Bool, true, false}
+use Prim.Native.Nat.{ℕ, _+_, _-_, _*_, _/_, _%_, _^_, _≤_}
 use mathlib.Core.List.{List, [], _∷_, _++_, map, flatMap, append-nil, append-assoc}
 use mathlib.Core.Path.{_≡_, refl, sym, ap, _∙_}
-use native.Mathlib.Nat.{add-zero}
 use native.Mathlib.Omega.{arith}
-use lib.Dec.{eqb}
-use lib.ListN.{length, take, drop, getD, length-append, length-drop, length-map, take-append-drop}
+use lib.ListN.{length, take, drop, getD, length-append, length-drop, length-map}
 use lib.Seq.{drop-drop, take-all, length-take-le}
 use borrow.Author.Tests.{eq-eqb, ne-eqb}
 use Rattle.numbers.specs.Tests.{pick}
 use Rattle.numbers.specs.Bytes.{num, bytesOf, parts}
 use Rattle.numbers.proofs.Bytes.{length-bytesOf, num-one}
-use Rattle.numbers.proofs.Lists.{part-prefix}
+use Rattle.numbers.proofs.Lists.{part-prefix, flatMap-append}
+use Rattle.numbers.proofs.Parts.{length-joined}
 use Rattle.frame_copy.specs.Areas.{pasted}
 use Rattle.frame_copy.proofs.Copying.{paste-next}
-use Rattle.hello.specs.Contents.{Nickname}
 use Rattle.hello.specs.Reading.{parametersOf, nicknameOf, treesOf, smartMacOf, labelIn}
 use Rattle.hello.specs.Area.{counted, alone, parametersNumbers, nicknameNumbers, treesNumbers, smartMacNumbers}
-use Rattle.hello.proofs.Lists.{flatMap-append, length-joined}
 use Rattle.hello_judge.proofs.Subs.{parts-count}
 use Rattle.hello_words.specs.Words.{words, recordWords, numberWord, labelWords}
 

@@ -1,15 +1,14 @@
 -- What ingress accepted, and what it wrote of it.
 -- Assumes nothing.
 use Prim.Native.Nat.{ℕ, _≤_}
-use mathlib.Core.Bool.{Bool, true, false}
+use mathlib.Core.Bool.{true}
 use mathlib.Core.List.{List}
-use mathlib.Core.Path.{_≡_, refl, sym, ap, _∙_, subst}
-use lib.Dec.{leb}
+use mathlib.Core.Path.{_≡_, ap, _∙_}
 use lib.ListN.{length, drop}
 use borrow.Author.Tests.{leb-true}
 use Rattle.numbers.specs.Result.{got}
 use Rattle.numbers.proofs.Answers.{check-got, then-got, got-got}
-use Rattle.frame.specs.Labels.{isTag, low12}
+use Rattle.frame.specs.Labels.{isTag}
 use Rattle.frame.specs.declared.Settings.{Settings}
 use Rattle.convert.specs.Claims.{converted}
 use Rattle.convert.proofs.Areas.{wrote}

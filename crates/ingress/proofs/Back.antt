@@ -1,15 +1,14 @@
 -- Towards MapRoundTrip: what ingress writes is read as the fields it was made of, and label and priority come back.
 -- Assumes nothing.
 use Prim.Native.Nat.{ℕ, _+_, _*_, _/_, _%_, _^_, _<_, _≤_}
-use mathlib.Core.Bool.{Bool, true, false}
-use mathlib.Core.List.{List, [], _∷_, _++_, append-assoc}
+use mathlib.Core.Bool.{true, false}
+use mathlib.Core.List.{List, _++_, append-assoc}
 use mathlib.Core.Path.{_≡_, refl, sym, ap, _∙_}
 use native.Mathlib.Omega.{arith}
-use lib.Dec.{leb, eqb}
 use lib.ListN.{length, take, drop, length-append, length-drop}
 use lib.Seq.{drop-drop, take-add, length-take-le}
 use borrow.Author.Tests.{le-leb, eq-eqb}
-use Rattle.numbers.specs.Tests.{pick, both}
+use Rattle.numbers.specs.Tests.{both}
 use Rattle.numbers.specs.Bytes.{AreBytes, num, bytesOf, startsWith}
 use Rattle.numbers.specs.Result.{got}
 use Rattle.numbers.proofs.Truth.{pick-false}
@@ -17,7 +16,7 @@ use Rattle.numbers.proofs.Answers.{check-pass}
 use Rattle.numbers.proofs.Bytes.{length-bytesOf, num-same, num-part-lt}
 use Rattle.numbers.proofs.Lists.{starts-is}
 use Rattle.frame.specs.Front.{Front, addressBytes}
-use Rattle.frame.specs.Header.{wordAt, versionOf, multicastOf, optionLength, hopCount, headerBytes, agrees, headerLength}
+use Rattle.frame.specs.Header.{wordAt, versionOf, multicastOf, optionLength, headerBytes, agrees, headerLength}
 use Rattle.frame.specs.Labels.{tagType, isTag, isFine, low12, labelLength}
 use Rattle.frame.specs.Formats.{general}
 use Rattle.frame.proofs.Parts.{Good, general-reads}

@@ -1,22 +1,20 @@
 -- A port reads what ingress wrote as the fields it was made of, or not at all: as General there is but one reading, and as Compact 22F3
 -- stands where a label should.
 -- Assumes nothing.
-use Prim.Native.Nat.{ℕ, _+_, _≤_}
-use native.Mathlib.Omega.{arith}
+use Prim.Native.Nat.{ℕ, _≤_}
 use mathlib.Core.Bool.{Bool, true, false}
 use mathlib.Core.List.{List, _++_}
 use mathlib.Core.Logic.{⊎-elim}
-use mathlib.Core.Path.{_≡_, refl, sym, ap, _∙_, subst}
-use lib.Dec.{leb}
+use mathlib.Core.Path.{_≡_, refl, sym, ap, _∙_}
 use lib.ListN.{length, drop}
-use Rattle.numbers.specs.Tests.{pick, both}
-use Rattle.numbers.specs.Bytes.{bytesOf, startsWith, num}
+use Rattle.numbers.specs.Tests.{both}
+use Rattle.numbers.specs.Bytes.{bytesOf, startsWith}
 use Rattle.numbers.specs.Result.{got}
 use Rattle.numbers.proofs.Answers.{check-got, pick-got, then-got, got-got, refused-got}
-use Rattle.flush.proofs.Lists.{false-true}
-use Rattle.frame.specs.Front.{Front, unicast, multicast, refusedFront, inner, addressBytes, addressIn, frontOf}
-use Rattle.frame.specs.Header.{wordAt, multicastOf, agrees}
-use Rattle.frame.specs.Labels.{isTag, isFine, isTrill, labelLength}
+use Rattle.numbers.proofs.Truth.{false-true}
+use Rattle.frame.specs.Front.{Front, unicast, multicast, refusedFront, inner, addressIn, frontOf}
+use Rattle.frame.specs.Header.{multicastOf, agrees}
+use Rattle.frame.specs.Labels.{isTag, labelLength}
 use Rattle.frame.specs.Fields.{Fields}
 use Rattle.frame.specs.Formats.{outerLength, generalAfter, general, compact, byFront, parsed}
 use Rattle.frame.specs.Settings.{compactOn}

@@ -1,18 +1,18 @@
 -- MapRoundTrip: the far port reads the fields that ingress wrote; its map gives the VLAN of their label back; and what is written is the
 -- native frame with DEI 0. Compacted for the far port in between, the frame is read as before (ReadsSame), and with Compact off not at all.
 -- Assumes nothing.
-use Prim.Native.Nat.{ℕ, _+_, _*_, _/_, _%_, _^_, _<_, _≤_}
+use Prim.Native.Nat.{ℕ, _/_, _%_, _^_, _<_, _≤_}
 use native.Mathlib.Omega.{arith}
 use mathlib.Core.Bool.{Bool, true, false}
 use mathlib.Core.List.{List, [], _∷_, _++_}
 use mathlib.Core.Logic.{⊎-elim}
 use mathlib.Core.Path.{_≡_, refl, sym, ap, _∙_, subst}
-use lib.Dec.{leb, eqb}
+use lib.Dec.{eqb}
 use lib.ListN.{length, take, drop, length-drop}
 use lib.Seq.{length-take-le, take-append-seam}
 use borrow.Author.Tests.{leb-true, ne-eqb}
-use Rattle.numbers.specs.Tests.{pick, both, either}
-use Rattle.numbers.specs.Result.{Result, refused, got, andThen, settled}
+use Rattle.numbers.specs.Tests.{pick, either}
+use Rattle.numbers.specs.Result.{got, andThen}
 use Rattle.numbers.specs.After.{OnBoth, onBoth}
 use Rattle.numbers.specs.Bytes.{AreBytes, laid}
 use Rattle.numbers.proofs.Answers.{check-got, pick-got, got-got, refused-got}
@@ -23,11 +23,10 @@ use Rattle.table.specs.declared.Learning.{Learning}
 use Rattle.frame.specs.Front.{inner, addressIn, frontOf}
 use Rattle.frame.specs.Header.{wordAt}
 use Rattle.frame.specs.Labels.{isTag, low12}
-use Rattle.frame.specs.Fields.{Fields, nativeBytes}
+use Rattle.frame.specs.Fields.{Fields}
 use Rattle.frame.specs.Formats.{byFront, parsed}
 use Rattle.frame.specs.Settings.{compactOn, defaultLife}
 use Rattle.frame.specs.declared.Settings.{Settings}
-use Rattle.frame.proofs.Parts.{compactParts}
 use Rattle.convert.specs.Compaction.{compacted}
 use Rattle.convert.specs.Claims.{converted}
 use Rattle.convert.proofs.Compacting as compacting
@@ -36,12 +35,12 @@ use Rattle.port_map.specs.Maps.{portVlan, pairsIn, pairsGood, mapGood, labelFor
 use Rattle.port_map.proofs.Searches.{search-inverse, label-found-fits}
 use Rattle.port_map.proofs.Steps.{pairs-end}
 use Rattle.port_map.specs.declared.CampusLabel.{CampusLabel}
-use Rattle.receive.specs.Delivering.{fineIn, tagWord, taggedBytes, stays, nativeOut}
+use Rattle.receive.specs.Delivering.{fineIn, stays, nativeOut}
 use Rattle.receive.specs.Receive.{reading, receivedWith, portReceived}
 use Rattle.receive.specs.declared.ReadAnswer.{ReadAnswer}
 use Rattle.receive.specs.declared.ReadAnswer.the-variants.{Refused, Delivered}
 use Rattle.receive.proofs.Outcomes.{reading-left, settled-left, apart}
-use Rattle.ingress.specs.Ingress.{Native, givenGood, hopsGood, nativeOf, fieldsFor, generalFor, fineLabel, ingressed}
+use Rattle.ingress.specs.Ingress.{Native, givenGood, hopsGood, nativeOf, fieldsFor, generalFor}
 use Rattle.ingress.specs.declared.Given.{Given}
 use Rattle.ingress.specs.Claims.{withoutDei, RoundTrip, MapRoundTrip}
 use Rattle.ingress.proofs.Back.{fine-back, not-tag, tag-back, dei-length}

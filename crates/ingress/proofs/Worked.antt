@@ -1,20 +1,17 @@
 -- The worked cases, by computation; and a refusal leaves the area.
 -- Assumes nothing.
-use Prim.Native.Nat.{ℕ}
-use mathlib.Core.List.{List, [], map}
-use mathlib.Core.Path.{_≡_, refl}
-use lib.ListN.{take}
+use mathlib.Core.Path.{refl}
 use Rattle.numbers.specs.Tests.{pick, both, either, anyOf, between}
 use Rattle.numbers.specs.Bytes.{num, bytesOf, startsWith, parts, partsFrom}
 use Rattle.numbers.specs.Ranges.{individual, nicknameGood, vlanGood}
-use Rattle.numbers.specs.Result.{check, andThen, got, refused}
+use Rattle.numbers.specs.Result.{check, andThen}
 use Rattle.frame.specs.Settings.{addressesGood, secondsGood, numbersGood, laterGood, settingsGood}
 use Rattle.frame.specs.Formats.{frameLengthGood}
 use Rattle.convert.specs.Expansion.{generalTail}
 use Rattle.convert.proofs.Areas.{refused-keeps}
 use Rattle.port_map.specs.Maps.{pairOf, pairsIn, goodOnce, pairsGood, mapGood, labelFor}
 use Rattle.ingress.specs.Ingress.{givenGood, hopsGood, nicksGood, nativeParsed, destinationAgrees, headerOf, fineLabel, fieldsFor, generalFor, judged, ingressing, ingressed}
-use Rattle.ingress.specs.Cases.{nearPort, given, mapBytes, nativeWith, untagged, general, MapCases}
+use Rattle.ingress.specs.Cases.{MapCases}
 use Rattle.ingress.specs.Claims.{IngressRefusal}
 use Rattle.ingress.proofs.ReadBack.{read-back}
 

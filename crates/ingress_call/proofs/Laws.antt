@@ -1,22 +1,22 @@
 -- The tests of a native frame and of what the caller gives, one after the other; and the outcomes of the call.
 -- Assumes nothing.
-use Prim.Native.Nat.{ℕ, _+_, _-_, _*_, _/_, _%_, _^_, _≤_, _<_}
+use Prim.Native.Nat.{ℕ, _+_, _-_, _/_, _%_, _^_, _≤_, _<_}
 use native.Mathlib.Omega.{arith}
 use mathlib.Core.Bool.{Bool, true, false, not}
-use mathlib.Core.List.{List, _++_}
-use mathlib.Core.Path.{_≡_, refl, sym, ap, _∙_}
-use lib.Dec.{leb, eqb}
+use mathlib.Core.List.{List}
+use mathlib.Core.Path.{_≡_, refl, sym, _∙_}
+use lib.Dec.{eqb}
 use lib.ListN.{length, take, drop, length-drop}
 use borrow.Author.Tests.{le-leb, lt-leb, eq-eqb, ne-eqb, not-true, not-false}
 use Rattle.numbers.specs.Tests.{pick, both, between}
 use Rattle.numbers.specs.Result.{Result, refused, got, check, andThen, settled}
 use Rattle.numbers.specs.After.{OnArea, onArea}
-use Rattle.numbers.specs.Bytes.{num, laid, startsWith}
+use Rattle.numbers.specs.Bytes.{num, startsWith}
 use Rattle.numbers.specs.Ranges.{individual, vlanGood}
-use Rattle.frame.specs.Front.{addressBytes, allRBridges}
+use Rattle.frame.specs.Front.{allRBridges}
 use Rattle.frame.specs.Header.{wordAt}
-use Rattle.frame.specs.Labels.{isTag, low12}
-use Rattle.frame.specs.Formats.{taggedAddresses, longestFrame, frameLengthGood}
+use Rattle.frame.specs.Labels.{low12}
+use Rattle.frame.specs.Formats.{frameLengthGood}
 use Rattle.frame.specs.Settings.{settingsGood}
 use Rattle.frame.specs.declared.Settings.{Settings}
 use Rattle.frame_copy.specs.Areas.{pasted}
@@ -24,15 +24,15 @@ use Rattle.frame_copy.proofs.Copying.{paste-laid}
 use Rattle.convert.specs.Compaction.{written}
 use Rattle.convert.specs.declared.ConvertAnswer.{ConvertAnswer}
 use Rattle.convert.specs.declared.ConvertAnswer.the-variants.{Refused, Written}
-use Rattle.port_map.specs.Maps.{no-pair, portVlan, pairsIn, mapGood, labelFor}
+use Rattle.port_map.specs.Maps.{portVlan, pairsIn, mapGood, labelFor}
 use Rattle.port_map.specs.declared.PortVlan.{PortVlan}
 use Rattle.port_map.specs.declared.CampusLabel.{CampusLabel}
 use Rattle.port_map_search.specs.Meaning.{labelAs}
 use Rattle.port_map_search.specs.declared.LabelFound.{LabelFound}
 use Rattle.port_map_search.specs.declared.LabelFound.the-variants as found
-use Rattle.ingress.specs.Ingress.{Native, givenGood, hopsGood, nicksGood, destinationAgrees, nativeOf, nativeParsed, generalFor, longerBy, judged, ingressing, ingressed}
+use Rattle.ingress.specs.Ingress.{Native, givenGood, hopsGood, nicksGood, destinationAgrees, nativeParsed, generalFor, longerBy, judged, ingressing, ingressed}
 use Rattle.ingress.specs.declared.Given.{Given}
-use Rattle.ingress_call.specs.Meaning.{nativeWith, judgedAs, JudgedFits, Judges, nativeJudged, putOn}
+use Rattle.ingress_call.specs.Meaning.{nativeWith, JudgedFits, Judges, nativeJudged, putOn}
 use Rattle.ingress_call.specs.declared.Judged.{Judged}
 use Rattle.ingress_call.specs.declared.Judged.the-variants as verdict
 use Rattle.ingress_call.proofs.Pieces.{general-length}

@@ -1,17 +1,15 @@
 -- The pieces that ingress writes, one after the other, are the General frame.
 -- Assumes nothing.
-use Prim.Native.Nat.{ℕ, _+_, _-_, _*_, _/_, _%_, _^_, _≤_, _<_}
+use Prim.Native.Nat.{ℕ, _+_, _*_, _/_, _%_, _≤_}
 use native.Mathlib.Omega.{arith}
-use mathlib.Core.List.{List, [], _∷_, _++_, append-assoc}
-use mathlib.Core.Path.{_≡_, refl, sym, ap, _∙_}
+use mathlib.Core.List.{List, _++_, append-assoc}
+use mathlib.Core.Path.{_≡_, refl, ap, _∙_}
 use lib.ListN.{length, take, drop, length-append, length-drop}
 use lib.Seq.{take-add, length-take-le}
-use Rattle.numbers.specs.Bytes.{bytesOf, laid}
-use Rattle.numbers.proofs.Bytes.{length-bytesOf}
-use Rattle.frame.specs.Labels.{trillType}
+use Rattle.numbers.specs.Bytes.{bytesOf}
 use Rattle.convert.specs.Expansion.{generalTail}
 use Rattle.frame_copy.specs.Areas.{pasted}
-use Rattle.frame_copy.proofs.Copying.{paste-next, paste-after, paste-laid}
+use Rattle.frame_copy.proofs.Copying.{paste-next, paste-after}
 use Rattle.port_map.specs.declared.PortVlan.{PortVlan}
 use Rattle.port_map.specs.declared.CampusLabel.{CampusLabel}
 use Rattle.ingress.specs.Ingress.{headerOf, fineLabel, fieldsFor, generalFor}

@@ -6,9 +6,9 @@ use mathlib.Core.Bool.{Bool, true, false}
 use mathlib.Core.List.{List}
 use mathlib.Core.Path.{_≡_, refl, sym, ap, _∙_}
 use lib.ListN.{length}
-use Rattle.numbers.specs.Result.{Result, refused, got, check, andThen, settled}
-use Rattle.numbers.specs.After.{OnArea, onArea}
-use Rattle.numbers.proofs.Answers.{check-got, then-got, got-got}
+use Rattle.numbers.specs.Result.{Result, refused, got, check, andThen}
+use Rattle.numbers.specs.After.{OnArea}
+use Rattle.numbers.proofs.Answers.{check-got, then-got}
 use Rattle.frame.specs.Header.{wordAt}
 use Rattle.frame.specs.Labels.{low12}
 use Rattle.frame.specs.declared.Settings.{Settings}
@@ -21,7 +21,7 @@ use Rattle.port_map_pairs.specs.declared.MapPair.{MapPair}
 use Rattle.port_map_search.specs.declared.LabelFound.{LabelFound}
 use Rattle.port_map_one.specs.One.{VlanSearched, VlanAlike, pairForVlan, oneMap}
 use Rattle.port_map_one.proofs.Alike.{vlan-alike}
-use Rattle.ingress.specs.Ingress.{Native, generalFor, nativeOf, judged, ingressing, ingressed}
+use Rattle.ingress.specs.Ingress.{Native, generalFor, judged, ingressing, ingressed}
 use Rattle.ingress.specs.declared.Given.{Given}
 use Rattle.ingress.proofs.Accepted.{native-is}
 use Rattle.ingress_pairs.specs.Meaning.{VlanAsked}

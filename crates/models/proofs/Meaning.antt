@@ -13,12 +13,12 @@ use Rattle.numbers.specs.Tests.{pick, both, either, anyOf}
 use Rattle.numbers.specs.Result.{got}
 use Rattle.numbers.specs.Numberings.{vlans, inBlocks, inMap}
 use Rattle.numbers.proofs.Answers.{check-got, check-pass}
-use Rattle.numbers.proofs.Truth.{both-true}
+use Rattle.numbers.proofs.Truth.{both-true, false-true}
 use Rattle.table.specs.declared.Label.the-variants.{Vlan}
 use Rattle.flush.specs.Payload.{everyType, vlanTypes, Piece, tlv, block, stump, lengthGood, corrupt, nickBytes, blockCount, behind, blockBytes, piecesOf, Payload, payloadOf}
 use Rattle.flush.specs.Meaning.{vlanIn, someMacIn, bringsLabel, gathersMac, bringsMac, labelMeant, macMeant}
 use Rattle.flush.specs.Sets.{Some}
-use Rattle.flush.proofs.Lists.{false-true, any-true, any-member, any-false}
+use Rattle.flush.proofs.Lists.{any-true, any-member, any-false}
 use Rattle.models.specs.Claims.{MacTlv}
 
 -- ---- corrupt pieces

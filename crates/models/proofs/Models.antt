@@ -10,7 +10,7 @@ use native.Mathlib.Omega.{arith}
 use lib.ListN.{length}
 use Rattle.numbers.specs.Tests.{both}
 use Rattle.numbers.specs.Result.{got, check, andThen, settled}
-use Rattle.numbers.proofs.Truth.{both-true, both-pass}
+use Rattle.numbers.proofs.Truth.{both-true, both-pass, false-true}
 use Rattle.table.specs.Record.{unpacked}
 use Rattle.table.specs.Slots.{tableGood, slotsOf, slotAt, freed}
 use Rattle.table.specs.declared.Entry.{Entry}
@@ -20,7 +20,6 @@ use Rattle.flush.specs.Payload.{Types, everyType, vlanTypes, Payload, payloadOf
 use Rattle.flush.specs.Meaning.{nicknameMeant, labelMeant, macMeant, entryMeant}
 use Rattle.flush.specs.Flush.{slotMeant, clearedSlot, clearedBy, clearing, answered, flushed}
 use Rattle.flush.specs.Sets.{Some}
-use Rattle.flush.proofs.Lists.{false-true}
 use Rattle.flush.proofs.Sets.{nickname-agrees, label-agrees, mac-agrees}
 use Rattle.table.proofs.Contents.{unpacked-freed}
 use Rattle.flush.proofs.Flushing.{cleared-hit, cleared-miss, cleared-keeps}

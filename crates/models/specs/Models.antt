@@ -2,9 +2,6 @@
 -- Assumes nothing.
 use Prim.Native.Nat.{ℕ}
 use mathlib.Core.List.{List, [], _∷_}
-use lib.Dec.{eqb}
-use mathlib.Core.Bool.{true, false}
-use Rattle.numbers.specs.Tests.{pick}
 use Rattle.numbers.specs.Result.{check, andThen, got, settled}
 use Rattle.numbers.specs.Refusals.{table-length-bad}
 use Rattle.numbers.specs.After.{OnTable, onTable}

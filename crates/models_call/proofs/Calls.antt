@@ -9,16 +9,16 @@ use native.Mathlib.Omega.{arith}
 use lib.Dec.{eqb, leb}
 use lib.ListN.{length, take, drop}
 use borrow.Author.Tests.{leb-true, eqb-true, not-true}
-use Rattle.numbers.specs.Result.{got, check, andThen, settled}
+use Rattle.numbers.specs.Result.{check, andThen, settled}
 use Rattle.numbers.specs.Refusals.{payload-corrupt, table-length-bad}
 use Rattle.numbers.specs.After.{OnTable, onTable}
-use Rattle.numbers.proofs.Truth.{and-both, or-either, both-true}
+use Rattle.numbers.proofs.Truth.{and-both, or-either, both-true, either-neither}
 use Rattle.numbers.proofs.Answers.{check-got}
+use Rattle.numbers.proofs.Lists.{rest-is}
 use Rattle.table.specs.Slots.{mostSlots, tableGood, slotsOf, countSlots}
 use Rattle.flush.specs.Payload.{vlanTypes, nickBytes, blockCount, behind, blockBytes, piecesOf, made, payloadOf}
 use Rattle.flush.specs.Flush.{slotMeant, clearedBy, clearing}
 use Rattle.flush.specs.declared.FlushAnswer.the-variants as answer
-use Rattle.flush_payload.proofs.Laws.{rest-is}
 use Rattle.flush_payload.specs.Judging.{Noted, JudgedPayload}
 use Rattle.flush_payload.specs.declared.Kinds.{Kinds}
 use Rattle.flush_payload.specs.declared.Judged.{Judged}
@@ -29,7 +29,6 @@ use Rattle.flush_marks.specs.Marks.{clearedMarks}
 use Rattle.flush_marks.proofs.Clearing.{cleared-whole}
 use Rattle.flush_marks.proofs.Filters.{chosen-same}
 use Rattle.flush_call.specs.Clearing.{payloadFrom}
-use Rattle.flush_call.proofs.Tests.{either-neither}
 use Rattle.flush_call.proofs.Calls.{range-cleared, whole-within, flush-slots}
 use Rattle.table.proofs.Slots.{count-few}
 use Rattle.models.specs.Models.{flushedBy, flushedVlanOnly}

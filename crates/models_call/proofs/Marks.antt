@@ -10,18 +10,17 @@ use lib.ListN.{length, drop, take-append-drop}
 use borrow.Author.Tests.{eq-eqb}
 use Rattle.numbers.specs.Tests.{pick, both, either, anyOf}
 use Rattle.numbers.specs.After.{onTable}
-use Rattle.numbers.proofs.Truth.{both-left, both-right}
+use Rattle.numbers.proofs.Truth.{both-left, both-right, either-neither, false-true}
 use Rattle.table.specs.Record.{recordOf, kindOf, labelOf, macOf, nicknameOf, vlanKind, labelFrom, entryOf, unpacked, isLearned}
 use Rattle.table.specs.Slots.{slotBytes, slotsOf, slotAt, putSlot, onSlots, countSlots}
 use Rattle.table.specs.declared.Label.{Label}
-use Rattle.table.specs.declared.Label.the-variants.{Vlan, Fine}
+use Rattle.table.specs.declared.Label.the-variants.{Fine}
 use Rattle.table.specs.declared.Slot.{Slot}
 use Rattle.table.specs.declared.Slot.the-variants.{Free, Spoilt, Learned, Configured}
 use Rattle.table.proofs.Contents.{learned-entry}
 use Rattle.flush.specs.Payload.{everyType, vlanTypes, Piece, tlv, block, stump, tlvEnd, tlvsFrom, tlvs, piecesOf, Payload}
-use Rattle.flush.specs.Meaning.{labelIn, fineIn, bringsLabel, nicknameMeant, labelMeant, macMeant, entryMeant}
+use Rattle.flush.specs.Meaning.{labelIn, fineIn, bringsLabel, nicknameMeant, labelMeant, entryMeant}
 use Rattle.flush.specs.Flush.{heldMeant, slotMeant, clearedSlot, clearedBy}
-use Rattle.flush.proofs.Lists.{false-true}
 use Rattle.flush.proofs.Flushing.{cleared-miss}
 use Rattle.flush_payload.specs.Judging.{everyKind, listKind, mapKind, ofKind, Noted}
 use Rattle.flush_payload.specs.Judging as judging
@@ -30,7 +29,7 @@ use Rattle.flush_vlans.specs.Vlans.{VlansNoted}
 use Rattle.flush_marks.specs.Filters.{slotNamed}
 use Rattle.flush_nicknames.specs.First.{kindMeant, fineNoted, slotFirst, FirstPass}
 use Rattle.flush_call.specs.Clearing.{payloadFrom}
-use Rattle.flush_call.proofs.Tests.{either-neither, any-passes, every-fine}
+use Rattle.flush_call.proofs.Tests.{any-passes, every-fine}
 use Rattle.models.proofs.Meaning.{any-same, label-same, every-mac, small-types}
 
 -- ---- the types that both models implement

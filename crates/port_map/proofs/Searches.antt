@@ -9,9 +9,8 @@ use borrow.Author.Tests.{eqb-true, eq-eqb, not-true}
 use Rattle.numbers.specs.Tests.{pick, both, either, anyOf}
 use Rattle.numbers.specs.Ranges.{vlanGood}
 use Rattle.numbers.specs.Result.{Result, refused, got}
-use Rattle.numbers.proofs.Truth.{both-true}
+use Rattle.numbers.proofs.Truth.{both-true, either-second, false-true}
 use Rattle.numbers.proofs.Answers.{refused-got, got-got}
-use Rattle.flush.proofs.Lists.{false-true}
 use Rattle.port_map.specs.declared.PortVlan.{PortVlan}
 use Rattle.port_map.specs.declared.CampusLabel.{CampusLabel}
 use Rattle.port_map.specs.Maps.{portVlan, campusLabel, Pair, no-pair, goodOnce, vlanOf, labelOf, fineGood, pairsGood, labelFor, vlanFor}
@@ -59,17 +58,12 @@ module _ (x y : ℕ) where
       go true later e = ap (λ (n : ℕ). got (portVlan n)) (got-got (vlanOf p) y e)
       go false later e = later e
 
-either-later : (a b : Bool) → b ≡ true → either a b ≡ true
-unfolding either
-either-later true b h = refl
-either-later false b h = h
-
 module _ (key value : Pair → ℕ) where
   found-step : (p : Pair) (ps : List Pair) (x y : ℕ) (c : Bool) → (search key value ps x ≡ got y → anyOf (eqb y) (map value ps) ≡ true)
       → pick c (got (value p)) (search key value ps x) ≡ got y → either (eqb y (value p)) (anyOf (eqb y) (map value ps)) ≡ true
   unfolding pick either
   found-step p ps x y true later h = rw (eq-eqb y (value p) (sym (got-got (value p) y h)))
-  found-step p ps x y false later h = either-later (eqb y (value p)) _ (later h)
+  found-step p ps x y false later h = either-second (eqb y (value p)) _ (later h)
 
   -- a value that was found is among the values
   found-there : (ps : List Pair) (x y : ℕ) → search key value ps x ≡ got y → anyOf (eqb y) (map value ps) ≡ true

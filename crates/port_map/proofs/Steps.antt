@@ -3,12 +3,11 @@
 use Prim.Native.Nat.{ℕ, _+_, _-_, _≤_, _<_}
 use native.Mathlib.Omega.{arith}
 use mathlib.Core.List.{List, [], _∷_, map}
-use mathlib.Core.Path.{_≡_, refl, ap, _∙_}
+use mathlib.Core.Path.{_≡_, ap, _∙_}
 use lib.ListN.{length, take, drop, length-drop}
 use lib.Seq.{drop-drop}
-use Rattle.numbers.specs.Bytes.{num, parts}
-use Rattle.flush.proofs.Lists.{parts-end, parts-more}
-use Rattle.port_map.specs.Maps.{pairBytes, Pair, pairOf, pairsIn}
+use Rattle.numbers.proofs.Parts.{parts-end, parts-more}
+use Rattle.port_map.specs.Maps.{pairBytes, pairOf, pairsIn}
 
 pub pairs-end : (m : List ℕ) → length m < pairBytes → pairsIn m ≡ []
 unfolding pairsIn

@@ -10,7 +10,7 @@ use mathlib.Core.Path.{_≡_, refl, sym, ap, _∙_, subst}
 use lib.Dec.{eqb}
 use lib.ListN.{length, take, drop, getD, set, length-set, drop-of-length-le, replicate, length-replicate}
 use lib.Seq.{length-take-le, drop-cons, drop-set-lt, getD-set-same}
-use borrow.Author.Tests.{eq-eqb, ne-eqb, eqb-true, eqb-false, le-leb, lt-leb, not-true, not-false}
+use borrow.Author.Tests.{eq-eqb, eqb-true, eqb-false, le-leb, lt-leb, not-true, not-false}
 use Rattle.numbers.specs.Tests.{both, either, anyOf}
 use Rattle.numbers.specs.Ranges.{lastFine}
 use Rattle.flush_sort.specs.Sorting.{All, Sorted, SortOf}
@@ -20,7 +20,7 @@ use Rattle.port_map.proofs.Steps.{pairs-done, pairs-at}
 use Rattle.port_map_search.specs.Meaning.{pairAt}
 use Rattle.port_map_judge.specs.Meaning.{labelsIn}
 use Rattle.port_map_judge.specs.Apart.{mostKeys, keysOf, Apart, Parted, Keyed}
-use Rattle.port_map_judge.proofs.Laws.{once-at, once-none, once-from}
+use Rattle.port_map_judge.proofs.Laws.{once-at, once-from}
 
 never : {C : Type 0} → false ≡ true → C
 never e = absurd (let z : _≡_ {A = ℕ} 0 1 = cc in omega arith)

@@ -13,13 +13,13 @@ use borrow.Author.Tests.{eq-eqb, ne-eqb, eqb-true, eqb-false, le-leb, lt-leb, no
 use Rattle.numbers.specs.Tests.{pick, both, either, anyOf, between}
 use Rattle.numbers.specs.Numberings.{bitAt}
 use Rattle.numbers.specs.Ranges.{firstVlan, lastVlan, vlanGood, lastFine}
-use Rattle.numbers.specs.Result.{Result, refused, got}
-use Rattle.numbers.proofs.Truth.{between-is}
+use Rattle.numbers.specs.Result.{refused, got}
+use Rattle.numbers.proofs.Truth.{between-is, either-first, both-right}
 use Rattle.numbers.proofs.Answers.{refused-got}
 use lib.Bits.{bitOr}
 use Rattle.flush_bits.specs.Ranged.{maskOf, Ranged}
 use Rattle.flush_bits.proofs.Laws.{every, every-at, part-added, range-tells}
-use Rattle.port_map.specs.Maps.{no-pair, pairBytes, Pair, pairOf, pairsIn, goodOnce, vlanOf, labelOf, fineGood, pairsGood, mapGood, labelFor, vlanFor}
+use Rattle.port_map.specs.Maps.{no-pair, pairBytes, Pair, pairsIn, goodOnce, vlanOf, labelOf, fineGood, pairsGood, mapGood, labelFor, vlanFor}
 use Rattle.port_map.specs.declared.PortVlan.{PortVlan}
 use Rattle.port_map.specs.declared.CampusLabel.{CampusLabel}
 use Rattle.port_map.proofs.Steps.{pairs-end, pairs-more, pairs-done, pairs-at}
@@ -29,11 +29,6 @@ use Rattle.port_map_search.specs.declared.LabelFound.the-variants as label
 use Rattle.port_map_search.specs.declared.VlanFound.{VlanFound}
 use Rattle.port_map_search.specs.declared.VlanFound.the-variants as found
 use Rattle.port_map_judge.specs.Meaning.{vlansIn, labelsIn, seenBytes, Noted, metBytes, Met, LabelNoted, lowBytes, highBytes, lowOf, highOf, MetAt, LabelNotedTwice}
-
-both-false : (a b : Bool) → b ≡ false → both a b ≡ false
-unfolding both
-both-false true b h = h
-both-false false b h = refl
 
 -- ---- one bit
 
@@ -59,7 +54,7 @@ module _ (good : ℕ → Bool) (f : Pair → ℕ) where
       let k : pairBytes + pairBytes * j ≡ pairBytes * suc j = omega arith in
       let r : drop (pairBytes * j) (drop pairBytes m) ≡ drop (pairBytes * suc j) m = drop-drop (pairBytes * j) pairBytes m ∙ ap (λ (n : ℕ). drop n m) k in
       let q = once-later j (drop pairBytes m) (omega arith) (ap (λ (x : List ℕ). goodOnce good (map f (pairsIn x))) r ∙ e) in
-      ap (λ (ps : List Pair). goodOnce good (map f ps)) (pairs-more m (omega arith)) ∙ both-false _ _ (both-false _ _ q)
+      ap (λ (ps : List Pair). goodOnce good (map f ps)) (pairs-more m (omega arith)) ∙ both-right _ _ (both-right _ _ q)
 
   pub once-from : (m : List ℕ) (at : ℕ) → at % pairBytes ≡ 0 → at ≤ length m → goodOnce good (map f (pairsIn (drop at m))) ≡ false → goodOnce good (map f (pairsIn m)) ≡ false
   once-from m at whole h e =
@@ -377,10 +372,6 @@ either-was : (a b c : Bool) → (a ≡ true → c ≡ true) → (b ≡ true → 
 unfolding either
 either-was true b c f g h = f refl
 either-was false b c f g h = g h
-
-either-first : (a b : Bool) → a ≡ true → either a b ≡ true
-unfolding either
-either-first a b h = rw h
 
 -- one more number, whose bit was added
 met-more : (h : ℕ → ℕ) (l k : List ℕ) (x : ℕ) (s t : List ℕ) → ((y : ℕ) → anyOf (eqb y) k ≡ either (eqb y x) (anyOf (eqb y) l)) → MetAt h l s → Ranged s t (h x) (h x + 1) → MetAt h k t

@@ -1,7 +1,7 @@
 -- A slice of pairs and the map of at most one pair that stands for it do not differ for a search: an empty one is none, a bad one is bad,
 -- and in a good one what was found has good numbers and is found again.
 -- Assumes nothing.
-use Prim.Native.Nat.{ℕ, _+_, _-_, _*_}
+use Prim.Native.Nat.{ℕ, _-_}
 use native.Mathlib.Omega.{arith}
 use mathlib.Core.Bool.{Bool, true, false, not}
 use mathlib.Core.List.{List, [], _∷_, map}
@@ -9,13 +9,12 @@ use mathlib.Core.Path.{_≡_, refl, sym, ap, _∙_}
 use lib.Dec.{eqb}
 use lib.ListN.{length, take}
 use borrow.Author.Tests.{eqb-true, eq-eqb, ne-eqb}
-use Rattle.numbers.specs.Tests.{pick, both, either, anyOf, between}
+use Rattle.numbers.specs.Tests.{pick, both, anyOf, between}
 use Rattle.numbers.specs.Ranges.{vlanGood}
-use Rattle.numbers.specs.Result.{Result, refused, got}
-use Rattle.numbers.proofs.Truth.{both-true, both-pass}
+use Rattle.numbers.specs.Result.{refused, got}
+use Rattle.numbers.proofs.Truth.{both-true, false-true}
 use Rattle.numbers.proofs.Answers.{refused-got, got-got}
-use Rattle.flush.proofs.Lists.{false-true}
-use Rattle.port_map.specs.Maps.{portVlan, campusLabel, no-pair, Pair, pairsIn, goodOnce, vlanOf, labelOf, fineGood, pairsGood, mapGood, labelFor, vlanFor}
+use Rattle.port_map.specs.Maps.{no-pair, Pair, goodOnce, vlanOf, labelOf, fineGood, pairsGood, mapGood, labelFor, vlanFor}
 use Rattle.port_map.specs.declared.PortVlan.{PortVlan}
 use Rattle.port_map.specs.declared.CampusLabel.{CampusLabel}
 use Rattle.port_map.proofs.Searches.{search-inverse}
@@ -24,7 +23,7 @@ use Rattle.port_map_search.specs.declared.LabelFound.{LabelFound}
 use Rattle.port_map_search.specs.declared.LabelFound.the-variants as label
 use Rattle.port_map_search.specs.declared.VlanFound.{VlanFound}
 use Rattle.port_map_search.specs.declared.VlanFound.the-variants as vlan
-use Rattle.port_map_pairs.specs.Pairs.{asPair, asPairs, pairBytesOf, mapBytesOf}
+use Rattle.port_map_pairs.specs.Pairs.{asPairs, pairBytesOf, mapBytesOf}
 use Rattle.port_map_pairs.specs.declared.MapPair.{MapPair}
 use Rattle.port_map_pairs.proofs.Bytes.{map-length, map-pairs, map-good}
 use Rattle.port_map_one.specs.One.{otherLabel, otherVlan, pairForLabel, pairForVlan, lentBytes, oneMap, LabelSearched, VlanSearched, LabelAlike, VlanAlike}

@@ -4,14 +4,14 @@ use Prim.Native.Nat.{ℕ, _+_, _<_}
 use native.Mathlib.Numerals.{add-one}
 use mathlib.Core.Bool.{Bool, true, false, not}
 use mathlib.Core.List.{List, [], _∷_, map}
-use mathlib.Core.Path.{_≡_, refl, sym, ap, _∙_}
+use mathlib.Core.Path.{_≡_, refl, ap, _∙_}
 use lib.Dec.{T, eqb, ltb, ltb→lt, nltb→le}
 use lib.ListN.{length, getD, drop, drop-of-length-le}
 use lib.Seq.{drop-cons}
 use Rattle.numbers.specs.Tests.{pick, both, either, anyOf}
 use Rattle.numbers.specs.Ranges.{vlanGood}
-use Rattle.numbers.specs.Result.{Result, refused, got}
-use Rattle.port_map.specs.Maps.{no-pair, Pair, goodOnce, vlanOf, labelOf, fineGood, pairsGood, labelFor, vlanFor}
+use Rattle.numbers.specs.Result.{Result, got}
+use Rattle.port_map.specs.Maps.{goodOnce, vlanOf, labelOf, fineGood, pairsGood, labelFor, vlanFor}
 use Rattle.port_map.specs.declared.PortVlan.{PortVlan}
 use Rattle.port_map.specs.declared.CampusLabel.{CampusLabel}
 use Rattle.port_map_search.specs.Meaning.{labelAs, vlanAs}

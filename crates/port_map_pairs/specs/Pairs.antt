@@ -1,7 +1,6 @@
 -- A slice of pairs as a port's map of port_map/specs: as its list of pairs, and as its bytes.
 -- Assumes nothing.
 use Prim.Native.Nat.{ℕ, _/_, _%_, _^_, _<_}
-use mathlib.Core.Bool.{true}
 use mathlib.Core.List.{List, [], _∷_, _++_, map}
 use mathlib.Core.Path.{_≡_}
 use Rattle.numbers.specs.Bytes.{bytesOf}

@@ -3,14 +3,14 @@
 use Prim.Native.Nat.{ℕ, _+_, _-_, _≤_, _<_}
 use native.Mathlib.Omega.{arith}
 use mathlib.Core.List.{List}
-use mathlib.Core.Path.{_≡_, refl, sym, ap, _∙_}
+use mathlib.Core.Path.{_≡_, sym, ap, _∙_}
 use lib.ListN.{length, take, drop, length-drop}
 use lib.Seq.{drop-drop, take-add, drop-at, length-take-le}
 use lib.Dec.{eqb}
 use borrow.Author.Tests.{eq-eqb, ne-eqb}
 use Rattle.numbers.specs.Tests.{pick}
 use Rattle.numbers.specs.Bytes.{num}
-use Rattle.numbers.specs.Result.{Result, refused, got}
+use Rattle.numbers.specs.Result.{refused, got}
 use Rattle.numbers.proofs.Lists.{part-prefix}
 use Rattle.port_map.specs.Maps.{no-pair, portVlan, campusLabel, pairBytes, pairOf, pairsIn, labelFor, vlanFor}
 use Rattle.port_map.specs.declared.PortVlan.{PortVlan}

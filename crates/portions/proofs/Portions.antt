@@ -14,7 +14,7 @@ use Rattle.numbers.specs.Result.{refused, got, check, andThen, settled}
 use Rattle.numbers.specs.Refusals.{table-length-bad}
 use Rattle.numbers.specs.After.{OnTable, onTable}
 use Rattle.numbers.proofs.Answers.{got-got, check-got, then-got}
-use Rattle.numbers.proofs.Truth.{both-right, pick-true, pick-false}
+use Rattle.numbers.proofs.Truth.{both-right, pick-true, pick-false, false-true}
 use Rattle.table.specs.Record.{unpacked, isFree, isLearned}
 use Rattle.table.specs.Slots.{slotBytes, tableGood, slotsOf, slotAt, onSlots, countSlots}
 use Rattle.table.proofs.Slots.{length-onSlots, drop-onSlots, slot-onSlots, slot-allSlots}
@@ -25,7 +25,6 @@ use Rattle.table.proofs.Refusals.{refusal-keeps}
 use Rattle.flush.specs.Payload.{everyType, Payload, payloadOf}
 use Rattle.flush.specs.Flush.{heldMeant, slotMeant, clearedSlot, clearedBy, clearing, answered, flushed}
 use Rattle.flush.specs.Claims.{SlotFacts}
-use Rattle.flush.proofs.Lists.{false-true}
 use Rattle.flush.proofs.Flushing.{cleared-keeps, cleared-hit, cleared-miss, flush-exact}
 use Rattle.portions.specs.Portion.{portion-bad, portionSteps, portionBy, portionAnswered, portioned}
 use Rattle.portions.specs.Claims.{freedFrom, PassedStays, PortionFacts, PortionExact, PortionRefusal}

@@ -10,19 +10,17 @@ use borrow.Author.Tests.{eqb-true, eqb-false, leb-true, leb-false}
 use Rattle.numbers.specs.Result.{Result, refused, got, andThen}
 use Rattle.numbers.specs.Refusals.{table-length-bad}
 use Rattle.numbers.specs.After.{OnTable, onTable}
-use Rattle.numbers.proofs.Truth.{or-either}
+use Rattle.numbers.proofs.Truth.{or-either, either-neither, false-true}
 use Rattle.numbers.proofs.Answers.{got-got, then-got}
 use Rattle.table.specs.Slots.{mostSlots, tableGood, slotsOf, onSlots, countSlots}
 use Rattle.flush.specs.Payload.{everyType, Payload, payloadOf}
 use Rattle.flush.specs.Flush.{slotMeant, clearedSlot}
-use Rattle.flush.proofs.Lists.{false-true}
 use Rattle.flush_marks.specs.Marks.{clearedIn}
 use Rattle.flush_marks.specs.Filters.{Within}
 use Rattle.flush_marks.specs.declared.Sweep.{Sweep}
 use Rattle.flush_call.specs.Clearing.{clearingIn, sweptOn}
 use Rattle.flush_call.specs.declared.Swept.{Swept}
 use Rattle.flush_call.specs.declared.Swept.the-variants.{Refused, Done}
-use Rattle.flush_call.proofs.Tests.{either-neither}
 use Rattle.flush_call.proofs.Calls.{swept-refused, swept-done}
 use Rattle.table.proofs.Slots.{count-few, good-slots}
 use Rattle.portions.specs.Portion.{portion-bad, portionSteps, portionBy, portioned}

@@ -1,7 +1,7 @@
 -- The cases hold: those about bytes by computation, those about every label number by the laws of blocks and maps.
 -- Assumes nothing.
 use Prim.Native.Nat.{ℕ, _<_}
-use mathlib.Core.Bool.{Bool, true, false}
+use mathlib.Core.Bool.{true}
 use mathlib.Core.List.{List, [], _∷_, _++_}
 use mathlib.Core.Path.{_≡_, refl, sym, ap, _∙_}
 use native.Mathlib.Decide.{ℕ-discrete, decLt}
@@ -11,7 +11,7 @@ use Rattle.numbers.specs.Result.{check, andThen, settled}
 use Rattle.numbers.specs.Bytes.{num, bytesOf, startsWith, laid, partsFrom, parts}
 use Rattle.numbers.specs.Ranges.{individual, nicknameGood, vlanGood}
 use Rattle.numbers.specs.Numberings.{vlans, fines, numberOf, atLeast, atMost, startOf, endOf, inBlock, filled, inBlocks, someFilled, inList, bitOf, bitAt, inMap}
-use Rattle.numbers.proofs.Truth.{between-in, between-below, between-above, between-none}
+use Rattle.numbers.proofs.Truth.{between-in, between-below, between-above, between-none, either-none}
 use Rattle.numbers.proofs.Widths.{maps-hold}
 use Rattle.table.specs.Record.{markedSlot, labelFrom, entryOf, entryGood, held, slotOf, unpacked, recordNumber, packed}
 use Rattle.table.specs.Slots.{tableGood, onSlots, countSlots}
@@ -35,11 +35,6 @@ p1-holds = (refl, refl)
 flushes-hold : AllHold flushCases
 unfolding pick both either anyOf between check andThen settled num bytesOf partsFrom parts individual nicknameGood vlanGood numberOf atLeast atMost startOf endOf inBlock filled inBlocks someFilled inList bitOf bitAt inMap labelFrom entryOf entryGood held slotOf markedSlot unpacked tableGood onSlots countSlots tlvsFrom tlvs lengthGood corrupt piecesOf payloadOf nicknameMeant vlanIn fineIn macIn someMacIn bringsLabel bringsMac gathersMac labelMeant macMeant entryMeant slotMeant clearedSlot clearedBy clearing flushed
 flushes-hold = (refl, (refl, (refl, (refl, (refl, (refl, (refl, tt)))))))
-
-either-none : (b : Bool) → either b false ≡ b
-unfolding either
-either-none true = refl
-either-none false = refl
 
 -- a VLAN block, by itself and as the one block of a TLV of type 1
 block-means : (b : List ℕ) (low high : ℕ) → startOf vlans b ≡ low → endOf vlans b ≡ high → (l : Label) → bringsLabel everyType l (block b) ≡ vlansFrom low high l

@@ -4,18 +4,16 @@
 use Prim.Native.Nat.{ℕ}
 use mathlib.Core.Bool.{Bool, true, false}
 use mathlib.Core.List.{List, [], _∷_}
-use mathlib.Core.Path.{_≡_, refl, sym, ap, _∙_}
+use mathlib.Core.Path.{_≡_, refl, ap}
 use native.Mathlib.Omega.{arith}
 use lib.Dec.{eqb}
 use lib.ListN.{length}
-use Rattle.numbers.specs.Tests.{pick, both, either}
+use Rattle.numbers.specs.Tests.{pick, both}
 use Rattle.numbers.specs.Bytes.{parts, partsFrom}
 use Rattle.numbers.specs.Result.{Result, refused, got, check, andThen}
+use Rattle.numbers.proofs.Truth.{either-second}
 use Rattle.frame.specs.Fields.{Fields, nativeBytes}
-use Rattle.frame.specs.Formats.{parsed}
 use Rattle.frame.specs.Labels.{isTag}
-use Rattle.frame.specs.Settings.{defaultLife}
-use Rattle.frame.specs.declared.Settings.{Settings}
 use Rattle.port_map.specs.Maps.{Pair, no-pair, pairsIn, goodOnce, pairsGood, mapGood, vlanFor}
 use Rattle.port_map.specs.declared.PortVlan.{PortVlan}
 use Rattle.port_map.specs.declared.CampusLabel.{CampusLabel}
@@ -52,11 +50,6 @@ native-missing m p n e = go (stays m p) (vlanFor (pairsIn m) (fineIn (p .label))
     go false (got v) only h = got-never _ n h
 
 -- ---- delivery stays
-
-either-second : (a b : Bool) → b ≡ true → either a b ≡ true
-unfolding either
-either-second true b h = refl
-either-second false b h = h
 
 pub native-stays : (m : List ℕ) (p : Fields) → stays m p ≡ true → nativeOut m p ≡ got (nativeBytes p)
 unfolding nativeOut pick

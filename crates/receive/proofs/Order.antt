@@ -1,21 +1,20 @@
 -- Reading is the rows of specs/Order, from top to bottom: a check is a row, and what follows it are the rows after it.
 -- Assumes nothing.
 use Prim.Native.Nat.{ℕ, _+_, _*_}
-use native.Mathlib.Omega.{arith}
 use mathlib.Core.Bool.{Bool, true, false, not}
 use mathlib.Core.List.{List, [], _∷_, _++_}
 use mathlib.Core.Path.{_≡_, refl, sym, ap, _∙_}
 use lib.Dec.{leb, eqb}
-use lib.ListN.{length, take, drop}
+use lib.ListN.{length, drop}
 use Rattle.numbers.specs.Tests.{pick, anyOf}
 use Rattle.numbers.specs.Result.{Result, refused, got, check, andThen, settled}
 use Rattle.numbers.specs.Refusals.{settings-bad, table-length-bad, frame-length-bad, cut-short, not-trill, version-bad, hops-spent, nickname-bad, label-bad, source-group, multicast-disagrees, not-channel, channel-bad, payload-corrupt, area-short}
-use Rattle.numbers.specs.After.{OnTable, OnBoth, onBoth}
+use Rattle.numbers.specs.After.{onBoth}
 use Rattle.numbers.specs.Bytes.{num}
 use Rattle.numbers.specs.Ranges.{individual, vlanGood}
 use Rattle.table.specs.Slots.{tableGood}
 use Rattle.flush.specs.Payload.{everyType, corrupt, nickBytes, blockCount, behind, blockBytes, piecesOf, Payload, made, payloadOf}
-use Rattle.flush.specs.Flush.{slotMeant, clearedBy, clearing}
+use Rattle.flush.specs.Flush.{clearing}
 use Rattle.frame.specs.Settings.{settingsGood, compactOn, defaultLife}
 use Rattle.frame.specs.Front.{trillGroup, addressBytes, addressesBytes, addressIn, Front, unicast, multicast, refusedFront, inner, frontOf}
 use Rattle.frame.specs.Header.{versionOf, multicastOf, hopCount, ingressOf, fixedBytes, headerBytes, agrees, headerLength}
@@ -28,7 +27,6 @@ use Rattle.receive.specs.Deciding.{nicknamesGood, isOnward, channelBytes
 use Rattle.receive.specs.Delivering.{nativeOut}
 use Rattle.receive.specs.Receive.{taught, deliveredWith, flushedWith, delivery, channel, acted, reading, receivedWith, portReceived}
 use Rattle.receive.specs.Order.{Row, unless, when, firstOf, Outcome, outerRows, outerEnd, headerRows, addressRows, labelRows, labelEnd, trillRows, contentRows, generalRows, generalParts, compactRows, compactParts, frontRows, frontParts, isGot, channelRows, flushesAll, nativeRows, delivers, actedOn, readInOrder, ReadsExactly}
-use Rattle.receive.specs.declared.ReadAnswer.{ReadAnswer}
 use Rattle.receive.specs.declared.ReadAnswer.the-variants.{Refused, Onward, OtherChannel}
 use Rattle.receive.proofs.NoMap.{native-missing}
 

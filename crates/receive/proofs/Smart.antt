@@ -8,9 +8,9 @@ use mathlib.Core.Path.{_≡_, refl, sym, ap, subst, _∙_}
 use lib.Dec.{leb, eqb}
 use lib.ListN.{length}
 use Rattle.numbers.specs.Tests.{pick, both, either}
-use Rattle.numbers.specs.Result.{Result, refused, got, check, andThen, settled}
+use Rattle.numbers.specs.Result.{Result, refused, got, check, andThen}
 use Rattle.numbers.specs.Refusals.{hops-spent, nickname-bad, source-group, not-channel, area-short}
-use Rattle.numbers.specs.After.{OnTable, onTable, OnBoth, onBoth}
+use Rattle.numbers.specs.After.{onTable, OnBoth, onBoth}
 use Rattle.numbers.specs.Bytes.{num}
 use Rattle.numbers.specs.Ranges.{individual, nicknameGood}
 use Rattle.numbers.proofs.Answers.{got-got}

@@ -1,6 +1,6 @@
 -- The native frame that is delivered: as it is, or with the VLAN of a port's map as its tag (2026-01, "Outbound").
 -- Assumes nothing.
-use Prim.Native.Nat.{ℕ, _+_, _*_, _/_, _%_, _^_}
+use Prim.Native.Nat.{ℕ, _+_, _*_, _/_, _^_}
 use mathlib.Core.Bool.{Bool}
 use mathlib.Core.List.{List, _++_}
 use lib.Dec.{eqb}

@@ -14,7 +14,6 @@ use Rattle.frame.specs.Fields.{Fields}
 use Rattle.frame.specs.Formats.{parsed}
 use Rattle.frame.specs.Settings.{settingsGood, defaultLife}
 use Rattle.frame.specs.declared.Settings.{Settings}
-use Rattle.frame.specs.Labels.{isTag}
 use Rattle.port_map.specs.Maps.{pairsIn, mapGood, vlanFor}
 use Rattle.port_map.specs.declared.PortVlan.{PortVlan}
 use Rattle.port_map.specs.declared.CampusLabel.{CampusLabel}

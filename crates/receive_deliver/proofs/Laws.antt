@@ -9,7 +9,7 @@ use lib.ListN.{length, take, drop, length-drop, length-append, take-append-drop}
 use lib.Seq.{drop-drop, take-add, take-take, length-take-le}
 use borrow.Author.Tests.{le-leb, lt-leb}
 use Rattle.numbers.specs.Tests.{pick}
-use Rattle.numbers.specs.Result.{Result, refused, got, check, andThen, settled}
+use Rattle.numbers.specs.Result.{refused, got, check, andThen, settled}
 use Rattle.numbers.specs.After.{OnBoth, onBoth, onTable}
 use Rattle.numbers.specs.Bytes.{num, bytesOf, laid}
 use Rattle.numbers.proofs.Lists.{part-prefix, starts-same}

@@ -5,12 +5,11 @@ use mathlib.Core.Bool.{Bool, true, false}
 use mathlib.Core.List.{List}
 use mathlib.Core.Path.{_≡_, refl, sym, ap, _∙_}
 use lib.Dec.{eqb}
-use lib.ListN.{length, take}
-use Rattle.numbers.specs.Tests.{pick, either}
-use Rattle.numbers.specs.Result.{Result, refused, got, check, andThen, settled}
-use Rattle.numbers.specs.After.{OnBoth, onBoth}
+use lib.ListN.{length}
+use Rattle.numbers.specs.Result.{Result, refused, got, check, andThen}
+use Rattle.numbers.specs.After.{OnBoth}
 use Rattle.numbers.proofs.Answers.{refused-got, got-got}
-use Rattle.flush.proofs.Lists.{false-true}
+use Rattle.numbers.proofs.Truth.{false-true}
 use Rattle.frame.specs.Fields.{Fields}
 use Rattle.frame.specs.Formats.{parsed}
 use Rattle.frame.specs.Labels.{isTag}
@@ -20,7 +19,7 @@ use Rattle.frame_parse.specs.Meaning.{fieldsIn, Reads}
 use Rattle.frame_parse.specs.declared.Parts.{Parts}
 use Rattle.frame_parse.specs.declared.Parsed.{Parsed}
 use Rattle.frame_parse.specs.declared.Parsed.the-variants as parse
-use Rattle.port_map.specs.Maps.{campusLabel, pairsIn, mapGood, vlanFor}
+use Rattle.port_map.specs.Maps.{pairsIn, mapGood, vlanFor}
 use Rattle.port_map.specs.declared.CampusLabel.{CampusLabel}
 use Rattle.port_map_pairs.specs.Pairs.{mapBytesOf}
 use Rattle.port_map_pairs.specs.declared.MapPair.{MapPair}

@@ -1,7 +1,7 @@
 -- The worked case: P1 alone, widened.
 -- Assumes nothing.
-use Prim.Native.Nat.{ℕ, zero, suc, _+_, _-_, _<_, _≤_}
-use mathlib.Core.Bool.{Bool, true, false}
+use Prim.Native.Nat.{ℕ, zero, suc, _+_, _<_, _≤_}
+use mathlib.Core.Bool.{true, false}
 use mathlib.Core.List.{List, [], _∷_, _++_, append-nil}
 use mathlib.Core.Path.{_≡_, refl, sym, ap, _∙_}
 use native.Mathlib.Decide.{ℕ-discrete}
@@ -12,7 +12,7 @@ use borrow.Author.Tests.{eq-eqb, ne-eqb}
 use Rattle.numbers.specs.Tests.{pick, both, between}
 use Rattle.numbers.specs.Bytes.{num, bytesOf}
 use Rattle.numbers.specs.Ranges.{individual, nicknameGood, vlanGood}
-use Rattle.table.specs.Record.{labelFrom, labelGood, entryOf, entryGood, held, slotOf, markedSlot, unpacked}
+use Rattle.table.specs.Record.{labelFrom, entryOf, entryGood, held, slotOf, markedSlot, unpacked}
 use Rattle.table.specs.Slots.{tableGood, countSlots}
 use Rattle.table.specs.Learning.{freeSlot}
 use Rattle.table.specs.Table.{spoiltSlot}

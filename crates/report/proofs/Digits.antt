@@ -1,16 +1,15 @@
 -- Digits read back as the number; how long a count is, and a line.
 -- Assumes nothing.
-use Prim.Native.Nat.{ℕ, zero, suc, _+_, _-_, _*_, _/_, _%_, _^_, _<_, _≤_}
+use Prim.Native.Nat.{ℕ, zero, suc, _+_, _*_, _/_, _%_, _^_, _<_, _≤_}
 use mathlib.Core.Bool.{Bool, true, false}
-use mathlib.Core.List.{List, [], _∷_, _++_}
-use mathlib.Core.Path.{_≡_, refl, sym, ap, _∙_}
+use mathlib.Core.Path.{_≡_, refl, ap}
 use native.Mathlib.Omega.{arith}
 use lib.Dec.{leb}
 use lib.ListN.{length, length-append}
 use borrow.Author.Tests.{leb-true, leb-false, le-leb, lt-leb}
 use Rattle.numbers.specs.Tests.{pick}
 use Rattle.numbers.specs.Bytes.{bytesOf}
-use Rattle.report.specs.Text.{sign, digitsOf, hexadecimal, widthOf, decimal, lineText, freeText, spoiltText, refusedText}
+use Rattle.report.specs.Text.{sign, digitsOf, hexadecimal, widthOf, decimal, lineText, freeText, spoiltText}
 use Rattle.report.specs.Claims.{digitOf, numberIn, DigitsReadBack}
 
 pub digit-sign : (d : ℕ) → d < 16 → digitOf (sign d) ≡ d

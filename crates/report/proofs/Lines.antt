@@ -1,21 +1,19 @@
 -- The lines rise, and are those of the nicknames that some record has.
 -- Assumes nothing.
 use Prim.{Unit, tt}
-use Prim.Native.Nat.{ℕ, zero, suc, _+_, _-_, _*_, _/_, _%_, _^_, _<_, _≤_}
+use Prim.Native.Nat.{ℕ, zero, suc, _+_, _<_}
 use mathlib.Core.Bool.{Bool, true, false}
 use mathlib.Core.List.{List, [], _∷_, _++_}
-use mathlib.Core.Path.{_≡_, refl, sym, ap, _∙_}
-use native.Mathlib.Decide.{ℕ-discrete, decLt}
+use mathlib.Core.Path.{_≡_, refl, sym, _∙_}
+use native.Mathlib.Decide.{ℕ-discrete}
 use native.Mathlib.Nat.{zero-add}
 use native.Mathlib.Omega.{arith}
-use lib.Dec.{eqb, leb}
-use lib.ListN.{length, length-append}
-use borrow.Author.Tests.{eq-eqb, ne-eqb, eqb-true, eqb-false}
+use lib.Dec.{eqb}
+use borrow.Author.Tests.{eq-eqb, ne-eqb, eqb-true}
 use Rattle.numbers.specs.Tests.{pick, both, either, anyOf, between}
-use Rattle.numbers.proofs.Truth.{pick-true, pick-false}
+use Rattle.numbers.proofs.Truth.{pick-true, pick-false, either-second, either-assoc}
 use Rattle.table.specs.Record.{recordOf, markOf, emptyOf, multihomedOf, nicknameOf, learnedState, configuredState, stateOf, entryOf, entryGood, withMark, held, slotOf, markedSlot, unpacked, learnedThat, configuredThat, slotThat}
 use Rattle.table.specs.Slots.{slotsOf, slotAt, countSlots}
-use Rattle.table.specs.declared.Entry.{Entry}
 use Rattle.table.specs.declared.Slot.{Slot}
 use Rattle.table.specs.declared.Slot.the-variants.{Free, Spoilt, Learned, Configured}
 use Rattle.report.specs.Report.{learnedWith, configuredWith, countOf, Line, lineOf, lineIf, linesBelow, nicknameEnd, linesOf}
@@ -28,16 +26,6 @@ either-first : (a b : Bool) → a ≡ true → either a b ≡ true
 unfolding either
 either-first true b h = refl
 either-first false b h = absurd (false-true h)
-
-either-second : (a b : Bool) → b ≡ true → either a b ≡ true
-unfolding either
-either-second true b h = refl
-either-second false b h = h
-
-either-assoc : (a b c : Bool) → either (either a b) c ≡ either a (either b c)
-unfolding either
-either-assoc true b c = refl
-either-assoc false b c = refl
 
 any-append : {A : Type 0} (p : A → Bool) (a b : List A) → anyOf p (a ++ b) ≡ either (anyOf p a) (anyOf p b)
 unfolding anyOf either

@@ -1,23 +1,22 @@
 -- The counts of all lines, of the free and of the spoilt slots add up to the slots; so the lines are few, and the report is short.
 -- Assumes nothing.
 use Prim.{Unit, tt}
-use Prim.Native.Nat.{ℕ, zero, suc, _+_, _-_, _*_, _/_, _%_, _^_, _<_, _≤_}
+use Prim.Native.Nat.{ℕ, zero, suc, _+_, _*_, _^_, _<_, _≤_}
 use mathlib.Core.Bool.{Bool, true, false}
 use mathlib.Core.List.{List, [], _∷_, _++_}
-use mathlib.Core.Path.{_≡_, refl, sym, ap, _∙_}
+use mathlib.Core.Path.{_≡_, refl}
 use native.Mathlib.Nat.{zero-add}
 use native.Mathlib.Omega.{arith}
-use lib.Dec.{eqb, ltb}
+use lib.Dec.{eqb}
 use lib.ListN.{length, length-append}
-use borrow.Author.Tests.{eq-eqb, ne-eqb, eqb-true, eqb-false, lt-ltb, le-ltb}
-use native.Mathlib.Decide.{ℕ-discrete, decLt}
+use borrow.Author.Tests.{eq-eqb, ne-eqb, eqb-true}
+use native.Mathlib.Decide.{ℕ-discrete}
 use Rattle.numbers.specs.Tests.{pick}
 use Rattle.numbers.specs.Bytes.{bytesOf}
 use Rattle.table.specs.Record.{unpacked, learnedThat, configuredThat, isFree, isSpoilt}
-use Rattle.table.specs.Slots.{tableGood, slotsOf, slotAt, mostSlots, countSlots}
+use Rattle.table.specs.Slots.{tableGood, slotsOf, slotAt, countSlots}
 use Rattle.table.specs.Learning.{freeSlot}
 use Rattle.table.specs.Table.{spoiltSlot}
-use Rattle.table.specs.declared.Entry.{Entry}
 use Rattle.table.specs.declared.Slot.{Slot}
 use Rattle.table.specs.declared.Slot.the-variants.{Free, Spoilt, Learned, Configured}
 use Rattle.table.proofs.Slots.{good-slots}

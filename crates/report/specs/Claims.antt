@@ -1,8 +1,8 @@
 -- What holds of the morning report.
 -- Assumes nothing.
 use Prim.{Unit}
-use Prim.Native.Nat.{ℕ, zero, suc, _+_, _-_, _*_, _^_, _<_, _≤_}
-use mathlib.Core.Bool.{Bool, true}
+use Prim.Native.Nat.{ℕ, _+_, _-_, _*_, _^_, _<_}
+use mathlib.Core.Bool.{true}
 use mathlib.Core.List.{List, [], _∷_}
 use mathlib.Core.Path.{_≡_}
 use lib.Dec.{eqb, leb}
@@ -11,7 +11,6 @@ use Rattle.numbers.specs.Tests.{pick, anyOf}
 use Rattle.table.specs.Record.{unpacked, slotThat}
 use Rattle.table.specs.Slots.{slotsOf, slotAt}
 use Rattle.table.specs.Widening.{wide}
-use Rattle.table.specs.declared.Entry.{Entry}
 use Rattle.report.specs.Text.{hexadecimal, decimal}
 use Rattle.report.specs.Report.{Line, lineOf, Counts, countsOf, reported}
 

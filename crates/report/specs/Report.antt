@@ -14,7 +14,6 @@ use Rattle.table.specs.Record.{unpacked, learnedThat, configuredThat}
 use Rattle.table.specs.Slots.{tableGood, slotsOf, countSlots}
 use Rattle.table.specs.Learning.{freeSlot}
 use Rattle.table.specs.Table.{spoiltSlot}
-use Rattle.table.specs.declared.Entry.{Entry}
 use Rattle.report.specs.Text.{lineText, freeText, spoiltText, refusedText}
 use Rattle.report.specs.declared.ReportAnswer.{ReportAnswer}
 use Rattle.report.specs.declared.ReportAnswer.the-variants as report

@@ -1,26 +1,26 @@
 -- Ageing keeps homes apart: an aged record is free, or the same entry with fewer seconds.
 -- Assumes nothing.
-use Prim.Native.Nat.{ℕ, _+_, _-_, _*_, _%_, _^_, _<_, _≤_}
+use Prim.Native.Nat.{ℕ, _-_, _%_, _^_, _<_}
 use mathlib.Core.Bool.{Bool, true, false}
-use mathlib.Core.List.{List, _++_}
+use mathlib.Core.List.{List}
 use mathlib.Core.Path.{_≡_, refl, sym, ap, _∙_}
 use native.Mathlib.Omega.{arith}
 use lib.Dec.{eqb, leb}
 use lib.ListN.{length, drop, length-append, length-drop}
 use lib.Seq.{take-at, getD-drop}
-use borrow.Author.Tests.{eqb-true, ne-eqb, leb-false}
-use Rattle.numbers.specs.Tests.{pick, both, between}
+use borrow.Author.Tests.{leb-false}
+use Rattle.numbers.specs.Tests.{pick}
 use Rattle.numbers.specs.Result.{got, check, settled}
 use Rattle.numbers.specs.After.{onTable}
 use Rattle.numbers.specs.Bytes.{num, bytesOf}
 use Rattle.numbers.proofs.Bytes.{length-bytesOf, num-bytesOf}
-use Rattle.table.specs.Record.{recordBytes, recordOf, markOf, emptyOf, multihomedOf, stateOf, kindOf, labelOf, macOf, nicknameOf, confidenceOf, secondsOf, learnedState, configuredState, labelFrom, entryOf, entryGood, withMark, held, slotOf, markedSlot, unpacked, isLearned, entryMatches, homeMatches, unmarkedMatches, learnedThat, slotThat}
-use Rattle.table.specs.Slots.{slotBytes, tableGood, freed, onSlots}
+use Rattle.table.specs.Record.{recordBytes, recordOf, markOf, multihomedOf, stateOf, kindOf, labelOf, macOf, nicknameOf, confidenceOf, secondsOf, labelFrom, entryOf, entryGood, withMark, slotOf, unpacked, isLearned, entryMatches, homeMatches, unmarkedMatches, learnedThat, slotThat}
+use Rattle.table.specs.Slots.{slotBytes, tableGood, freed}
 use Rattle.table.specs.Table.{holds, holdsHome, holdsUnmarked, lessSeconds, agedSlot, aged}
 use Rattle.table.specs.Claims.{Apart, AgeingKeepsApart}
 use Rattle.table.specs.declared.Entry.{Entry}
 use Rattle.table.specs.declared.Slot.{Slot}
-use Rattle.table.specs.declared.Slot.the-variants.{Free, Spoilt, Learned, Configured}
+use Rattle.table.specs.declared.Slot.the-variants.{Free, Learned}
 use Rattle.table.specs.declared.AgeAnswer.the-variants as age
 use Rattle.table.proofs.Slots.{Keeps}
 use Rattle.table.proofs.Marks.{marked-entry}

@@ -1,21 +1,20 @@
 -- A table whose homes are apart stays so. A change slot by slot keeps it so if no slot passes a test that it did not pass before;
 -- learning puts its entry where no other slot has its home, nor an unmarked record of its pair, nor, unmarked, any record of it.
 -- Assumes nothing.
-use Prim.Native.Nat.{ℕ, _+_, _-_, _*_, _%_, _^_, _<_, _≤_}
+use Prim.Native.Nat.{ℕ, _+_, _*_, _<_, _≤_}
 use mathlib.Core.Bool.{Bool, true, false, not}
-use mathlib.Core.List.{List, [], _∷_}
+use mathlib.Core.List.{List}
 use mathlib.Core.Path.{_≡_, refl, sym, ap, _∙_}
 use native.Mathlib.Decide.{ℕ-discrete}
 use native.Mathlib.Omega.{arith}
-use lib.Dec.{eqb, leb, ltb}
-use lib.ListN.{length, length-append}
+use lib.Dec.{eqb, ltb}
+use lib.ListN.{length}
 use borrow.Author.Tests.{eqb-true}
 use Rattle.numbers.specs.Tests.{pick, both}
 use Rattle.numbers.specs.After.{onTable}
-use Rattle.numbers.specs.Bytes.{num, bytesOf}
 use Rattle.numbers.proofs.Truth.{both-true, both-pass, not-true-false}
 use Rattle.numbers.proofs.Bytes.{length-bytesOf}
-use Rattle.table.specs.Record.{recordBytes, recordOf, confidenceOf, learnedState, recordNumber, slotOf, markedSlot, unpacked, packed, sameLabel, entryMatches, homeMatches, unmarkedMatches, markedMatches, learnedThat, configuredThat, slotThat}
+use Rattle.table.specs.Record.{recordOf, confidenceOf, learnedState, unpacked, packed, sameLabel, entryMatches, homeMatches, unmarkedMatches, markedMatches, learnedThat, configuredThat, slotThat}
 use Rattle.table.specs.Slots.{slotBytes, slotsOf, slotAt, putSlot, freed, onSlots, orElse, found, lowest}
 use Rattle.table.specs.Table.{holds, holdsConfigured, holdsLearned, holdsHome, holdsUnmarked, holdsMarked}
 use Rattle.table.specs.Learning.{rivalOf, putEntry, clearedPair, roomFor, judgedAt, freeSlot, intoFree, judged, learnt}

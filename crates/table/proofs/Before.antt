@@ -1,17 +1,17 @@
 -- Where no pair stands twice, an unmarked frame is learned as document 01 says.
 -- Assumes nothing.
-use Prim.Native.Nat.{ℕ, zero, suc, _<_, _≤_}
+use Prim.Native.Nat.{ℕ, _<_}
 use mathlib.Core.Bool.{Bool, true, false}
 use mathlib.Core.List.{List}
-use mathlib.Core.Path.{_≡_, refl, sym, ap, _∙_}
+use mathlib.Core.Path.{_≡_, refl, ap}
 use native.Mathlib.Omega.{arith}
-use lib.Dec.{eqb, ltb}
+use lib.Dec.{ltb}
 use Rattle.numbers.specs.Tests.{pick}
-use Rattle.numbers.specs.After.{OnTable, onTable}
-use Rattle.table.specs.Record.{learnedState, packed, recordOf, markOf, emptyOf, multihomedOf, confidenceOf, entryOf, withMark, held, slotOf, markedSlot, unpacked, entryMatches, configuredThat, slotThat}
-use Rattle.table.specs.Slots.{slotsOf, slotAt, orElse, found, firstSlot, lowest}
+use Rattle.numbers.specs.After.{onTable}
+use Rattle.table.specs.Record.{learnedState, packed, recordOf, markOf, confidenceOf, entryOf, held, slotOf, unpacked, entryMatches, configuredThat, slotThat}
+use Rattle.table.specs.Slots.{slotsOf, slotAt, found, lowest}
 use Rattle.table.specs.Table.{holds, holdsConfigured}
-use Rattle.table.specs.Learning.{rivalOf, putEntry, roomFor, judgedAt, freeSlot, intoFree, judged, learnt}
+use Rattle.table.specs.Learning.{rivalOf, putEntry, judgedAt, freeSlot, intoFree, judged, learnt}
 use Rattle.table.specs.Before.{overMatch, learntBeforeAt, learntBefore}
 use Rattle.table.specs.Claims.{Sound, Unique, UnmarkedAsBefore}
 use Rattle.table.specs.declared.Entry.{Entry}
@@ -19,7 +19,6 @@ use Rattle.table.specs.declared.Slot.{Slot}
 use Rattle.table.specs.declared.Slot.the-variants.{Free, Spoilt, Learned, Configured}
 use Rattle.table.specs.declared.Place.{Place}
 use Rattle.table.specs.declared.Place.the-variants.{At, Nowhere}
-use Rattle.table.specs.declared.Learning.{Learning}
 use Rattle.table.specs.declared.Learning.the-variants as learning
 use Rattle.table.proofs.Slots.{lowest-within, lowest-hit, lowest-miss}
 use Rattle.table.proofs.Packing.{packed-length, learned-back}

@@ -1,27 +1,24 @@
 -- A widened record is what the old one was, unmarked.
 -- Assumes nothing.
-use Prim.Native.Nat.{ℕ, zero, suc, _+_, _*_, _/_, _<_, _≤_}
+use Prim.Native.Nat.{ℕ, zero, suc, _+_, _*_, _<_, _≤_}
 use mathlib.Core.Bool.{Bool, true, false}
 use mathlib.Core.List.{List, [], _∷_, _++_}
 use mathlib.Core.Path.{_≡_, refl, sym, ap, _∙_}
 use native.Mathlib.Decide.{ℕ-discrete}
 use native.Mathlib.Omega.{arith}
-use lib.Dec.{eqb, leb}
-use lib.ListN.{length, take, drop, length-append, length-take, length-drop}
+use lib.Dec.{leb}
+use lib.ListN.{length, take, drop, length-append, length-drop}
 use lib.Seq.{take-all, take-append-le, drop-append-le, drop-at, getD-at}
 use Rattle.numbers.specs.Tests.{pick}
 use Rattle.numbers.specs.Result.{check, got, settled}
 use Rattle.numbers.specs.After.{OnArea, onArea}
-use Rattle.numbers.specs.Bytes.{num}
 use Rattle.numbers.proofs.Bytes.{length-part}
-use Rattle.table.specs.Record.{recordBytes, recordOf, markOf, entryOf, held, slotOf, markedSlot, unpacked, entryMatches, slotThat, slotMatches}
-use Rattle.table.specs.Slots.{slotBytes, slotsOf, slotAt}
+use Rattle.table.specs.Record.{recordBytes, recordOf, entryOf, held, slotOf, markedSlot, unpacked}
+use Rattle.table.specs.Slots.{slotBytes, slotAt}
 use Rattle.table.specs.Table.{holds, holdsHome, holdsUnmarked}
 use Rattle.table.specs.Widening.{oldGood, oldSlots, oldAt, widenedTo, wide, widened}
 use Rattle.table.specs.Claims.{Apart, Unique, WideSlot, OldUnique, WidenedSame, WideningRefusal}
-use Rattle.table.specs.declared.Label.{Label}
 use Rattle.table.specs.declared.Entry.{Entry}
-use Rattle.table.specs.declared.Slot.{Slot}
 use Rattle.table.specs.declared.Slot.the-variants.{Free, Spoilt, Learned, Configured}
 use Rattle.table.specs.declared.WidenAnswer.{WidenAnswer}
 use Rattle.table.specs.declared.WidenAnswer.the-variants as widen

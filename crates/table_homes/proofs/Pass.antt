@@ -9,6 +9,7 @@ use native.Mathlib.Decide.{ℕ-discrete}
 use native.Mathlib.Nat.{zero-add, suc-add, add-zero}
 use native.Mathlib.Omega.{arith}
 use Rattle.numbers.specs.Tests.{pick, both, either}
+use Rattle.numbers.proofs.Truth.{either-none}
 use Rattle.table.specs.Record.{unpacked, entryMatches, unmarkedMatches, markedMatches, learnedThat, configuredThat, slotThat}
 use Rattle.table.specs.Slots.{slotsOf, slotAt, countSlots, orElse, found, firstSlot}
 use Rattle.table.specs.Table.{holds, holdsConfigured, holdsUnmarked, holdsMarked}
@@ -18,7 +19,7 @@ use Rattle.table.specs.declared.Slot.the-variants.{Free, Spoilt, Learned, Confi
 use Rattle.table.specs.declared.Place.{Place}
 use Rattle.table.specs.declared.Place.the-variants.{At, Nowhere}
 use Rattle.table.proofs.Apart.{OnlyAt}
-use Rattle.table_homes.specs.Pass.{noHomes, orHere, withSlot, homesTo}
+use Rattle.table_homes.specs.Pass.{noHomes, withSlot, homesTo}
 use Rattle.table_homes.specs.declared.Homes.{Homes}
 
 found-or : (p : Place) (b : Bool) (n : ℕ) → either (found p) b ≡ found (orElse p (pick b (At n) Nowhere))
@@ -58,11 +59,6 @@ module _ (e : Entry) (t : List ℕ) where
 
 -- ---- slots without the pair
 
-either-false : (b : Bool) → either b false ≡ b
-unfolding either
-either-false true = refl
-either-false false = refl
-
 or-nowhere : (p : Place) → orElse p Nowhere ≡ p
 or-nowhere (At k) = refl
 or-nowhere Nowhere = refl
@@ -87,7 +83,7 @@ module _ (e : Entry) where
       let p = passes-none s none in
       rw (p .configured, p .unmarked, p .marked, none)
       (λ i. record {
-        configured = either-false (h .configured) i;
+        configured = either-none (h .configured) i;
         unmarked = or-nowhere (h .unmarked) i;
         marked = or-nowhere (h .marked) i;
         lowest = or-nowhere (h .lowest) i;

@@ -11,21 +11,12 @@ use lib.Dec.{eqb}
 use borrow.Author.Tests.{eq-eqb, eqb-true, eqb-false}
 use Rattle.numbers.specs.Tests.{both, between}
 use Rattle.numbers.specs.Ranges.{individual, nicknameGood, vlanGood}
-use Rattle.numbers.proofs.Truth.{and-both, not-true-false, both-true, both-pass, between-in, between-is}
+use Rattle.numbers.proofs.Truth.{and-both, not-true-false, both-true, both-pass, between-in, between-is, or-neither, both-only}
 use Rattle.table.specs.Record.{recordOf, stateOf, kindOf, labelOf, macOf, nicknameOf, learnedState, configuredState, labelFrom, labelGood, entryOf, entryGood, slotOf, sameLabel, entryMatches, slotMatches}
 use Rattle.table.specs.Table.{holds}
 use Rattle.table.proofs.Contents.{label-test, same-label-from, matches-is, SameFields, match-fields, holds-parts, holds-fields}
 use Rattle.table_fields.specs.Keys.{keyOf, roundKeyOf}
 use Rattle.table_pairs.specs.Pairs.{pairGood, Pair}
-
-either-false : (a b : Bool) → a || b ≡ false → (a ≡ false) × (b ≡ false)
-either-false true b e = (e, cc)
-either-false false b e = (refl, e)
-
-both-only : (b : Bool) → b ≡ both b true
-unfolding both
-both-only true = refl
-both-only false = refl
 
 -- another key: the record does not hold them
 pub other-key : (k x m : ℕ) → k ≤ 1 → (r : List ℕ) → (keyOf (macOf (recordOf r)) ≡ keyOf m → ⊥) → false ≡ holds (labelFrom k x) m r
@@ -128,11 +119,11 @@ module _ (k x m n : ℕ) (pair : Pair k x m) (h : ℕ) (is : h ≡ n / 2 ^ 48) (
       go : k ≡ kindOf n → x ≡ labelOf n → m ≡ macOf n → 1 ≤ stateOf n → stateOf n ≤ 2 → Dec (stateOf n ≡ 1) → ⊥
       go kind label mac low high (yes s) =
           let fields = head-fields n small in
-          eqb-false h (head learnedState) (either-false _ _ e .0) (omega arith)
+          eqb-false h (head learnedState) (or-neither _ _ e .0) (omega arith)
       go kind label mac low high (no s) =
           let fields = head-fields n small in
           let two : stateOf n ≡ 2 = omega arith in
-          eqb-false h (head configuredState) (either-false (eqb h (head learnedState)) _ e .1) (omega arith)
+          eqb-false h (head configuredState) (or-neither (eqb h (head learnedState)) _ e .1) (omega arith)
 
   module _ (b : ℕ) (bits : b ≡ macOf n % 2 ^ 3) where
     pub pair-bits : (b ≡ m % 2 ^ 3 → ⊥) → false ≡ slotMatches (labelFrom k x) m (slotOf n)

@@ -9,7 +9,7 @@ use lib.Dec.{leb, eqb}
 use borrow.Author.Tests.{le-leb, eq-eqb, ne-eqb, eqb-true, eqb-false, not-false}
 use Rattle.numbers.specs.Tests.{both, pick, between}
 use Rattle.numbers.specs.Ranges.{individual, groupBit, nicknameGood, lastNickname, firstVlan, lastVlan, vlanGood}
-use Rattle.numbers.proofs.Truth.{and-both, not-true-false, both-true, both-left, both-right, between-in, between-is, between-below, between-above}
+use Rattle.numbers.proofs.Truth.{and-both, not-true-false, both-true, both-left, both-right, between-in, between-is, between-below, between-above, or-neither, both-only}
 use Rattle.table.specs.Record.{stateOf, kindOf, labelOf, macOf, nicknameOf, learnedState, configuredState, labelFrom, labelGood, entryOf, entryGood, slotOf, isLearned, isSpoilt, isFree}
 use Rattle.table.proofs.Contents.{label-test, individual-test, free-is, learned-is, spoilt-is}
 
@@ -48,15 +48,6 @@ range-out low high x e p q =
     let t : leb low x && leb x high ≡ true = rw (le-leb low x p, le-leb x high q) in
     let z : _≡_ {A = ℕ} 0 1 = cc in
     omega arith
-
-either-false : (a b : Bool) → a || b ≡ false → (a ≡ false) × (b ≡ false)
-either-false true b e = (e, cc)
-either-false false b e = (refl, e)
-
-both-only : (b : Bool) → b ≡ both b true
-unfolding both
-both-only true = refl
-both-only false = refl
 
 -- ---- the nickname
 
@@ -145,7 +136,7 @@ module _ (n k : ℕ) (is : k ≡ n / 2 ^ 80 % 2 ^ 30) where
   -- neither: the nickname decides
   pub entry-nickname : firstFront ≤ k → (g : ℕ) → g ≡ groupBit (macOf n) → not (eqb g 0) || (leb highFront k && leb k lastVlanFront) ≡ false → (b : Bool) → b ≡ nicknameGood (nicknameOf n) → b ≡ entryGood (entryOf n)
   entry-nickname low g e f b h =
-      let p = either-false (not (eqb g 0)) (leb highFront k && leb k lastVlanFront) f in
+      let p = or-neither (not (eqb g 0)) (leb highFront k && leb k lastVlanFront) f in
       entry-rest low (p .1) g e (eqb-true g 0 (not-false _ (p .0))) b h
 
 -- ---- learned and spoilt, by the state and the entry

@@ -1,10 +1,9 @@
 -- Watched sending: by what sending gives, stopped or not. Sending that is not refused gives a part or the frame itself.
 -- Assumes nothing.
 use Prim.Native.Nat.{ℕ}
-use native.Mathlib.Omega.{arith}
 use mathlib.Core.Bool.{Bool, true, false, not}
 use mathlib.Core.List.{List}
-use mathlib.Core.Path.{_≡_, refl, sym, ap, _∙_}
+use mathlib.Core.Path.{_≡_, refl, ap, _∙_}
 use lib.ListN.{length}
 use Rattle.numbers.specs.Tests.{pick, both}
 use Rattle.numbers.specs.Result.{Result, refused, got, check, andThen, settled}

@@ -1,10 +1,9 @@
 -- What stops compaction, and for how long: the calls on a watch alone (2026-06).
 -- Assumes nothing.
 use Prim.Native.Nat.{ℕ, _+_, _*_, _/_}
-use mathlib.Core.Bool.{Bool}
 use lib.Dec.{leb, eqb}
 use Rattle.numbers.specs.Tests.{pick}
-use Rattle.numbers.specs.Result.{Result, got, check, settled}
+use Rattle.numbers.specs.Result.{got, check, settled}
 use Rattle.numbers.specs.Refusals.{settings-bad}
 use Rattle.numbers.specs.Numberings.{atLeast}
 use Rattle.watch.specs.Time.{watchOf, ticked}

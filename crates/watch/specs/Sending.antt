@@ -4,7 +4,7 @@ use Prim.Native.Nat.{ℕ}
 use mathlib.Core.Bool.{Bool, not}
 use mathlib.Core.List.{List}
 use Rattle.numbers.specs.Tests.{both}
-use Rattle.numbers.specs.Result.{Result, got, andThen, settled}
+use Rattle.numbers.specs.Result.{got, andThen, settled}
 use Rattle.frame.specs.Settings.{compactOn}
 use Rattle.frame.specs.declared.Settings.{Settings}
 use Rattle.convert.specs.Sending.{sending}

@@ -7,9 +7,9 @@ use mathlib.Core.List.{List}
 use mathlib.Core.Path.{_≡_, refl, sym, ap, _∙_}
 use lib.Dec.{ltb, eqb}
 use lib.ListN.{length, take, drop}
-use borrow.Author.Tests.{not-true, not-false, le-ltb, lt-ltb, ltb-true, ltb-false, eq-eqb, ne-eqb}
+use borrow.Author.Tests.{not-true, not-false, ltb-true, ltb-false, eq-eqb, ne-eqb}
 use Rattle.numbers.specs.Tests.{both}
-use Rattle.numbers.specs.Result.{Result, refused, got, andThen, settled}
+use Rattle.numbers.specs.Result.{Result, got, andThen, settled}
 use Rattle.numbers.specs.After.{OnArea, onArea}
 use Rattle.numbers.specs.Bytes.{num}
 use Rattle.numbers.proofs.Steps.{both-fails, both-goes-on}
@@ -28,7 +28,7 @@ use Rattle.convert_compact.specs.Meaning.{fieldsAt, filled}
 use Rattle.convert_send.specs.Meaning.{sentWhere}
 use Rattle.convert_send.proofs.Laws.{send-itself, send-put}
 use Rattle.watch.specs.Time.{watchOf, ticked, stopped}
-use Rattle.watch.specs.Sending.{OnWatched, onWatched, compacts, sentWatched}
+use Rattle.watch.specs.Sending.{onWatched, compacts, sentWatched}
 use Rattle.watch.specs.declared.Watch.{Watch}
 use Rattle.watch.proofs.Stops.{apart}
 use Rattle.watch.proofs.Sends.{Outcome, not-sent, itself, part, outcome}

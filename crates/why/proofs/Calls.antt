@@ -8,31 +8,30 @@ use mathlib.Core.Logic.{_↔_, _⊎_, inl, inr, ⊎-elim}
 use mathlib.Core.Path.{_≡_, refl, sym, ap, subst, _∙_}
 use native.Mathlib.Omega.{arith}
 use lib.Dec.{eqb, leb, ltb}
-use lib.ListN.{length, take, drop, getD, length-take, length-drop, drop-of-length-le}
-use borrow.Author.Tests.{ltb-true, ltb-false, lt-ltb, le-ltb, leb-true, eqb-true, eqb-false, eq-eqb, ne-eqb}
+use lib.ListN.{length, take, length-take, length-drop, drop-of-length-le}
+use borrow.Author.Tests.{ltb-true, ltb-false, lt-ltb, le-ltb, leb-true, eqb-true, eqb-false, eq-eqb}
 use Rattle.numbers.specs.Tests.{pick, either, anyOf, between}
 use Rattle.numbers.specs.Result.{Result, refused, got, check, andThen, settled}
-use Rattle.numbers.specs.Refusals.{table-length-bad, payload-corrupt}
+use Rattle.numbers.specs.Refusals.{table-length-bad}
 use Rattle.numbers.specs.Numberings.{nicknames, numberOf, inList}
-use Rattle.numbers.proofs.Truth.{both-true}
+use Rattle.numbers.proofs.Truth.{both-true, false-true}
 use Rattle.numbers.proofs.Answers.{got-got, check-got, then-got}
 use Rattle.table.specs.Record.{unpacked}
-use Rattle.table.specs.Slots.{slotBytes, mostSlots, tableGood, slotsOf, slotAt, freed}
+use Rattle.table.specs.Slots.{slotBytes, mostSlots, tableGood, slotsOf, slotAt}
 use Rattle.table.specs.declared.Label.{Label}
 use Rattle.table.specs.declared.Entry.{Entry}
-use Rattle.table.specs.declared.Slot.{Slot}
 use Rattle.table.specs.declared.Slot.the-variants as slot
 use Rattle.flush.specs.Payload.{everyType, Piece, corrupt, nickBytes, blockCount, behind, blockBytes, piecesOf, Payload, made, payloadOf}
 use Rattle.flush.specs.Meaning.{bringsLabel, bringsMac, gathersMac, nicknameMeant, labelMeant, macMeant}
 use Rattle.flush.specs.Sets.{Some, BringsLabel, BringsMac, GathersMac, Meant}
 use Rattle.flush.specs.Flush.{flushed}
-use Rattle.flush.proofs.Lists.{false-true, any-some}
+use Rattle.flush.proofs.Lists.{any-some}
 use Rattle.flush.proofs.Sets.{label-brought, mac-brought, mac-gathered, nickname-agrees, label-agrees, mac-agrees}
 use Rattle.flush.proofs.Flushing.{flush-exact}
 use Rattle.flush.proofs.Validity.{validity}
 use Rattle.portions.specs.Portion.{portion-bad}
 use Rattle.why.specs.Why.{placeOf, nicknameIs, listed, nicknameMatch, labelMatch, macMatch, placesOf, reasonOf, why}
-use Rattle.why.specs.Claims.{Clears, SaysCleared, WhyExact, First, WhyFirst, FirstAt, Named, NamedAll, WhyPlaces, WhyRefusals}
+use Rattle.why.specs.Claims.{Clears, SaysCleared, WhyExact, WhyFirst, FirstAt, Named, WhyPlaces, WhyRefusals}
 use Rattle.why.specs.declared.NicknameMatch.the-variants.{Sender, Listed}
 use Rattle.why.specs.declared.LabelMatch.{LabelMatch}
 use Rattle.why.specs.declared.LabelMatch.the-variants as label

@@ -6,7 +6,7 @@ use mathlib.Core.List.{List, [], _∷_, List·Memᴰ, List·Memᴰ·head, List·
 use mathlib.Core.Logic.{_↔_}
 use mathlib.Core.Path.{_≡_, refl, sym, ap, _∙_}
 use Rattle.numbers.specs.Tests.{pick, either, anyOf}
-use Rattle.flush.proofs.Lists.{false-true}
+use Rattle.numbers.proofs.Truth.{false-true}
 use Rattle.why.specs.Why.{placeOf}
 use Rattle.why.specs.Claims.{FirstAt}
 

@@ -3,17 +3,17 @@
 -- Assumes nothing.
 use Prim.Native.Nat.{ℕ, _<_, _≤_}
 use mathlib.Core.Bool.{Bool, true, false, not}
-use mathlib.Core.Logic.{_↔_, _⊎_, inl, inr, ⊎-elim}
-use mathlib.Core.Path.{_≡_, refl, sym, ap, subst, _∙_}
+use mathlib.Core.Logic.{_↔_, inl, inr}
+use mathlib.Core.Path.{_≡_, refl, sym, subst, _∙_}
 use native.Mathlib.Omega.{arith}
 use Rattle.numbers.specs.Tests.{pick}
+use Rattle.numbers.proofs.Truth.{false-true}
 use Rattle.table.specs.declared.Entry.{Entry}
 use Rattle.table.specs.declared.Slot.{Slot}
 use Rattle.table.specs.declared.Slot.the-variants as slot
 use Rattle.flush.specs.Payload.{everyType, Payload}
 use Rattle.flush.specs.Meaning.{nicknameMeant, labelMeant, macMeant}
 use Rattle.flush.specs.Sets.{NicknameMeant, LabelMeant, MacMeant, Meant}
-use Rattle.flush.proofs.Lists.{false-true}
 use Rattle.flush.proofs.Sets.{nickname-agrees, label-agrees, mac-agrees}
 use Rattle.why.specs.Why.{placesOf, learnedReason, reasonOf}
 use Rattle.why.specs.Words.{reasonNumber}

@@ -8,7 +8,6 @@ use Rattle.why.specs.declared.LabelMatch.{LabelMatch}
 use Rattle.why.specs.declared.LabelMatch.the-variants as label
 use Rattle.why.specs.declared.MacMatch.{MacMatch}
 use Rattle.why.specs.declared.MacMatch.the-variants as mac
-use Rattle.why.specs.declared.Places.{Places}
 use Rattle.why.specs.declared.Reason.{Reason}
 use Rattle.why.specs.declared.Reason.the-variants.{Free, Spoilt, Configured, NicknameNotMeant, LabelNotMeant, MacNotMeant, Cleared}
 use Rattle.why.specs.declared.WhyAnswer.{WhyAnswer}

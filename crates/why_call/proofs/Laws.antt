@@ -1,7 +1,7 @@
 -- The reason by what was found, set by set; a payload that is cut into its parts; the call by its cases.
 -- Assumes nothing.
-use Prim.Native.Nat.{ℕ, _+_, _-_, _*_, _/_, _<_, _≤_}
-use mathlib.Core.Bool.{Bool, true, false, not}
+use Prim.Native.Nat.{ℕ, _+_, _-_, _*_, _<_, _≤_}
+use mathlib.Core.Bool.{Bool, true, false}
 use mathlib.Core.List.{List}
 use mathlib.Core.Path.{_≡_, refl, sym, ap, _∙_}
 use native.Mathlib.Nat.{add-sub-cancel-left}
@@ -9,22 +9,22 @@ use native.Mathlib.Omega.{arith}
 use lib.ListN.{length, take, drop, length-take}
 use Rattle.numbers.specs.Tests.{pick}
 use Rattle.numbers.specs.Refusals.{table-length-bad, payload-corrupt}
+use Rattle.numbers.proofs.Truth.{false-true}
+use Rattle.numbers.proofs.Lists.{rest-is}
 use Rattle.table.specs.Record.{recordOf, entryOf, unpacked, labelFrom, isLearned}
-use Rattle.table.specs.Slots.{slotBytes, tableGood, slotsOf, slotAt}
+use Rattle.table.specs.Slots.{slotBytes, tableGood, slotsOf}
 use Rattle.table.specs.declared.Entry.{Entry}
 use Rattle.table.specs.declared.Slot.{Slot}
 use Rattle.table.specs.declared.Slot.the-variants as slot
 use Rattle.table.proofs.Contents.{unpacked-near, learned-entry}
-use Rattle.flush.specs.Payload.{everyType, nickBytes, blockCount, behind, blockBytes, piecesOf, Payload, made, payloadOf}
+use Rattle.flush.specs.Payload.{everyType, nickBytes, blockCount, piecesOf, Payload, made}
 use Rattle.flush.specs.Meaning.{nicknameMeant, labelMeant, macMeant}
 use Rattle.flush.specs.Validity.{Valid}
-use Rattle.flush.proofs.Lists.{false-true}
 use Rattle.flush.proofs.Validity.{validity}
 use Rattle.flush_payload.specs.Judging.{Nothing, JudgedPayload}
 use Rattle.flush_payload.specs.declared.Kinds.{Kinds}
 use Rattle.flush_payload.specs.declared.Judged.{Judged}
 use Rattle.flush_payload.specs.declared.Judged.the-variants.{Corrupt, Good}
-use Rattle.flush_payload.proofs.Laws.{rest-is}
 use Rattle.portions.specs.Portion.{portion-bad}
 use Rattle.why.specs.Why.{nicknameMatch, labelMatch, macMatch, learnedReason, reasonOf, why}
 use Rattle.why.specs.declared.NicknameMatch.{NicknameMatch}

@@ -10,17 +10,13 @@ use lib.ListN.{length, drop, getD}
 use borrow.Author.Tests.{eqb-false, not-true}
 use Rattle.numbers.specs.Numberings.{numberOf, inList}
 use Rattle.numbers.specs.declared.Numbering.{Numbering}
+use Rattle.numbers.proofs.Truth.{and-true}
 use Rattle.flush_members.proofs.Laws.{item-near, part-next}
-use Rattle.flush.proofs.Lists.{false-true}
 use Rattle.why_places.specs.Reading.{LastByte, leftHas}
 use Rattle.why_places.proofs.Laws.{last-differs}
 
 pub last-apart : (w : Numbering) (v : List ℕ) (at x b : ℕ) → LastByte w → at + w .size ≤ length v → b ≡ getD v (at + (w .size - 1)) 0 → b < 2 ^ 8 → not (eqb b (x % 256)) ≡ true → eqb (numberOf w (drop at v)) x ≡ false
 last-apart w v at x b by-last room byte small t = sym (last-differs w v at x b by-last room byte small (eqb-false b (x % 256) (not-true _ t)))
-
-and-true : (a b : Bool) → a && b ≡ true → (a ≡ true) × (b ≡ true)
-and-true true b e = (refl, e)
-and-true false b e = false-true e
 
 pub four-true : (a b c d : Bool) → (a && b) && (c && d) ≡ true → ((a ≡ true) × (b ≡ true)) × ((c ≡ true) × (d ≡ true))
 four-true a b c d e = let (l, r) = and-true (a && b) (c && d) e in (and-true a b l, and-true c d r)

@@ -18,14 +18,14 @@ use Rattle.numbers.specs.Ranges.{firstVlan, lastVlan}
 use Rattle.numbers.specs.Numberings.{vlans, fines, macs, numberOf, inBlock, inBlocks}
 use Rattle.numbers.specs.declared.Numbering.{Numbering}
 use Rattle.numbers.proofs.Bytes.{num-one, num-add}
-use Rattle.numbers.proofs.Truth.{and-both, between-in}
+use Rattle.numbers.proofs.Truth.{and-both, between-in, either-none, false-true}
+use Rattle.numbers.proofs.Parts.{parts-end, parts-more}
 use Rattle.table.specs.declared.Label.{Label}
 use Rattle.table.specs.declared.Label.the-variants.{Vlan, Fine}
 use Rattle.table.specs.declared.Place.{Place}
 use Rattle.table.specs.declared.Place.the-variants.{At, Nowhere}
 use Rattle.flush.specs.Payload.{everyType, Piece, tlv, stump, tlvEnd, tlvs, blockBytes}
 use Rattle.flush.specs.Meaning.{vlanIn, fineIn, bringsLabel}
-use Rattle.flush.proofs.Lists.{false-true, parts-end, parts-more}
 use Rattle.flush.proofs.Validity.{tlvs-end, tlvs-rest, tlvs-more}
 use Rattle.why.specs.Why.{placeOf}
 use Rattle.flush_members.specs.Sound.{Sound}
@@ -189,18 +189,13 @@ macs-by-last = record {
 
 -- ---- a walk over parts of k bytes
 
-either-false : (b : Bool) → either b false ≡ b
-unfolding either
-either-false true = refl
-either-false false = refl
-
 -- the one part of a list of k bytes
 one-part : (p : List ℕ → Bool) (k : ℕ) → 0 < k → (b : List ℕ) → length b ≡ k → anyOf p (parts k b) ≡ p b
 unfolding anyOf
 one-part p k some b long =
     let d : length (drop k b) ≡ length b - k = length-drop k b in
     ap (anyOf p) (parts-more k some b (omega arith))
-    ∙ rw (parts-end k some (drop k b) (omega arith), take-all k b (omega arith)) (either-false (p b))
+    ∙ rw (parts-end k some (drop k b) (omega arith), take-all k b (omega arith)) (either-none (p b))
 
 module _ (p : List ℕ → Bool) (k : ℕ) (some : 0 < k) (v : List ℕ) (at i : ℕ) (x : Place) (inv : x ≡ firstFrom p i (parts k (drop at v))) where
   pub parts-done : length v - at < k → Nowhere ≡ x

@@ -1,9 +1,9 @@
 -- What is found of a nickname, a label and a MAC, by the place that a walk answers.
 -- Assumes nothing.
 use Prim.Native.Nat.{ℕ, zero, suc, _-_, _*_, _<_, _≤_}
-use mathlib.Core.Bool.{Bool, true, false, not}
+use mathlib.Core.Bool.{Bool, true, false}
 use mathlib.Core.List.{List, [], _∷_, map}
-use mathlib.Core.Path.{_≡_, refl, sym, ap, _∙_}
+use mathlib.Core.Path.{_≡_, refl, sym, _∙_}
 use native.Mathlib.Decide.{ℕ-discrete}
 use native.Mathlib.Omega.{arith}
 use lib.Dec.{eqb, leb}
@@ -12,15 +12,13 @@ use borrow.Author.Tests.{leb-true, eq-eqb, ne-eqb}
 use Rattle.numbers.specs.Tests.{pick, both, either, anyOf}
 use Rattle.numbers.specs.Bytes.{partsFrom, parts}
 use Rattle.numbers.specs.Numberings.{vlans, inBlock, inList}
-use Rattle.numbers.proofs.Truth.{pick-true, pick-false}
+use Rattle.numbers.proofs.Truth.{pick-true, false-true}
 use Rattle.table.specs.Record.{labelFrom}
-use Rattle.table.specs.declared.Label.{Label}
 use Rattle.table.specs.declared.Place.{Place}
 use Rattle.table.specs.declared.Place.the-variants.{At, Nowhere}
 use Rattle.flush.specs.Payload.{everyType, Piece, tlv, block, stump, tlvs, blockBytes, piecesOf}
 use Rattle.flush.specs.Meaning.{bringsLabel, bringsMac, someMacIn, gathersMac, nicknameMeant, labelMeant, macMeant}
-use Rattle.flush.proofs.Lists.{false-true}
-use Rattle.flush_tlvs.proofs.Laws.{label-vlan, label-fine}
+use Rattle.flush_tlvs.proofs.Laws.{label-vlan}
 use Rattle.flush_payload.specs.Judging.{macKind, ofKind}
 use Rattle.flush_payload.proofs.Laws.{blocks-fine, blocks-gather}
 use Rattle.why.specs.Why.{placeOf, nicknameIs, listed, nicknameMatch, labelMatch, macMatch}

@@ -12,9 +12,6 @@ returns c = reads-refused _ _ _ (search too-short)
 returns-2 : tie.Need-returns-2
 returns-2 c = reads-refused _ _ _ (search too-long)
 
-returns-3 : tie.Need-returns-3
-returns-3 c = search (reads-as, to-us, means-general)
-
 returns-4 : tie.Need-returns-4
 returns-4 c = reads-refused _ _ _ (search not-here)
 
@@ -23,15 +20,5 @@ returns-5 c = reads-refused _ _ _ (search compact-front)
 
 pub general-fields-spec : {M : Type 1} → statement M
 general-fields-spec =
-    tie.close
-    (tie.spec
-    returns
-    returns-2
-    (λ c κs. search needs)
-    (λ c κs. search needs)
-    (λ c κs. search needs)
-    (λ c. search needs)
-    (λ c. search needs)
-    returns-3
-    returns-4
-    returns-5)
+    tie.close (tie.spec returns returns-2 (λ c κs. search needs) (λ c κs. search needs) (λ c κs. search needs) (λ c. search needs) (λ c. search needs)
+    (λ c. search (reads-as, to-us, means-general)) returns-4 returns-5)

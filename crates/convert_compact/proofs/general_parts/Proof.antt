@@ -6,19 +6,10 @@ use borrow.Author.Needs.{needs}
 use Rattle.convert_compact.proofs.general_parts.Statement.{statement}
 use Rattle.convert_compact.proofs.general_parts.Tie as tie
 
-general-after-outer-requires : tie.Need-general-after-outer-requires
-general-after-outer-requires c κs = (search length-bytes, search needs)
-
 returns : tie.Need-returns
 returns c = reads-refused _ _ _ (search outer-refused)
 
 pub general-parts-spec : {M : Type 1} → statement M
 general-parts-spec =
-    tie.close
-    (tie.spec
-    (λ c κs. search needs)
-    (λ c. search needs)
-    (λ c. search needs)
-    general-after-outer-requires
-    returns
+    tie.close (tie.spec (λ c κs. search needs) (λ c. search needs) (λ c. search needs) (λ c κs. (search length-bytes, search needs)) returns
     (λ c. search needs))

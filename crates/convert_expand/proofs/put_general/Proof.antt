@@ -6,21 +6,7 @@ use borrow.Author.Needs.{needs}
 use Rattle.convert_expand.proofs.put_general.Statement.{statement}
 use Rattle.convert_expand.proofs.put_general.Tie as tie
 
-returns : tie.Need-returns
-returns c = search (put-short, general-long)
-
-returns-2 : tie.Need-returns-2
-returns-2 c = search (put-written, general-long, general-written)
-
 pub put-general-spec : {M : Type 1} → statement M
 put-general-spec =
-    tie.close
-    (tie.spec
-    (λ c κs. search needs)
-    (λ c. search needs)
-    returns
-    (λ c κs. search needs)
-    (λ c κs. search needs)
-    (λ c. search needs)
-    (λ c. search needs)
-    returns-2)
+    tie.close (tie.spec (λ c κs. search needs) (λ c. search needs) (λ c. search (put-short, general-long)) (λ c κs. search needs)
+    (λ c κs. search needs) (λ c. search needs) (λ c. search needs) (λ c. search (put-written, general-long, general-written)))

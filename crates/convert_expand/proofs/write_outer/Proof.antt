@@ -13,10 +13,6 @@ put-address-requires c κs = omega (arith, outer-room (outerAs (c .before .befor
 put-address-requires-2 : tie.Need-put-address-requires-2
 put-address-requires-2 c κs = omega (arith, outer-room (outerAs (c .before .before .before .before .before .before .args .u)) _ (c .before .before .before .before .before .before .pre))
 
-returns : tie.Need-returns
-returns c = search outer-written
-
 pub write-outer-spec : {M : Type 1} → statement M
 write-outer-spec =
-    tie.close
-    (tie.spec put-address-requires put-address-requires-2 (λ c κs. search needs) (λ c. search needs) returns)
+    tie.close (tie.spec put-address-requires put-address-requires-2 (λ c κs. search needs) (λ c. search needs) (λ c. search outer-written))

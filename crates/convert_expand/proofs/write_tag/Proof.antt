@@ -7,9 +7,6 @@ use borrow.Author.Needs.{needs}
 use Rattle.convert_expand.proofs.write_tag.Statement.{statement}
 use Rattle.convert_expand.proofs.write_tag.Tie as tie
 
-returns : tie.Need-returns
-returns c = search tag-none
-
 put-number-requires : tie.Need-put-number-requires
 put-number-requires c κs =
     let some = c .before in
@@ -22,16 +19,7 @@ put-number-requires-2 c κs =
     let start = some .before .before .before in
     omega (arith, tag-room (outerAs (start .args .u)) (start .args .out .now) (some .if1 .left) (start .pre))
 
-returns-2 : tie.Need-returns-2
-returns-2 c = search tag-written
-
 pub write-tag-spec : {M : Type 1} → statement M
 write-tag-spec =
-    tie.close
-    (tie.spec
-    returns
-    put-number-requires
-    (λ c. search needs)
-    put-number-requires-2
-    (λ c. search needs)
-    returns-2)
+    tie.close (tie.spec (λ c. search tag-none) put-number-requires (λ c. search needs) put-number-requires-2 (λ c. search needs)
+    (λ c. search tag-written))

@@ -29,18 +29,5 @@ returns-5 c = search send-put
 
 pub send-where-spec : {M : Type 1} → statement M
 send-where-spec =
-    tie.close
-    (tie.spec
-    (λ c κs. search needs)
-    returns
-    returns-2
-    (λ c κs. search needs)
-    (λ c. search needs)
-    (λ c. search needs)
-    be6-requires
-    (λ c κs. search needs)
-    returns-3
-    fill-compact-requires
-    returns-4
-    (λ c. search needs)
-    returns-5)
+    tie.close (tie.spec (λ c κs. search needs) returns returns-2 (λ c κs. search needs) (λ c. search needs) (λ c. search needs) be6-requires
+    (λ c κs. search needs) returns-3 fill-compact-requires returns-4 (λ c. search needs) returns-5)

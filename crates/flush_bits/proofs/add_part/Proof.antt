@@ -5,9 +5,7 @@ use borrow.Author.Needs.{needs}
 use Rattle.flush_bits.proofs.add_part.Statement.{statement}
 use Rattle.flush_bits.proofs.add_part.Tie as tie
 
-returns : tie.Need-returns
-returns c = search part-added
-
 pub add-part-spec : {M : Type 1} → statement M
 add-part-spec =
-    tie.close (tie.spec (λ c. search needs) (λ c. search needs) (λ c κs. search needs) (λ c κs. search needs) (λ c. search needs) returns)
+    tie.close (tie.spec (λ c. search needs) (λ c. search needs) (λ c κs. search needs) (λ c κs. search needs) (λ c. search needs)
+    (λ c. search part-added))

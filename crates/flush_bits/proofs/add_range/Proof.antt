@@ -5,22 +5,7 @@ use borrow.Author.Needs.{needs}
 use Rattle.flush_bits.proofs.add_range.Statement.{statement}
 use Rattle.flush_bits.proofs.add_range.Tie as tie
 
-returns-2 : tie.Need-returns-2
-returns-2 c = search range-bytes
-
 pub add-range-spec : {M : Type 1} → statement M
 add-range-spec =
-    tie.close
-    (tie.spec
-    (λ c κs. search needs)
-    (λ c. search needs)
-    (λ c. search needs)
-    (λ c. search needs)
-    (λ c. search needs)
-    (λ c. search needs)
-    (λ c κs. search needs)
-    (λ c. search needs)
-    (λ c κs. search needs)
-    (λ c κs. search needs)
-    (λ c. search needs)
-    returns-2)
+    tie.close (tie.spec (λ c κs. search needs) (λ c. search needs) (λ c. search needs) (λ c. search needs) (λ c. search needs) (λ c. search needs)
+    (λ c κs. search needs) (λ c. search needs) (λ c κs. search needs) (λ c κs. search needs) (λ c. search needs) (λ c. search range-bytes))

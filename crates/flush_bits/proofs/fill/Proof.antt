@@ -15,28 +15,10 @@ Inv-loop s₀ a b w₀ s w = ((a ≤ w) × (w ≤ b)) × Ranged s₀ s (8 * a) (
 abbrev μ-loop : tie.MeasureT-loop
 μ-loop s₀ a b w₀ s w = b - w
 
-loop-holds : tie.Need-loop-holds Inv-loop μ-loop
-loop-holds c = (search needs, search range-none)
-
-loop-again : tie.Need-loop-again Inv-loop μ-loop
-loop-again c = (search needs, search fill-next)
-
-same-length : tie.Need-same-length Inv-loop μ-loop
-same-length c = c .before .loop .inv .1 .long
-
 returns : tie.Need-returns Inv-loop μ-loop
 returns c = let done : c .before .loop .w ≡ c .before .before .args .b = omega arith in rw done at (c .before .loop .inv .1)
 
 pub fill-spec : {M : Type 1} → statement M
 fill-spec =
-    tie.close
-    (tie.spec
-    Inv-loop
-    μ-loop
-    loop-holds
-    (λ c. search needs)
-    (λ c. search needs)
-    (λ c. search needs)
-    loop-again
-    same-length
-    returns)
+    tie.close (tie.spec Inv-loop μ-loop (λ c. (search needs, search range-none)) (λ c. search needs) (λ c. search needs) (λ c. search needs)
+    (λ c. (search needs, search fill-next)) (λ c. c .before .loop .inv .1 .long) returns)

@@ -9,33 +9,14 @@ use Rattle.flush_buckets.proofs.add_short.Tie as tie
 returns : tie.Need-returns
 returns c = adds-none _ _ _ (c .if1 .taken)
 
-returns-2 : tie.Need-returns-2
-returns-2 c = search too-many
-
 returns-3 : tie.Need-returns-3
 returns-3 c = adds-one _ _ _ _ _ _ (omega arith) (omega arith) (c .before .before .before .before .before .before .bucket-of .ensures .0) (c .before .before .before .before .before .bucket-of2 .ensures .0) (c .before .before .before .before .if3 .taken) (c .before .before .add-one .ensures)
-
-returns-4 : tie.Need-returns-4
-returns-4 c = search too-many
 
 returns-5 : tie.Need-returns-5
 returns-5 c = adds-range _ _ _ _ _ _ (omega arith) (omega arith) (c .before .before .before .before .before .before .before .bucket-of .ensures .0) (c .before .before .before .before .before .before .bucket-of2 .ensures .0) (omega arith) (c .before .before .add-range .ensures)
 
 pub add-short-spec : {M : Type 1} → statement M
 add-short-spec =
-    tie.close
-    (tie.spec
-    returns
-    (λ c. search needs)
-    (λ c. search needs)
-    returns-2
-    (λ c κs. search needs)
-    (λ c κs. search needs)
-    (λ c κs. search needs)
-    (λ c. search needs)
-    returns-3
-    returns-4
-    (λ c. search needs)
-    (λ c κs. search needs)
-    (λ c. search needs)
+    tie.close (tie.spec returns (λ c. search needs) (λ c. search needs) (λ c. search too-many) (λ c κs. search needs) (λ c κs. search needs)
+    (λ c κs. search needs) (λ c. search needs) returns-3 (λ c. search too-many) (λ c. search needs) (λ c κs. search needs) (λ c. search needs)
     returns-5)

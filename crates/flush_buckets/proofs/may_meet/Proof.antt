@@ -2,7 +2,7 @@
 -- Assumes nothing.
 use mathlib.Core.Path.{sym}
 use native.Mathlib.Omega.{arith}
-use Rattle.flush.proofs.Lists.{false-true}
+use Rattle.numbers.proofs.Truth.{false-true}
 use Rattle.flush_buckets.proofs.Laws.{not-met}
 use borrow.Author.Needs.{needs}
 use Rattle.flush_buckets.proofs.may_meet.Statement.{statement}
@@ -19,12 +19,4 @@ returns-3 c = not-met _ _ _ (omega arith) (omega arith) _ _ (c .before .has-bit 
 
 pub may-meet-spec : {M : Type 1} → statement M
 may-meet-spec =
-    tie.close
-    (tie.spec
-    returns
-    (λ c. search needs)
-    (λ c. search needs)
-    returns-2
-    (λ c κs. search needs)
-    (λ c κs. search needs)
-    returns-3)
+    tie.close (tie.spec returns (λ c. search needs) (λ c. search needs) returns-2 (λ c κs. search needs) (λ c κs. search needs) returns-3)

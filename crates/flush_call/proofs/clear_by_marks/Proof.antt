@@ -14,11 +14,4 @@ returns c = range-swept _ _ _ _ _ (c .before .before .before .before .before .be
 
 pub clear-by-marks-spec : {M : Type 1} → statement M
 clear-by-marks-spec =
-    tie.close
-    (tie.spec
-    (λ c. search needs)
-    mark-meant-requires
-    (λ c. search needs)
-    (λ c κs. search needs)
-    (λ c. search needs)
-    returns)
+    tie.close (tie.spec (λ c. search needs) mark-meant-requires (λ c. search needs) (λ c κs. search needs) (λ c. search needs) returns)

@@ -16,12 +16,4 @@ returns-2 c = whole-done _ _ _ _ _ (c .before .before .before .before .before .c
 
 pub clear-meant-spec : {M : Type 1} → statement M
 clear-meant-spec =
-    tie.close
-    (tie.spec
-    clear-portion-requires
-    (λ c. search needs)
-    (λ c. search needs)
-    (λ c. search needs)
-    returns
-    (λ c. search needs)
-    returns-2)
+    tie.close (tie.spec clear-portion-requires (λ c. search needs) (λ c. search needs) (λ c. search needs) returns (λ c. search needs) returns-2)

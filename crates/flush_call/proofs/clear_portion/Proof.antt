@@ -13,9 +13,6 @@ use Rattle.flush_call.proofs.clear_portion.Tie as tie
 front-in : (c : tie.After-known-told) → 2 + nickBytes (c .before .before .before .before .before .before .args .payload .now) ≤ length (c .before .before .before .before .before .before .args .payload .now)
 front-in c = good-front _ _ (c .before .before .before .judge .ensures) _ (c .before .f .given .1)
 
-nick-bytes-requires : tie.Need-nick-bytes-requires
-nick-bytes-requires c κs = omega (arith, front-in c)
-
 part-clear-range-end : tie.Need-part-clear-range-end
 part-clear-range-end c = omega (arith, front-in (c .before))
 
@@ -41,21 +38,6 @@ returns-2 c = meant-cleared _ _ (c .before .before .before .before .before .befo
 
 pub clear-portion-spec : {M : Type 1} → statement M
 clear-portion-spec =
-    tie.close
-    (tie.spec
-    (λ c κs. search needs)
-    (λ c. search needs)
-    (λ c. search needs)
-    nick-bytes-requires
-    (λ c. search needs)
-    (λ c. search needs)
-    (λ c. search needs)
-    (λ c. search needs)
-    part-clear-range-end
-    sub-clear-range-2
-    part-clear-range-start-2
-    (λ c. search needs)
-    clear-range-requires
-    returns
-    (λ c. search needs)
-    returns-2)
+    tie.close (tie.spec (λ c κs. search needs) (λ c. search needs) (λ c. search needs) (λ c κs. omega (arith, front-in c)) (λ c. search needs)
+    (λ c. search needs) (λ c. search needs) (λ c. search needs) part-clear-range-end sub-clear-range-2 part-clear-range-start-2 (λ c. search needs)
+    clear-range-requires returns (λ c. search needs) returns-2)

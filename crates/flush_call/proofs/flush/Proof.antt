@@ -7,35 +7,13 @@ use borrow.Author.Needs.{needs}
 use Rattle.flush_call.proofs.flush.Statement.{statement}
 use Rattle.flush_call.proofs.flush.Tie as tie
 
-returns : tie.Need-returns
-returns c = search (flush-refused, not-true)
-
-clear-meant-requires : tie.Need-clear-meant-requires
-clear-meant-requires c κs = search (flush-slots, not-false)
-
 cast-t14 : tie.Need-cast-t14
 cast-t14 c =
     let a = c .before .before .before .before .before .before .before .before .before .before .before .before .args in
     omega (arith, count-fits (a .ingress) (a .payload .now) (a .table .now) _ (c .before .before .before .before .before .before .before .before .table-good .ensures) (not-false _ (c .before .before .before .before .before .before .before .if1 .left)) _ _ (c .before .before .before .before .before .clear-meant .ensures) _ (c .before .n2 .given .1))
 
-returns-2 : tie.Need-returns-2
-returns-2 c = search (flush-corrupt, not-false)
-
-returns-3 : tie.Need-returns-3
-returns-3 c = search (flush-cleared, not-false)
-
 pub flush-spec : {M : Type 1} → statement M
 flush-spec =
-    tie.close
-    (tie.spec
-    (λ c κs. search needs)
-    (λ c. search needs)
-    returns
-    clear-meant-requires
-    (λ c. search needs)
-    (λ c. search needs)
-    cast-t14
-    (λ c. search needs)
-    returns-2
-    (λ c. search needs)
-    returns-3)
+    tie.close (tie.spec (λ c κs. search needs) (λ c. search needs) (λ c. search (flush-refused, not-true)) (λ c κs. search (flush-slots, not-false))
+    (λ c. search needs) (λ c. search needs) cast-t14 (λ c. search needs) (λ c. search (flush-corrupt, not-false)) (λ c. search needs)
+    (λ c. search (flush-cleared, not-false)))

@@ -16,13 +16,5 @@ returns-2 c = full-filtered _ _ _ _ _ (c .before .before .before .before .before
 
 pub keep-few-spec : {M : Type 1} → statement M
 keep-few-spec =
-    tie.close
-    (tie.spec
-    (λ c. search needs)
-    (λ c. search needs)
-    (λ c κs. search needs)
-    (λ c. search needs)
-    returns
-    keep-many-requires
-    (λ c. search needs)
-    returns-2)
+    tie.close (tie.spec (λ c. search needs) (λ c. search needs) (λ c κs. search needs) (λ c. search needs) returns keep-many-requires
+    (λ c. search needs) returns-2)

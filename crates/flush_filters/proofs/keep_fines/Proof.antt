@@ -10,8 +10,4 @@ returns c = fines-kept _ (c .before .before .before .before .before .before .bef
 
 pub keep-fines-spec : {M : Type 1} → statement M
 keep-fines-spec =
-    tie.close
-    (tie.spec
-    (λ c κs. search needs)
-    (λ c. search needs)
-    returns)
+    tie.close (tie.spec (λ c κs. search needs) (λ c. search needs) returns)

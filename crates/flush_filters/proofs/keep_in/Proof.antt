@@ -1,7 +1,7 @@
 -- `flush_filters::keep_in` meets its contract: no room, or the filter was run.
 -- Assumes nothing.
 use mathlib.Core.Path.{sym}
-use Rattle.flush.proofs.Lists.{false-true}
+use Rattle.numbers.proofs.Truth.{false-true}
 use Rattle.flush_filters.proofs.Laws.{full-room, kept-none, kept-all}
 use borrow.Author.Needs.{needs}
 use Rattle.flush_filters.proofs.keep_in.Statement.{statement}
@@ -18,16 +18,5 @@ returns-2 c = (kept-none _ _ _, λ e. search full-room)
 
 pub keep-in-spec : {M : Type 1} → statement M
 keep-in-spec =
-    tie.close
-    (tie.spec
-    (λ c κs. search needs)
-    (λ c. search needs)
-    keep-listed-requires
-    (λ c. search needs)
-    (λ c. search needs)
-    (λ c. search needs)
-    (λ c. search needs)
-    returns
-    (λ c. search needs)
-    (λ c. search needs)
-    returns-2)
+    tie.close (tie.spec (λ c κs. search needs) (λ c. search needs) keep-listed-requires (λ c. search needs) (λ c. search needs) (λ c. search needs)
+    (λ c. search needs) returns (λ c. search needs) (λ c. search needs) returns-2)

@@ -24,15 +24,5 @@ returns c = let pre = c .before .before .before .before .before .before .before 
 
 pub keep-listed-spec : {M : Type 1} → statement M
 keep-listed-spec =
-    tie.close
-    (tie.spec
-    (λ c. search needs)
-    slice-aggregate-key-slots
-    key-slots-requires
-    (λ c. search needs)
-    slice-aggregate-mark-named
-    mark-named-requires
-    (λ c. search needs)
-    (λ c. search needs)
-    (λ c. search needs)
-    returns)
+    tie.close (tie.spec (λ c. search needs) slice-aggregate-key-slots key-slots-requires (λ c. search needs) slice-aggregate-mark-named
+    mark-named-requires (λ c. search needs) (λ c. search needs) (λ c. search needs) returns)

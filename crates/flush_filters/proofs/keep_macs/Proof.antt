@@ -14,10 +14,4 @@ returns-2 c = macs-kept _ _ (c .before .before .before .before .before .some-mac
 
 pub keep-macs-spec : {M : Type 1} → statement M
 keep-macs-spec =
-    tie.close
-    (tie.spec
-    (λ c κs. search needs)
-    returns
-    (λ c κs. search needs)
-    (λ c. search needs)
-    returns-2)
+    tie.close (tie.spec (λ c κs. search needs) returns (λ c κs. search needs) (λ c. search needs) returns-2)

@@ -10,10 +10,4 @@ returns c = let few = c .before .before .before .before .before .before .before 
 
 pub keep-many-spec : {M : Type 1} → statement M
 keep-many-spec =
-    tie.close
-    (tie.spec
-    (λ c. search needs)
-    (λ c. search needs)
-    (λ c κs. search needs)
-    (λ c. search needs)
-    returns)
+    tie.close (tie.spec (λ c. search needs) (λ c. search needs) (λ c κs. search needs) (λ c. search needs) returns)

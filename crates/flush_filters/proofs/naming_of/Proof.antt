@@ -8,15 +8,6 @@ use Rattle.flush_filters.proofs.naming_of.Tie as tie
 returns : tie.Need-returns
 returns c = naming-fine _ (c .before .enum-told .given .1) _ (c .fine-naming .ensures)
 
-returns-2 : tie.Need-returns-2
-returns-2 c = search naming-mac
-
 pub naming-of-spec : {M : Type 1} → statement M
 naming-of-spec =
-    tie.close
-    (tie.spec
-    (λ c. search needs)
-    (λ c κs. search needs)
-    (λ c. search needs)
-    returns
-    returns-2)
+    tie.close (tie.spec (λ c. search needs) (λ c κs. search needs) (λ c. search needs) returns (λ c. search naming-mac))

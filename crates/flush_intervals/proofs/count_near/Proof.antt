@@ -13,18 +13,5 @@ count-from-requires-2 c κs = (search needs, (search needs, (search needs, noted
 
 pub count-near-spec : {M : Type 1} → statement M
 count-near-spec =
-    tie.close
-    (tie.spec
-    (λ c κs. search needs)
-    count-from-requires
-    (λ c. search needs)
-    (λ c κs. search needs)
-    (λ c. search needs)
-    (λ c. search needs)
-    (λ c. search needs)
-    (λ c. search needs)
-    (λ c. search needs)
-    (λ c κs. search needs)
-    (λ c. search needs)
-    count-from-requires-2
-    (λ c. search needs))
+    tie.close (tie.spec (λ c κs. search needs) count-from-requires (λ c. search needs) (λ c κs. search needs) (λ c. search needs) (λ c. search needs)
+    (λ c. search needs) (λ c. search needs) (λ c. search needs) (λ c κs. search needs) (λ c. search needs) count-from-requires-2 (λ c. search needs))

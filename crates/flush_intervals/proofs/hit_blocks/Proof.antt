@@ -3,7 +3,6 @@
 use Prim.Native.Nat.{_-_}
 use mathlib.Core.Bool.{true}
 use lib.ListN.{length}
-use native.Mathlib.Omega.{arith}
 use Rattle.flush_intervals.proofs.Hits.{still-searched}
 use Rattle.flush_intervals.proofs.Walks.{Hitting, hit-start, hit-next, hit-done}
 use borrow.Author.Needs.{needs}
@@ -16,32 +15,8 @@ Inv-loop v w near keys places hits₀ k at₀ hits at = Hitting true w v keys hi
 abbrev μ-loop : tie.MeasureT-loop
 μ-loop v w near keys places hits₀ k at₀ hits at = length v - at
 
-loop-holds : tie.Need-loop-holds Inv-loop μ-loop
-loop-holds c = search hit-start
-
-hit-range-requires : tie.Need-hit-range-requires Inv-loop μ-loop
-hit-range-requires c κs = (search still-searched, (search needs, search needs))
-
-loop-again : tie.Need-loop-again Inv-loop μ-loop
-loop-again c = search hit-next
-
-returns : tie.Need-returns Inv-loop μ-loop
-returns c = search hit-done
-
 pub hit-blocks-spec : {M : Type 1} → statement M
 hit-blocks-spec =
-    tie.close
-    (tie.spec
-    Inv-loop
-    μ-loop
-    (λ c κs. search needs)
-    loop-holds
-    (λ c. search needs)
-    (λ c κs. search needs)
-    (λ c κs. search needs)
-    hit-range-requires
-    (λ c. search needs)
-    (λ c. search needs)
-    loop-again
-    (λ c. search needs)
-    returns)
+    tie.close (tie.spec Inv-loop μ-loop (λ c κs. search needs) (λ c. search hit-start) (λ c. search needs) (λ c κs. search needs)
+    (λ c κs. search needs) (λ c κs. (search still-searched, (search needs, search needs))) (λ c. search needs) (λ c. search needs)
+    (λ c. search hit-next) (λ c. search needs) (λ c. search hit-done))

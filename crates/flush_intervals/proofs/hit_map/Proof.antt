@@ -1,9 +1,7 @@
 -- `flush_intervals::hit_map` meets its contract. The invariant: the keys before key i have their bits.
 -- Assumes nothing.
-use mathlib.Core.Bool.{true, false}
 use Prim.Native.Nat.{_-_}
 use lib.ListN.{length}
-use native.Mathlib.Omega.{arith}
 use borrow.Author.Tests.{not-true}
 use Rattle.numbers.specs.Numberings.{inMap}
 use Rattle.flush_intervals.proofs.Hits.{Mapping, map-short, far-hits, map-start, map-done, map-past, map-next}
@@ -40,26 +38,6 @@ returns-4 c = map-done _ _ _ _ _ (c .before .before .before .before .before .bef
 
 pub hit-map-spec : {M : Type 1} → statement M
 hit-map-spec =
-    tie.close
-    (tie.spec
-    Inv-loop
-    μ-loop
-    returns
-    (λ c κs. search needs)
-    (λ c κs. search needs)
-    (λ c κs. search needs)
-    returns-2
-    (λ c κs. search needs)
-    (λ c κs. search needs)
-    loop-holds
-    (λ c. search needs)
-    (λ c. search needs)
-    (λ c. search needs)
-    returns-3
-    (λ c κs. search needs)
-    add-if-requires
-    (λ c. search needs)
-    (λ c. search needs)
-    loop-again
-    (λ c. search needs)
-    returns-4)
+    tie.close (tie.spec Inv-loop μ-loop returns (λ c κs. search needs) (λ c κs. search needs) (λ c κs. search needs) returns-2 (λ c κs. search needs)
+    (λ c κs. search needs) loop-holds (λ c. search needs) (λ c. search needs) (λ c. search needs) returns-3 (λ c κs. search needs) add-if-requires
+    (λ c. search needs) (λ c. search needs) loop-again (λ c. search needs) returns-4)

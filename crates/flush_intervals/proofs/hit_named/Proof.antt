@@ -2,7 +2,6 @@
 -- Assumes nothing.
 use Prim.Native.Nat.{_-_}
 use lib.ListN.{length}
-use native.Mathlib.Omega.{arith}
 use Rattle.flush_intervals.proofs.Hits.{still-searched}
 use Rattle.flush_intervals.proofs.Walks.{Walking, walk-start, walk-cut, walk-next, walk-done}
 use borrow.Author.Needs.{needs}
@@ -32,21 +31,5 @@ returns-2 c = search walk-done
 
 pub hit-named-spec : {M : Type 1} → statement M
 hit-named-spec =
-    tie.close
-    (tie.spec
-    Inv-loop
-    μ-loop
-    loop-holds
-    (λ c κs. search needs)
-    (λ c. search needs)
-    returns
-    (λ c. search needs)
-    (λ c. search needs)
-    (λ c. search needs)
-    (λ c. search needs)
-    (λ c. search needs)
-    hit-value-requires
-    (λ c. search needs)
-    loop-again
-    (λ c. search needs)
-    returns-2)
+    tie.close (tie.spec Inv-loop μ-loop loop-holds (λ c κs. search needs) (λ c. search needs) returns (λ c. search needs) (λ c. search needs)
+    (λ c. search needs) (λ c. search needs) (λ c. search needs) hit-value-requires (λ c. search needs) loop-again (λ c. search needs) returns-2)

@@ -26,13 +26,5 @@ returns-3 c = range-hits _ _ _ _ (c .before .before .before .before .before .cou
 
 pub hit-range-spec : {M : Type 1} → statement M
 hit-range-spec =
-    tie.close
-    (tie.spec
-    returns
-    (λ c κs. search needs)
-    returns-2
-    (λ c κs. search needs)
-    count-from-requires
-    add-range-requires
-    (λ c. search needs)
+    tie.close (tie.spec returns (λ c κs. search needs) returns-2 (λ c κs. search needs) count-from-requires add-range-requires (λ c. search needs)
     returns-3)

@@ -10,5 +10,4 @@ returns-2 c = single-far _ _ _ _ (search needs) _ (c .before .has-alone .ensures
 
 pub hit-single-spec : {M : Type 1} → statement M
 hit-single-spec =
-    tie.close
-    (tie.spec (λ c κs. search needs) (λ c. search needs) (λ c κs. search needs) (λ c. search needs) (λ c. search needs) returns-2)
+    tie.close (tie.spec (λ c κs. search needs) (λ c. search needs) (λ c κs. search needs) (λ c. search needs) (λ c. search needs) returns-2)

@@ -1,6 +1,5 @@
 -- `flush_intervals::step` meets its contract: by arithmetic.
 -- Assumes nothing.
-use Prim.Native.Nat.{_-_}
 use Rattle.flush_intervals.proofs.Ranges.{step-is}
 use mathlib.Core.Path.{refl}
 use borrow.Author.Needs.{needs}

@@ -13,28 +13,7 @@ Inv-loop keys hits marks₀ i₀ marks i = Collecting keys hits marks₀ i marks
 abbrev μ-loop : tie.MeasureT-loop
 μ-loop keys hits marks₀ i₀ marks i = length keys - i
 
-loop-holds : tie.Need-loop-holds Inv-loop μ-loop
-loop-holds c = search collecting-start
-
-loop-again : tie.Need-loop-again Inv-loop μ-loop
-loop-again c = search collecting-next
-
-returns : tie.Need-returns Inv-loop μ-loop
-returns c = search collecting-done
-
 pub collect-spec : {M : Type 1} → statement M
 collect-spec =
-    tie.close
-    (tie.spec
-    Inv-loop
-    μ-loop
-    loop-holds
-    (λ c κs. search needs)
-    (λ c. search needs)
-    (λ c. search needs)
-    (λ c κs. search needs)
-    (λ c. search needs)
-    (λ c. search needs)
-    loop-again
-    (λ c. search needs)
-    returns)
+    tie.close (tie.spec Inv-loop μ-loop (λ c. search collecting-start) (λ c κs. search needs) (λ c. search needs) (λ c. search needs)
+    (λ c κs. search needs) (λ c. search needs) (λ c. search needs) (λ c. search collecting-next) (λ c. search needs) (λ c. search collecting-done))

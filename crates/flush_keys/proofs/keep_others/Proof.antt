@@ -23,47 +23,14 @@ slot c = slot-few _ _ _ (c .before .before .before .before .before .before .befo
 returns : tie.Need-returns Inv-loop μ-loop
 returns c = without-none _ _ _ _ (c .enum-told2 .given .1)
 
-loop-holds : tie.Need-loop-holds Inv-loop μ-loop
-loop-holds c = search joining-start
-
 mul-applies-at : tie.Need-mul-applies-at Inv-loop μ-loop
 mul-applies-at c = let l = slot c in omega arith
-
-applies-at-requires : tie.Need-applies-at-requires Inv-loop μ-loop
-applies-at-requires c κs = search slot-room
-
-loop-again : tie.Need-loop-again Inv-loop μ-loop
-loop-again c = search without-passed
 
 add-if-requires : tie.Need-add-if-requires Inv-loop μ-loop
 add-if-requires c κs = let l = slot (c .before .before .before) in search needs
 
-loop-again-2 : tie.Need-loop-again-2 Inv-loop μ-loop
-loop-again-2 c = search without-added
-
-returns-2 : tie.Need-returns-2 Inv-loop μ-loop
-returns-2 c = search joining-done
-
 pub keep-others-spec : {M : Type 1} → statement M
 keep-others-spec =
-    tie.close
-    (tie.spec
-    Inv-loop
-    μ-loop
-    (λ c. search needs)
-    (λ c. search needs)
-    returns
-    loop-holds
-    (λ c. search needs)
-    (λ c. search needs)
-    mul-applies-at
-    applies-at-requires
-    (λ c. search needs)
-    (λ c. search needs)
-    loop-again
-    add-if-requires
-    (λ c. search needs)
-    (λ c. search needs)
-    loop-again-2
-    (λ c. search needs)
-    returns-2)
+    tie.close (tie.spec Inv-loop μ-loop (λ c. search needs) (λ c. search needs) returns (λ c. search joining-start) (λ c. search needs)
+    (λ c. search needs) mul-applies-at (λ c κs. search slot-room) (λ c. search needs) (λ c. search needs) (λ c. search without-passed) add-if-requires
+    (λ c. search needs) (λ c. search needs) (λ c. search without-added) (λ c. search needs) (λ c. search joining-done))

@@ -24,9 +24,6 @@ slot c =
     let pre = c .before .before .before .before .before .before .before .pre .0 in
     (slot-room _ _ _ pre (omega arith), slot-few _ _ _ pre (omega arith))
 
-loop-holds : tie.Need-loop-holds Inv-loop μ-loop
-loop-holds c = (refl, search making-start)
-
 mul-at : tie.Need-mul-at Inv-loop μ-loop
 mul-at c = let l = slot c in omega arith
 
@@ -47,25 +44,6 @@ returns c = making-done _ _ _ _ _ _ _ (c .before .loop .inv .1) (omega arith)
 
 pub keys-of-spec : {M : Type 1} → statement M
 keys-of-spec =
-    tie.close
-    (tie.spec
-    Inv-loop
-    μ-loop
-    loop-holds
-    (λ c. search needs)
-    (λ c. search needs)
-    mul-at
-    number-at-requires
-    (λ c. search needs)
-    add-keys
-    (λ c. search needs)
-    (λ c. search needs)
-    applies-at-requires
-    (λ c κs. search needs)
-    (λ c κs. search needs)
-    (λ c. search needs)
-    (λ c. search needs)
-    (λ c. search needs)
-    loop-again
-    (λ c. search needs)
-    returns)
+    tie.close (tie.spec Inv-loop μ-loop (λ c. (refl, search making-start)) (λ c. search needs) (λ c. search needs) mul-at number-at-requires
+    (λ c. search needs) add-keys (λ c. search needs) (λ c. search needs) applies-at-requires (λ c κs. search needs) (λ c κs. search needs)
+    (λ c. search needs) (λ c. search needs) (λ c. search needs) loop-again (λ c. search needs) returns)

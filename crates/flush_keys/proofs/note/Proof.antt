@@ -13,27 +13,7 @@ Inv-loop keys bits₀ i₀ bits i = Noting keys bits i
 abbrev μ-loop : tie.MeasureT-loop
 μ-loop keys bits₀ i₀ bits i = length keys - i
 
-loop-holds : tie.Need-loop-holds Inv-loop μ-loop
-loop-holds c = search noting-start
-
-loop-again : tie.Need-loop-again Inv-loop μ-loop
-loop-again c = search noting-next
-
-returns : tie.Need-returns Inv-loop μ-loop
-returns c = search noting-done
-
 pub note-spec : {M : Type 1} → statement M
 note-spec =
-    tie.close
-    (tie.spec
-    Inv-loop
-    μ-loop
-    loop-holds
-    (λ c. search needs)
-    (λ c. search needs)
-    (λ c κs. search needs)
-    (λ c. search needs)
-    (λ c. search needs)
-    loop-again
-    (λ c. search needs)
-    returns)
+    tie.close (tie.spec Inv-loop μ-loop (λ c. search noting-start) (λ c. search needs) (λ c. search needs) (λ c κs. search needs) (λ c. search needs)
+    (λ c. search needs) (λ c. search noting-next) (λ c. search needs) (λ c. search noting-done))

@@ -71,33 +71,7 @@ returns-2 c = search cleared-ends
 
 pub clear-marked-spec : {M : Type 1} → statement M
 clear-marked-spec =
-    tie.close
-    (tie.spec
-    Inv-loop
-    μ-loop
-    loop-holds
-    (λ c κs. search needs)
-    clear-run-requires
-    (λ c. search needs)
-    (λ c. search needs)
-    (λ c. search needs)
-    loop-again
-    (λ c κs. search needs)
-    clear-slot-requires
-    (λ c. search needs)
-    (λ c. search needs)
-    (λ c. search needs)
-    loop-again-2
-    (λ c. search needs)
-    (λ c κs. search needs)
-    (λ c. search needs)
-    clear-slot-requires-2
-    (λ c. search needs)
-    add-k-3
-    loop-less-3
-    loop-again-3
-    (λ c. search needs)
-    same-length
-    returns
-    (λ c. search needs)
-    returns-2)
+    tie.close (tie.spec Inv-loop μ-loop loop-holds (λ c κs. search needs) clear-run-requires (λ c. search needs) (λ c. search needs)
+    (λ c. search needs) loop-again (λ c κs. search needs) clear-slot-requires (λ c. search needs) (λ c. search needs) (λ c. search needs) loop-again-2
+    (λ c. search needs) (λ c κs. search needs) (λ c. search needs) clear-slot-requires-2 (λ c. search needs) add-k-3 loop-less-3 loop-again-3
+    (λ c. search needs) same-length returns (λ c. search needs) returns-2)

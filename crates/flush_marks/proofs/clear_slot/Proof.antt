@@ -10,18 +10,7 @@ use Rattle.flush_marks.proofs.clear_slot.Tie as tie
 clear-requires : tie.Need-clear-requires
 clear-requires c κs = length-lent (c .before .before .args .k) (c .before .before .args .table .now) (omega arith)
 
-returns : tie.Need-returns
-returns c = search slot-freed
-
 pub clear-slot-spec : {M : Type 1} → statement M
 clear-slot-spec =
-    tie.close
-    (tie.spec
-    (λ c. search needs)
-    (λ c. search needs)
-    (λ c. search needs)
-    (λ c. search needs)
-    (λ c. search needs)
-    clear-requires
-    (λ c. search needs)
-    returns)
+    tie.close (tie.spec (λ c. search needs) (λ c. search needs) (λ c. search needs) (λ c. search needs) (λ c. search needs) clear-requires
+    (λ c. search needs) (λ c. search slot-freed))

@@ -2,7 +2,7 @@
 -- Assumes nothing.
 use mathlib.Core.Path.{refl}
 use native.Mathlib.Omega.{arith}
-use Rattle.flush.proofs.Lists.{false-true}
+use Rattle.numbers.proofs.Truth.{false-true}
 use Rattle.flush_marks.proofs.Clearing.{byte-full}
 use borrow.Author.Needs.{needs}
 use Rattle.flush_marks.proofs.eight_marked.Statement.{statement}

@@ -3,7 +3,6 @@
 use native.Mathlib.Omega.{arith}
 use mathlib.Core.Path.{refl}
 use lib.Count.{leading-le}
-use borrow.Author.Needs.{needs}
 use Rattle.flush_marks.proofs.lead_of.Statement.{statement}
 use Rattle.flush_marks.proofs.lead_of.Tie as tie
 

@@ -13,42 +13,11 @@ Inv-loop marks n slots₀ c₀ k₀ slots c k = ListedTo marks n slots₀ k c sl
 abbrev μ-loop : tie.MeasureT-loop
 μ-loop marks n slots₀ c₀ k₀ slots c k = n - k
 
-loop-holds : tie.Need-loop-holds Inv-loop μ-loop
-loop-holds c = search listed-none
-
-loop-again : tie.Need-loop-again Inv-loop μ-loop
-loop-again c = search listed-byte
-
-returns : tie.Need-returns Inv-loop μ-loop
-returns c = search listed-full
-
 loop-again-2 : tie.Need-loop-again-2 Inv-loop μ-loop
 loop-again-2 c = listed-next _ _ _ _ _ _ (c .before .before .before .before .before .before .loop .inv) (omega arith) (c .before .before .if2 .left) _ (c .before .has .ensures) _ (c .one .ensures)
 
-returns-2 : tie.Need-returns-2 Inv-loop μ-loop
-returns-2 c = search listed-ends
-
 pub list-marked-spec : {M : Type 1} → statement M
 list-marked-spec =
-    tie.close
-    (tie.spec
-    Inv-loop
-    μ-loop
-    loop-holds
-    (λ c κs. search needs)
-    (λ c. search needs)
-    (λ c. search needs)
-    (λ c. search needs)
-    loop-again
-    (λ c. search needs)
-    returns
-    (λ c. search needs)
-    (λ c. search needs)
-    (λ c κs. search needs)
-    (λ c κs. search needs)
-    (λ c. search needs)
-    (λ c. search needs)
-    (λ c. search needs)
-    loop-again-2
-    (λ c. search needs)
-    returns-2)
+    tie.close (tie.spec Inv-loop μ-loop (λ c. search listed-none) (λ c κs. search needs) (λ c. search needs) (λ c. search needs) (λ c. search needs)
+    (λ c. search listed-byte) (λ c. search needs) (λ c. search listed-full) (λ c. search needs) (λ c. search needs) (λ c κs. search needs)
+    (λ c κs. search needs) (λ c. search needs) (λ c. search needs) (λ c. search needs) loop-again-2 (λ c. search needs) (λ c. search listed-ends))

@@ -2,7 +2,6 @@
 -- Assumes nothing.
 use native.Mathlib.Omega.{arith}
 use lib.Count.{ones-le}
-use borrow.Author.Needs.{needs}
 use Rattle.flush_marks.proofs.ones.Statement.{statement}
 use Rattle.flush_marks.proofs.ones.Tie as tie
 

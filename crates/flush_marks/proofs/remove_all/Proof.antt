@@ -13,25 +13,7 @@ Inv-loop marks₀ i₀ marks i = Emptied marks₀ marks i
 abbrev μ-loop : tie.MeasureT-loop
 μ-loop marks₀ i₀ marks i = length marks₀ - i
 
-loop-holds : tie.Need-loop-holds Inv-loop μ-loop
-loop-holds c = search empty-start
-
-loop-again : tie.Need-loop-again Inv-loop μ-loop
-loop-again c = search empty-next
-
-returns : tie.Need-returns Inv-loop μ-loop
-returns c = search empty-done
-
 pub remove-all-spec : {M : Type 1} → statement M
 remove-all-spec =
-    tie.close
-    (tie.spec
-    Inv-loop
-    μ-loop
-    loop-holds
-    (λ c. search needs)
-    (λ c. search needs)
-    (λ c. search needs)
-    loop-again
-    (λ c. search needs)
-    returns)
+    tie.close (tie.spec Inv-loop μ-loop (λ c. search empty-start) (λ c. search needs) (λ c. search needs) (λ c. search needs) (λ c. search empty-next)
+    (λ c. search needs) (λ c. search empty-done))

@@ -5,13 +5,7 @@ use borrow.Author.Needs.{needs}
 use Rattle.flush_members.proofs.bit_at.Statement.{statement}
 use Rattle.flush_members.proofs.bit_at.Tie as tie
 
-returns : tie.Need-returns
-returns c = search bit-none
-
-returns-2 : tie.Need-returns-2
-returns-2 c = search bit-there
-
 pub bit-at-spec : {M : Type 1} → statement M
 bit-at-spec =
-    tie.close
-    (tie.spec (λ c. search needs) returns (λ c. search needs) (λ c. search needs) (λ c. search needs) (λ c κs. search needs) returns-2)
+    tie.close (tie.spec (λ c. search needs) (λ c. search bit-none) (λ c. search needs) (λ c. search needs) (λ c. search needs) (λ c κs. search needs)
+    (λ c. search bit-there))

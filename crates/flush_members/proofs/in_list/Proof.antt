@@ -23,26 +23,7 @@ loop-holds : tie.Need-loop-holds Inv-loop μ-loop
 unfolding inList
 loop-holds c = (search needs, (search needs, refl))
 
-returns : tie.Need-returns Inv-loop μ-loop
-returns c = search (part-hit, item-near)
-
-loop-again : tie.Need-loop-again Inv-loop μ-loop
-loop-again c = (search needs, (search needs, search (part-next, item-near)))
-
-returns-2 : tie.Need-returns-2 Inv-loop μ-loop
-returns-2 c = search (parts-done, item-near)
-
 pub in-list-spec : {M : Type 1} → statement M
 in-list-spec =
-    tie.close
-    (tie.spec
-    Inv-loop
-    μ-loop
-    loop-holds
-    (λ c. search needs)
-    (λ c κs. search needs)
-    returns
-    (λ c. search needs)
-    (λ c. search needs)
-    loop-again
-    returns-2)
+    tie.close (tie.spec Inv-loop μ-loop loop-holds (λ c. search needs) (λ c κs. search needs) (λ c. search (part-hit, item-near)) (λ c. search needs)
+    (λ c. search needs) (λ c. (search needs, (search needs, search (part-next, item-near)))) (λ c. search (parts-done, item-near)))

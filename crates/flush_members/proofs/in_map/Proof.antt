@@ -5,9 +5,6 @@ use borrow.Author.Needs.{needs}
 use Rattle.flush_members.proofs.in_map.Statement.{statement}
 use Rattle.flush_members.proofs.in_map.Tie as tie
 
-returns : tie.Need-returns
-returns c = search map-short
-
 pub in-map-spec : {M : Type 1} → statement M
 in-map-spec =
-    tie.close (tie.spec returns (λ c κs. search needs) (λ c κs. search needs) (λ c. search needs))
+    tie.close (tie.spec (λ c. search map-short) (λ c κs. search needs) (λ c κs. search needs) (λ c. search needs))

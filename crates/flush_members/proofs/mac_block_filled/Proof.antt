@@ -5,9 +5,6 @@ use borrow.Author.Needs.{needs}
 use Rattle.flush_members.proofs.mac_block_filled.Statement.{statement}
 use Rattle.flush_members.proofs.mac_block_filled.Tie as tie
 
-returns : tie.Need-returns
-returns c = search macs-filled
-
 pub mac-block-filled-spec : {M : Type 1} → statement M
 mac-block-filled-spec =
-    tie.close (tie.spec (λ c κs. search needs) (λ c. search needs) (λ c κs. search needs) returns)
+    tie.close (tie.spec (λ c κs. search needs) (λ c. search needs) (λ c κs. search needs) (λ c. search macs-filled))

@@ -22,26 +22,8 @@ loop-holds : tie.Need-loop-holds Inv-loop μ-loop
 unfolding someFilled
 loop-holds c = (search needs, refl)
 
-returns : tie.Need-returns Inv-loop μ-loop
-returns c = search (part-hit, filled-near macs, lit<)
-
-loop-again : tie.Need-loop-again Inv-loop μ-loop
-loop-again c = (search needs, search (part-next, filled-near macs, lit<))
-
-returns-2 : tie.Need-returns-2 Inv-loop μ-loop
-returns-2 c = search (parts-done, filled-near macs, lit<)
-
 pub some-mac-block-spec : {M : Type 1} → statement M
 some-mac-block-spec =
-    tie.close
-    (tie.spec
-    Inv-loop
-    μ-loop
-    loop-holds
-    (λ c. search needs)
-    (λ c κs. search needs)
-    returns
-    (λ c. search needs)
-    (λ c. search needs)
-    loop-again
-    returns-2)
+    tie.close (tie.spec Inv-loop μ-loop loop-holds (λ c. search needs) (λ c κs. search needs) (λ c. search (part-hit, filled-near macs, lit<))
+    (λ c. search needs) (λ c. search needs) (λ c. (search needs, search (part-next, filled-near macs, lit<)))
+    (λ c. search (parts-done, filled-near macs, lit<)))

@@ -15,37 +15,8 @@ Inv-loop v w bits₀ k at₀ bits at = (at ≤ length v) × Adding (partsHit tru
 abbrev μ-loop : tie.MeasureT-loop
 μ-loop v w bits₀ k at₀ bits at = length v - at
 
-loop-holds : tie.Need-loop-holds Inv-loop μ-loop
-loop-holds c = (search needs, search adding-start)
-
-add-requires : tie.Need-add-requires Inv-loop μ-loop
-add-requires c κs = search adding-long
-
-returns : tie.Need-returns Inv-loop μ-loop
-returns c = search adding-full
-
-loop-again : tie.Need-loop-again Inv-loop μ-loop
-loop-again c = (search needs, search parts-next)
-
-returns-2 : tie.Need-returns-2 Inv-loop μ-loop
-returns-2 c = search parts-done
-
 pub add-blocks-spec : {M : Type 1} → statement M
 add-blocks-spec =
-    tie.close
-    (tie.spec
-    Inv-loop
-    μ-loop
-    (λ c κs. search needs)
-    loop-holds
-    (λ c. search needs)
-    (λ c κs. search needs)
-    (λ c κs. search needs)
-    add-requires
-    (λ c. search needs)
-    returns
-    (λ c. search needs)
-    (λ c. search needs)
-    loop-again
-    (λ c. search needs)
-    returns-2)
+    tie.close (tie.spec Inv-loop μ-loop (λ c κs. search needs) (λ c. (search needs, search adding-start)) (λ c. search needs) (λ c κs. search needs)
+    (λ c κs. search needs) (λ c κs. search adding-long) (λ c. search needs) (λ c. search adding-full) (λ c. search needs) (λ c. search needs)
+    (λ c. (search needs, search parts-next)) (λ c. search needs) (λ c. search parts-done))

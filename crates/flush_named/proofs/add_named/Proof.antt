@@ -35,23 +35,6 @@ returns-3 c = search tlvs-done
 
 pub add-named-spec : {M : Type 1} → statement M
 add-named-spec =
-    tie.close
-    (tie.spec
-    Inv-loop
-    μ-loop
-    loop-holds
-    (λ c κs. search needs)
-    (λ c. search needs)
-    returns
-    (λ c. search needs)
-    (λ c. search needs)
-    (λ c. search needs)
-    (λ c. search needs)
-    (λ c. search needs)
-    add-value-requires
-    (λ c. search needs)
-    returns-2
-    (λ c. search needs)
-    loop-again
-    (λ c. search needs)
-    returns-3)
+    tie.close (tie.spec Inv-loop μ-loop loop-holds (λ c κs. search needs) (λ c. search needs) returns (λ c. search needs) (λ c. search needs)
+    (λ c. search needs) (λ c. search needs) (λ c. search needs) add-value-requires (λ c. search needs) returns-2 (λ c. search needs) loop-again
+    (λ c. search needs) returns-3)

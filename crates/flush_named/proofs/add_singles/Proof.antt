@@ -16,31 +16,8 @@ Inv-loop v w bits₀ k at₀ bits at = (at ≤ length v) × Adding (partsHit fal
 abbrev μ-loop : tie.MeasureT-loop
 μ-loop v w bits₀ k at₀ bits at = length v - at
 
-loop-holds : tie.Need-loop-holds Inv-loop μ-loop
-loop-holds c = (search needs, search adding-start)
-
-add-single-requires : tie.Need-add-single-requires Inv-loop μ-loop
-add-single-requires c κs = search adding-long
-
-loop-again : tie.Need-loop-again Inv-loop μ-loop
-loop-again c = (search needs, search (parts-next, single-past))
-
-returns : tie.Need-returns Inv-loop μ-loop
-returns c = search parts-done
-
 pub add-singles-spec : {M : Type 1} → statement M
 add-singles-spec =
-    tie.close
-    (tie.spec
-    Inv-loop
-    μ-loop
-    (λ c κs. search needs)
-    loop-holds
-    (λ c. search needs)
-    (λ c κs. search needs)
-    add-single-requires
-    (λ c. search needs)
-    (λ c. search needs)
-    loop-again
-    (λ c. search needs)
-    returns)
+    tie.close (tie.spec Inv-loop μ-loop (λ c κs. search needs) (λ c. (search needs, search adding-start)) (λ c. search needs) (λ c κs. search needs)
+    (λ c κs. search adding-long) (λ c. search needs) (λ c. search needs) (λ c. (search needs, search (parts-next, single-past))) (λ c. search needs)
+    (λ c. search parts-done))

@@ -14,21 +14,7 @@ Inv-loop t from e names k₀ k = FirstNamed (λ x. bitAt x names) t from e k
 abbrev μ-loop : tie.MeasureT-loop
 μ-loop t from e names k₀ k = e - k
 
-loop-again : tie.Need-loop-again Inv-loop μ-loop
-loop-again c = search first-next
-
 pub first-listed-spec : {M : Type 1} → statement M
 first-listed-spec =
-    tie.close
-    (tie.spec
-    Inv-loop
-    μ-loop
-    (λ c κs. search needs)
-    (λ c. search needs)
-    (λ c. search needs)
-    (λ c κs. search needs)
-    (λ c. search needs)
-    (λ c. search needs)
-    (λ c. search needs)
-    loop-again
-    (λ c. search needs))
+    tie.close (tie.spec Inv-loop μ-loop (λ c κs. search needs) (λ c. search needs) (λ c. search needs) (λ c κs. search needs) (λ c. search needs)
+    (λ c. search needs) (λ c. search needs) (λ c. search first-next) (λ c. search needs))

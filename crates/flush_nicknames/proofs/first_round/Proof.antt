@@ -14,23 +14,7 @@ Inv-loop t from e names k₀ k = FirstNamed (λ x. bitAt x names) t from e k
 abbrev μ-loop : tie.MeasureT-loop
 μ-loop t from e names k₀ k = e - k
 
-loop-holds : tie.Need-loop-holds Inv-loop μ-loop
-loop-holds c = search first-start
-
-loop-again : tie.Need-loop-again Inv-loop μ-loop
-loop-again c = search round-next
-
 pub first-round-spec : {M : Type 1} → statement M
 first-round-spec =
-    tie.close
-    (tie.spec
-    Inv-loop
-    μ-loop
-    loop-holds
-    (λ c. search needs)
-    (λ c κs. search needs)
-    (λ c. search needs)
-    (λ c. search needs)
-    (λ c. search needs)
-    loop-again
-    (λ c. search needs))
+    tie.close (tie.spec Inv-loop μ-loop (λ c. search first-start) (λ c. search needs) (λ c κs. search needs) (λ c. search needs) (λ c. search needs)
+    (λ c. search needs) (λ c. search round-next) (λ c. search needs))

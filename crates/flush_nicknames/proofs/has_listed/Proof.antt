@@ -13,11 +13,4 @@ returns-2 c = names-listed _ _ _ (c .before .nickname-at .ensures .0) _ (c .has 
 
 pub has-listed-spec : {M : Type 1} → statement M
 has-listed-spec =
-    tie.close
-    (tie.spec
-    (λ c κs. search needs)
-    (λ c κs. search needs)
-    returns
-    (λ c κs. search needs)
-    (λ c κs. search needs)
-    returns-2)
+    tie.close (tie.spec (λ c κs. search needs) (λ c κs. search needs) returns (λ c κs. search needs) (λ c κs. search needs) returns-2)

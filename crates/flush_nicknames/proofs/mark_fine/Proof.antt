@@ -19,36 +19,17 @@ Inv-loop table from e one near marks₀ k₀ marks k = ((from ≤ k) × (k ≤ e
 abbrev μ-loop : tie.MeasureT-loop
 μ-loop table from e one near marks₀ k₀ marks k = e - k
 
-loop-holds : tie.Need-loop-holds Inv-loop μ-loop
-loop-holds c = (search needs, search (mark-none, marked-near))
-
 loop-again : tie.Need-loop-again Inv-loop μ-loop
 loop-again c =
     let hit = c .before .before .before .before in
     let at = hit .before .before .before .loop in
     (search needs, mark-hit _ (marked-near _ _ _) _ _ _ _ (at .inv .1) _ (hit .before .fine-at .ensures) (at .inv .0 .0) (hit .if1 .taken) _ (c .before .before .add-mark .ensures))
 
-loop-again-2 : tie.Need-loop-again-2 Inv-loop μ-loop
-loop-again-2 c = (search needs, search (mark-miss, marked-near))
-
 returns : tie.Need-returns Inv-loop μ-loop
 returns c = (omega arith, mark-ends _ (marked-near _ _ _) _ _ _ _ (c .before .loop .inv .1) _ (omega arith) (omega arith))
 
 pub mark-fine-spec : {M : Type 1} → statement M
 mark-fine-spec =
-    tie.close
-    (tie.spec
-    Inv-loop
-    μ-loop
-    loop-holds
-    (λ c. search needs)
-    (λ c κs. search needs)
-    (λ c κs. search needs)
-    (λ c. search needs)
-    (λ c. search needs)
-    loop-again
-    (λ c. search needs)
-    (λ c. search needs)
-    loop-again-2
-    (λ c. search needs)
-    returns)
+    tie.close (tie.spec Inv-loop μ-loop (λ c. (search needs, search (mark-none, marked-near))) (λ c. search needs) (λ c κs. search needs)
+    (λ c κs. search needs) (λ c. search needs) (λ c. search needs) loop-again (λ c. search needs) (λ c. search needs)
+    (λ c. (search needs, search (mark-miss, marked-near))) (λ c. search needs) returns)

@@ -69,25 +69,6 @@ returns-4 c =
 
 pub mark-one-spec : {M : Type 1} → statement M
 mark-one-spec =
-    tie.close
-    (tie.spec
-    (λ c. search needs)
-    (λ c κs. search needs)
-    returns
-    (λ c. search needs)
-    vlan-set-requires
-    (λ c. search needs)
-    add-fine-requires
-    (λ c. search needs)
-    mark-fine-requires
-    (λ c. search needs)
-    returns-2
-    (λ c. search needs)
-    (λ c. search needs)
-    mark-single-requires
-    (λ c. search needs)
-    returns-3
-    (λ c. search needs)
-    mark-plain-requires
-    (λ c. search needs)
-    returns-4)
+    tie.close (tie.spec (λ c. search needs) (λ c κs. search needs) returns (λ c. search needs) vlan-set-requires (λ c. search needs) add-fine-requires
+    (λ c. search needs) mark-fine-requires (λ c. search needs) returns-2 (λ c. search needs) (λ c. search needs) mark-single-requires
+    (λ c. search needs) returns-3 (λ c. search needs) mark-plain-requires (λ c. search needs) returns-4)

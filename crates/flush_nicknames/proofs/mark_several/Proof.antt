@@ -56,27 +56,7 @@ returns-3 c =
 
 pub mark-several-spec : {M : Type 1} → statement M
 mark-several-spec =
-    tie.close
-    (tie.spec
-    (λ c. search needs)
-    (λ c κs. search needs)
-    (λ c. search needs)
-    (λ c. search needs)
-    (λ c κs. search needs)
-    returns
-    (λ c. search needs)
-    vlan-set-requires
-    (λ c. search needs)
-    add-fine-requires
-    (λ c. search needs)
-    (λ c. search needs)
-    (λ c. search needs)
-    mark-listed-requires
-    (λ c. search needs)
-    returns-2
-    (λ c. search needs)
-    (λ c. search needs)
-    (λ c. search needs)
-    mark-listed-requires-2
-    (λ c. search needs)
-    returns-3)
+    tie.close (tie.spec (λ c. search needs) (λ c κs. search needs) (λ c. search needs) (λ c. search needs) (λ c κs. search needs) returns
+    (λ c. search needs) vlan-set-requires (λ c. search needs) add-fine-requires (λ c. search needs) (λ c. search needs) (λ c. search needs)
+    mark-listed-requires (λ c. search needs) returns-2 (λ c. search needs) (λ c. search needs) (λ c. search needs) mark-listed-requires-2
+    (λ c. search needs) returns-3)

@@ -5,22 +5,7 @@ use borrow.Author.Needs.{needs}
 use Rattle.flush_nicknames.proofs.none_of_round.Statement.{statement}
 use Rattle.flush_nicknames.proofs.none_of_round.Tie as tie
 
-returns : tie.Need-returns
-returns c = search round-none
-
 pub none-of-round-spec : {M : Type 1} → statement M
 none-of-round-spec =
-    tie.close
-    (tie.spec
-    (λ c. search needs)
-    (λ c κs. search needs)
-    (λ c. search needs)
-    (λ c. search needs)
-    (λ c κs. search needs)
-    (λ c. search needs)
-    (λ c. search needs)
-    (λ c κs. search needs)
-    (λ c. search needs)
-    (λ c. search needs)
-    (λ c κs. search needs)
-    returns)
+    tie.close (tie.spec (λ c. search needs) (λ c κs. search needs) (λ c. search needs) (λ c. search needs) (λ c κs. search needs) (λ c. search needs)
+    (λ c. search needs) (λ c κs. search needs) (λ c. search needs) (λ c. search needs) (λ c κs. search needs) (λ c. search round-none))

@@ -1,7 +1,6 @@
 -- `flush_parts::map_past` meets its contract: the end of the numbering, or that of the map.
 -- Assumes nothing.
-use Prim.Native.Nat.{_+_, _*_, _-_, _^_, _<_}
-use native.Mathlib.Omega.{arith}
+use Prim.Native.Nat.{_^_, _<_}
 use Rattle.flush_parts.proofs.Parts.{high-fits, map-fits, number-fits, map-highest, map-below}
 use borrow.Author.Needs.{needs}
 use Rattle.flush_parts.proofs.map_past.Statement.{statement}
@@ -18,12 +17,4 @@ returns-2 c = (search map-fits, λ x h. map-below _ _ x h _ (c .number-at .ensur
 
 pub map-past-spec : {M : Type 1} → statement M
 map-past-spec =
-    tie.close
-    (tie.spec
-    (λ c. search needs)
-    (λ c. search needs)
-    returns
-    (λ c κs. search needs)
-    (λ c. search needs)
-    add-result-2
-    returns-2)
+    tie.close (tie.spec (λ c. search needs) (λ c. search needs) returns (λ c κs. search needs) (λ c. search needs) add-result-2 returns-2)

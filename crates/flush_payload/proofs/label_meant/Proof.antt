@@ -12,23 +12,10 @@ returns : tie.Need-returns
 unfolding labelMeant
 returns c = search of-tlvs
 
-returns-2 : tie.Need-returns-2
-returns-2 c = search blocks-fine
-
 slice-aggregate-in-vlan-blocks : tie.Need-slice-aggregate-in-vlan-blocks
 slice-aggregate-in-vlan-blocks c = sym (length-take-le _ _ (search needs))
 
-returns-3 : tie.Need-returns-3
-returns-3 c = search blocks-vlan
-
 pub label-meant-spec : {M : Type 1} → statement M
 label-meant-spec =
-    tie.close
-    (tie.spec
-    (λ c κs. search needs)
-    returns
-    returns-2
-    (λ c. search needs)
-    slice-aggregate-in-vlan-blocks
-    (λ c κs. search needs)
-    returns-3)
+    tie.close (tie.spec (λ c κs. search needs) returns (λ c. search blocks-fine) (λ c. search needs) slice-aggregate-in-vlan-blocks
+    (λ c κs. search needs) (λ c. search blocks-vlan))

@@ -14,26 +14,7 @@ Inv-loop l from at₀ at = EmptyPassed l from at
 abbrev μ-loop : tie.MeasureT-loop
 μ-loop l from at₀ at = length l - at
 
-loop-holds : tie.Need-loop-holds Inv-loop μ-loop
-loop-holds c = search pass-start
-
-loop-again : tie.Need-loop-again Inv-loop μ-loop
-loop-again c = search pass-next
-
 pub pass-empty-spec : {M : Type 1} → statement M
 pass-empty-spec =
-    tie.close
-    (tie.spec
-    Inv-loop
-    μ-loop
-    loop-holds
-    (λ c. search needs)
-    (λ c. search needs)
-    (λ c. search needs)
-    (λ c. search needs)
-    (λ c. search needs)
-    (λ c. search needs)
-    (λ c. search needs)
-    (λ c. search needs)
-    loop-again
-    (λ c. search needs))
+    tie.close (tie.spec Inv-loop μ-loop (λ c. search pass-start) (λ c. search needs) (λ c. search needs) (λ c. search needs) (λ c. search needs)
+    (λ c. search needs) (λ c. search needs) (λ c. search needs) (λ c. search needs) (λ c. search pass-next) (λ c. search needs))

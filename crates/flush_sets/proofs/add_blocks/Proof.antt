@@ -13,26 +13,7 @@ Inv-loop v s₀ at₀ s at = Going 4 covers v s₀ s at
 abbrev μ-loop : tie.MeasureT-loop
 μ-loop v s₀ at₀ s at = length v - at
 
-loop-holds : tie.Need-loop-holds Inv-loop μ-loop
-loop-holds c = search going-start
-
-loop-again : tie.Need-loop-again Inv-loop μ-loop
-loop-again c = search blocks-next
-
-returns : tie.Need-returns Inv-loop μ-loop
-returns c = search blocks-done
-
 pub add-blocks-spec : {M : Type 1} → statement M
 add-blocks-spec =
-    tie.close
-    (tie.spec
-    Inv-loop
-    μ-loop
-    loop-holds
-    (λ c. search needs)
-    (λ c κs. search needs)
-    (λ c. search needs)
-    (λ c. search needs)
-    loop-again
-    (λ c. search needs)
-    returns)
+    tie.close (tie.spec Inv-loop μ-loop (λ c. search going-start) (λ c. search needs) (λ c κs. search needs) (λ c. search needs) (λ c. search needs)
+    (λ c. search blocks-next) (λ c. search needs) (λ c. search blocks-done))

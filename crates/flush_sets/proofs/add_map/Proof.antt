@@ -13,37 +13,8 @@ Inv-loop v s₀ n₀ at₀ s n at = Mapping v s₀ s n at
 abbrev μ-loop : tie.MeasureT-loop
 μ-loop v s₀ n₀ at₀ s n at = length v - at
 
-returns : tie.Need-returns Inv-loop μ-loop
-returns c = search map-none
-
-loop-holds : tie.Need-loop-holds Inv-loop μ-loop
-loop-holds c = search map-start
-
-returns-2 : tie.Need-returns-2 Inv-loop μ-loop
-returns-2 c = search map-past
-
-loop-again : tie.Need-loop-again Inv-loop μ-loop
-loop-again c = search map-next
-
-returns-3 : tie.Need-returns-3 Inv-loop μ-loop
-returns-3 c = search map-done
-
 pub add-map-spec : {M : Type 1} → statement M
 add-map-spec =
-    tie.close
-    (tie.spec
-    Inv-loop
-    μ-loop
-    returns
-    (λ c κs. search needs)
-    loop-holds
-    (λ c. search needs)
-    returns-2
-    (λ c. search needs)
-    (λ c κs. search needs)
-    (λ c. search needs)
-    (λ c. search needs)
-    (λ c. search needs)
-    loop-again
-    (λ c. search needs)
-    returns-3)
+    tie.close (tie.spec Inv-loop μ-loop (λ c. search map-none) (λ c κs. search needs) (λ c. search map-start) (λ c. search needs)
+    (λ c. search map-past) (λ c. search needs) (λ c κs. search needs) (λ c. search needs) (λ c. search needs) (λ c. search needs)
+    (λ c. search map-next) (λ c. search needs) (λ c. search map-done))

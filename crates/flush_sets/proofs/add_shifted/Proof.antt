@@ -5,18 +5,7 @@ use borrow.Author.Needs.{needs}
 use Rattle.flush_sets.proofs.add_shifted.Statement.{statement}
 use Rattle.flush_sets.proofs.add_shifted.Tie as tie
 
-returns : tie.Need-returns
-returns c = search shifted-added
-
 pub add-shifted-spec : {M : Type 1} → statement M
 add-shifted-spec =
-    tie.close
-    (tie.spec
-    (λ c κs. search needs)
-    (λ c. search needs)
-    (λ c κs. search needs)
-    (λ c. search needs)
-    (λ c. search needs)
-    (λ c κs. search needs)
-    (λ c. search needs)
-    returns)
+    tie.close (tie.spec (λ c κs. search needs) (λ c. search needs) (λ c κs. search needs) (λ c. search needs) (λ c. search needs)
+    (λ c κs. search needs) (λ c. search needs) (λ c. search shifted-added))

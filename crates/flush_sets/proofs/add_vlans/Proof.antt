@@ -5,12 +5,6 @@ use borrow.Author.Needs.{needs}
 use Rattle.flush_sets.proofs.add_vlans.Statement.{statement}
 use Rattle.flush_sets.proofs.add_vlans.Tie as tie
 
-returns : tie.Need-returns
-returns c = search vlans-added
-
-returns-2 : tie.Need-returns-2
-returns-2 c = search vlans-past
-
 pub add-vlans-spec : {M : Type 1} → statement M
 add-vlans-spec =
-    tie.close (tie.spec (λ c κs. search needs) (λ c κs. search needs) (λ c. search needs) returns returns-2)
+    tie.close (tie.spec (λ c κs. search needs) (λ c κs. search needs) (λ c. search needs) (λ c. search vlans-added) (λ c. search vlans-past))

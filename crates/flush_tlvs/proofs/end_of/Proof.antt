@@ -5,13 +5,7 @@ use borrow.Author.Needs.{needs}
 use Rattle.flush_tlvs.proofs.end_of.Statement.{statement}
 use Rattle.flush_tlvs.proofs.end_of.Tie as tie
 
-returns : tie.Need-returns
-returns c = search end-lone
-
-returns-2 : tie.Need-returns-2
-returns-2 c = search end-told
-
 pub end-of-spec : {M : Type 1} → statement M
 end-of-spec =
-    tie.close
-    (tie.spec (λ c. search needs) returns (λ c. search needs) (λ c. search needs) (λ c κs. search needs) (λ c. search needs) returns-2)
+    tie.close (tie.spec (λ c. search needs) (λ c. search end-lone) (λ c. search needs) (λ c. search needs) (λ c κs. search needs) (λ c. search needs)
+    (λ c. search end-told))

@@ -17,38 +17,12 @@ Inv-loop l at₀ at = (at ≤ length l) × (anyOf (gathersMac everyType) (tlvs l
 abbrev μ-loop : tie.MeasureT-loop
 μ-loop l at₀ at = length l - at
 
-loop-holds : tie.Need-loop-holds Inv-loop μ-loop
-loop-holds c = (search needs, refl)
-
 returns : tie.Need-returns Inv-loop μ-loop
 unfolding gathersMac
 returns c = search tlv-cut
 
-returns-2 : tie.Need-returns-2 Inv-loop μ-loop
-returns-2 c = search tlv-hit
-
-loop-again : tie.Need-loop-again Inv-loop μ-loop
-loop-again c = (search needs, search tlv-next)
-
-returns-3 : tie.Need-returns-3 Inv-loop μ-loop
-returns-3 c = search tlvs-done
-
 pub some-gathers-spec : {M : Type 1} → statement M
 some-gathers-spec =
-    tie.close
-    (tie.spec
-    Inv-loop
-    μ-loop
-    loop-holds
-    (λ c κs. search needs)
-    returns
-    (λ c. search needs)
-    (λ c. search needs)
-    (λ c. search needs)
-    (λ c. search needs)
-    (λ c. search needs)
-    (λ c κs. search needs)
-    returns-2
-    (λ c. search needs)
-    loop-again
-    returns-3)
+    tie.close (tie.spec Inv-loop μ-loop (λ c. (search needs, refl)) (λ c κs. search needs) returns (λ c. search needs) (λ c. search needs)
+    (λ c. search needs) (λ c. search needs) (λ c. search needs) (λ c κs. search needs) (λ c. search tlv-hit) (λ c. search needs)
+    (λ c. (search needs, search tlv-next)) (λ c. search tlvs-done))

@@ -25,5 +25,4 @@ returns-4 c = search (pick-first, pick-second, eq-eqb, ne-eqb) depth 8
 
 pub vlan-in-spec : {M : Type 1} → statement M
 vlan-in-spec =
-    tie.close
-    (tie.spec returns (λ c κs. search needs) returns-2 (λ c κs. search needs) returns-3 returns-4)
+    tie.close (tie.spec returns (λ c κs. search needs) returns-2 (λ c κs. search needs) returns-3 returns-4)

@@ -10,25 +10,7 @@ use Rattle.flush_vlans.proofs.add_named.Tie as tie
 slice-aggregate-add-blocks : tie.Need-slice-aggregate-add-blocks
 slice-aggregate-add-blocks c = sym (length-take-le _ _ (search needs))
 
-returns : tie.Need-returns
-returns c = search added-blocks
-
-returns-2 : tie.Need-returns-2
-returns-2 c = search added-tlvs
-
-returns-3 : tie.Need-returns-3
-returns-3 c = search added-none
-
 pub add-named-spec : {M : Type 1} → statement M
 add-named-spec =
-    tie.close
-    (tie.spec
-    (λ c. search needs)
-    slice-aggregate-add-blocks
-    (λ c κs. search needs)
-    (λ c. search needs)
-    returns
-    (λ c κs. search needs)
-    (λ c. search needs)
-    returns-2
-    returns-3)
+    tie.close (tie.spec (λ c. search needs) slice-aggregate-add-blocks (λ c κs. search needs) (λ c. search needs) (λ c. search added-blocks)
+    (λ c κs. search needs) (λ c. search needs) (λ c. search added-tlvs) (λ c. search added-none))

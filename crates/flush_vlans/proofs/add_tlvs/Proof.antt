@@ -13,35 +13,8 @@ Inv-loop l s₀ at₀ s at = Walking l s₀ s at
 abbrev μ-loop : tie.MeasureT-loop
 μ-loop l s₀ at₀ s at = length l - at
 
-loop-holds : tie.Need-loop-holds Inv-loop μ-loop
-loop-holds c = search walk-start
-
-returns : tie.Need-returns Inv-loop μ-loop
-returns c = search walk-cut
-
-loop-again : tie.Need-loop-again Inv-loop μ-loop
-loop-again c = search walk-next
-
-returns-2 : tie.Need-returns-2 Inv-loop μ-loop
-returns-2 c = search walk-done
-
 pub add-tlvs-spec : {M : Type 1} → statement M
 add-tlvs-spec =
-    tie.close
-    (tie.spec
-    Inv-loop
-    μ-loop
-    loop-holds
-    (λ c κs. search needs)
-    (λ c. search needs)
-    returns
-    (λ c. search needs)
-    (λ c. search needs)
-    (λ c. search needs)
-    (λ c. search needs)
-    (λ c. search needs)
-    (λ c κs. search needs)
-    (λ c. search needs)
-    loop-again
-    (λ c. search needs)
-    returns-2)
+    tie.close (tie.spec Inv-loop μ-loop (λ c. search walk-start) (λ c κs. search needs) (λ c. search needs) (λ c. search walk-cut) (λ c. search needs)
+    (λ c. search needs) (λ c. search needs) (λ c. search needs) (λ c. search needs) (λ c κs. search needs) (λ c. search needs) (λ c. search walk-next)
+    (λ c. search needs) (λ c. search walk-done))

@@ -5,23 +5,7 @@ use borrow.Author.Needs.{needs}
 use Rattle.flush_vlans.proofs.add_value.Statement.{statement}
 use Rattle.flush_vlans.proofs.add_value.Tie as tie
 
-returns : tie.Need-returns
-returns c = search value-blocks
-
-returns-2 : tie.Need-returns-2
-returns-2 c = search value-map
-
-returns-3 : tie.Need-returns-3
-returns-3 c = search value-other
-
 pub add-value-spec : {M : Type 1} → statement M
 add-value-spec =
-    tie.close
-    (tie.spec
-    (λ c κs. search needs)
-    (λ c. search needs)
-    returns
-    (λ c κs. search needs)
-    (λ c. search needs)
-    returns-2
-    returns-3)
+    tie.close (tie.spec (λ c κs. search needs) (λ c. search needs) (λ c. search value-blocks) (λ c κs. search needs) (λ c. search needs)
+    (λ c. search value-map) (λ c. search value-other))

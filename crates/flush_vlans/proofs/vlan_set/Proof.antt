@@ -13,5 +13,4 @@ returns-2 c = search set-named
 
 pub vlan-set-spec : {M : Type 1} → statement M
 vlan-set-spec =
-    tie.close
-    (tie.spec (λ c κs. search needs) (λ c. search needs) returns (λ c κs. search needs) (λ c. search needs) returns-2)
+    tie.close (tie.spec (λ c κs. search needs) (λ c. search needs) returns (λ c κs. search needs) (λ c. search needs) returns-2)

@@ -83,25 +83,6 @@ returns c = walked-end _ (noted-near _ _ _ _) _ _ _ _ _ (c .before .loop .inv .1
 
 pub clear-walked-spec : {M : Type 1} → statement M
 clear-walked-spec =
-    tie.close
-    (tie.spec
-    Inv-loop
-    μ-loop
-    loop-holds
-    add-a
-    mul-a
-    meant-at-requires
-    add-e
-    (λ c. search needs)
-    (λ c. search needs)
-    part-clear-end
-    clear-requires
-    add-cleared
-    (λ c. search needs)
-    (λ c. search needs)
-    loop-again
-    (λ c. search needs)
-    (λ c. search needs)
-    loop-again-2
-    same-length
+    tie.close (tie.spec Inv-loop μ-loop loop-holds add-a mul-a meant-at-requires add-e (λ c. search needs) (λ c. search needs) part-clear-end
+    clear-requires add-cleared (λ c. search needs) (λ c. search needs) loop-again (λ c. search needs) (λ c. search needs) loop-again-2 same-length
     returns)

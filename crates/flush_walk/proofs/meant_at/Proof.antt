@@ -1,6 +1,6 @@
 -- `flush_walk::meant_at` meets its contract: the four tests in a row.
 -- Assumes nothing.
-use mathlib.Core.Path.{_≡_, ap, _∙_}
+use mathlib.Core.Path.{ap, _∙_}
 use borrow.Author.Tests.{not-true, not-false}
 use Rattle.flush.specs.Meaning.{nicknameMeant}
 use Rattle.flush_walk.proofs.Laws.{not-learned, not-named, not-labelled, by-mac}
@@ -32,14 +32,5 @@ returns-4 c =
 
 pub meant-at-spec : {M : Type 1} → statement M
 meant-at-spec =
-    tie.close
-    (tie.spec
-    (λ c κs. search needs)
-    (λ c κs. search needs)
-    returns
-    (λ c κs. search needs)
-    returns-2
-    (λ c κs. search needs)
-    returns-3
-    (λ c κs. search needs)
-    returns-4)
+    tie.close (tie.spec (λ c κs. search needs) (λ c κs. search needs) returns (λ c κs. search needs) returns-2 (λ c κs. search needs) returns-3
+    (λ c κs. search needs) returns-4)

@@ -5,25 +5,7 @@ use borrow.Author.Needs.{needs}
 use Rattle.flush_write_call.proofs.flush_length.Statement.{statement}
 use Rattle.flush_write_call.proofs.flush_length.Tie as tie
 
-returns : tie.Need-returns
-returns c = search block-length
-
-returns-2 : tie.Need-returns-2
-returns-2 c = search tlv-length
-
 pub flush-length-spec : {M : Type 1} → statement M
 flush-length-spec =
-    tie.close
-    (tie.spec
-    (λ c. search needs)
-    (λ c. search needs)
-    returns
-    (λ c. search needs)
-    (λ c. search needs)
-    (λ c. search needs)
-    (λ c. search needs)
-    (λ c. search needs)
-    (λ c. search needs)
-    (λ c κs. search needs)
-    (λ c. search needs)
-    returns-2)
+    tie.close (tie.spec (λ c. search needs) (λ c. search needs) (λ c. search block-length) (λ c. search needs) (λ c. search needs) (λ c. search needs)
+    (λ c. search needs) (λ c. search needs) (λ c. search needs) (λ c κs. search needs) (λ c. search needs) (λ c. search tlv-length))

@@ -5,13 +5,6 @@ use borrow.Author.Needs.{needs}
 use Rattle.flush_write_call.proofs.lists_good.Statement.{statement}
 use Rattle.flush_write_call.proofs.lists_good.Tie as tie
 
-returns : tie.Need-returns
-returns c = search none-named
-
-returns-2 : tie.Need-returns-2
-returns-2 c = search all-tell
-
 pub lists-good-spec : {M : Type 1} → statement M
 lists-good-spec =
-    tie.close
-    (tie.spec returns (λ c κs. search needs) (λ c κs. item-2) (λ c κs. item-4) (λ c κs. item-8) returns-2)
+    tie.close (tie.spec (λ c. search none-named) (λ c κs. search needs) (λ c κs. item-2) (λ c κs. item-4) (λ c κs. item-8) (λ c. search all-tell))

@@ -1,7 +1,6 @@
 -- `flush_write_call::nicks_good` meets its contract.
 -- Assumes nothing.
 use Rattle.flush_write_call.proofs.Laws.{nicks-tell}
-use borrow.Author.Needs.{needs}
 use Rattle.flush_write_call.proofs.nicks_good.Statement.{statement}
 use Rattle.flush_write_call.proofs.nicks_good.Tie as tie
 

@@ -67,15 +67,5 @@ returns-2 c =
 
 pub put-flush-spec : {M : Type 1} → statement M
 put-flush-spec =
-    tie.close
-    (tie.spec
-    (λ c. search needs)
-    (λ c. search needs)
-    put-front-requires
-    put-blocks-requires
-    (λ c. search needs)
-    returns
-    put-front-requires-2
-    put-lists-requires
-    (λ c. search needs)
-    returns-2)
+    tie.close (tie.spec (λ c. search needs) (λ c. search needs) put-front-requires put-blocks-requires (λ c. search needs) returns
+    put-front-requires-2 put-lists-requires (λ c. search needs) returns-2)

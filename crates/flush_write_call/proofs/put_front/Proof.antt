@@ -1,6 +1,5 @@
 -- `flush_write_call::put_front` meets its contract: K-nicks, the nicknames and K-VLBs, one after the other.
 -- Assumes nothing.
-use native.Mathlib.Omega.{arith}
 use Rattle.flush_write_call.proofs.Laws.{front-put}
 use borrow.Author.Needs.{needs}
 use Rattle.flush_write_call.proofs.put_front.Statement.{statement}
@@ -16,12 +15,5 @@ returns c =
 
 pub put-front-spec : {M : Type 1} → statement M
 put-front-spec =
-    tie.close
-    (tie.spec
-    (λ c κs. search needs)
-    (λ c κs. search needs)
-    (λ c. search needs)
-    (λ c κs. search needs)
-    (λ c. search needs)
-    (λ c. search needs)
-    returns)
+    tie.close (tie.spec (λ c κs. search needs) (λ c κs. search needs) (λ c. search needs) (λ c κs. search needs) (λ c. search needs)
+    (λ c. search needs) returns)

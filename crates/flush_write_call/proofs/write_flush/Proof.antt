@@ -29,13 +29,4 @@ returns-3 c = search written-way
 
 pub write-flush-spec : {M : Type 1} → statement M
 write-flush-spec =
-    tie.close
-    (tie.spec
-    (λ c κs. search needs)
-    returns
-    flush-length-requires
-    returns-2
-    put-flush-requires
-    cast-t13
-    (λ c. search needs)
-    returns-3)
+    tie.close (tie.spec (λ c κs. search needs) returns flush-length-requires returns-2 put-flush-requires cast-t13 (λ c. search needs) returns-3)

@@ -23,16 +23,7 @@ returns c =
       second-two (a .l .now) (a .at) bytes (omega (arith, same, inside)) _ (c .be4 .ensures .0),
     )
 
-returns-2 : tie.Need-returns-2
-returns-2 c = (c .before .number-in .ensures, c .number-in2 .ensures)
-
 pub block-in-spec : {M : Type 1} → statement M
 block-in-spec =
-    tie.close
-    (tie.spec
-    be4-requires
-    returns
-    (λ c κs. search needs)
-    (λ c. search needs)
-    (λ c κs. search needs)
-    returns-2)
+    tie.close (tie.spec be4-requires returns (λ c κs. search needs) (λ c. search needs) (λ c κs. search needs)
+    (λ c. (c .before .number-in .ensures, c .number-in2 .ensures)))

@@ -13,32 +13,8 @@ Inv-loop l k size out₀ at n m from₀ to₀ out from to = Blocking l k size ou
 abbrev μ-loop : tie.MeasureT-loop
 μ-loop l k size out₀ at n m from₀ to₀ out from to = length l - from
 
-loop-holds : tie.Need-loop-holds Inv-loop μ-loop
-loop-holds c = search blocks-start
-
-put-block-requires : tie.Need-put-block-requires Inv-loop μ-loop
-put-block-requires c κs = ((search needs, search blocks-inside), search blocks-room)
-
-loop-again : tie.Need-loop-again Inv-loop μ-loop
-loop-again c = search blocks-next
-
-returns : tie.Need-returns Inv-loop μ-loop
-returns c = search blocks-done
-
 pub put-blocks-spec : {M : Type 1} → statement M
 put-blocks-spec =
-    tie.close
-    (tie.spec
-    Inv-loop
-    μ-loop
-    (λ c. search needs)
-    (λ c. search needs)
-    loop-holds
-    (λ c. search needs)
-    put-block-requires
-    (λ c. search needs)
-    (λ c. search needs)
-    (λ c. search needs)
-    loop-again
-    (λ c. search needs)
-    returns)
+    tie.close (tie.spec Inv-loop μ-loop (λ c. search needs) (λ c. search needs) (λ c. search blocks-start) (λ c. search needs)
+    (λ c κs. ((search needs, search blocks-inside), search blocks-room)) (λ c. search needs) (λ c. search needs) (λ c. search needs)
+    (λ c. search blocks-next) (λ c. search needs) (λ c. search blocks-done))

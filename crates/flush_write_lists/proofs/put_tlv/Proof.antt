@@ -65,18 +65,5 @@ returns c =
 
 pub put-tlv-spec : {M : Type 1} → statement M
 put-tlv-spec =
-    tie.close
-    (tie.spec
-    (λ c. search needs)
-    (λ c. search needs)
-    (λ c. search needs)
-    mul-n-3
-    (λ c. search needs)
-    add-put-number
-    put-number-requires
-    add-put-blocks
-    put-blocks-requires
-    add-result
-    add-result-2
-    (λ c. search needs)
-    returns)
+    tie.close (tie.spec (λ c. search needs) (λ c. search needs) (λ c. search needs) mul-n-3 (λ c. search needs) add-put-number put-number-requires
+    add-put-blocks put-blocks-requires add-result add-result-2 (λ c. search needs) returns)

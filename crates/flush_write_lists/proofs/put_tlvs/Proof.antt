@@ -14,9 +14,6 @@ Inv-loop l k size full kind out₀ at from₀ to₀ out from to = Tlving l k siz
 abbrev μ-loop : tie.MeasureT-loop
 μ-loop l k size full kind out₀ at from₀ to₀ out from to = length l - from
 
-loop-holds : tie.Need-loop-holds Inv-loop μ-loop
-loop-holds c = search tlvs-start
-
 mul-loop : tie.Need-mul-loop Inv-loop μ-loop
 mul-loop c = let k = c .loop .inv .fill .item .most in omega arith
 
@@ -25,9 +22,6 @@ sub-loop c = let i = c .loop .inv .inside in omega arith
 
 sub-smaller : tie.Need-sub-smaller Inv-loop μ-loop
 sub-smaller c = let i = c .before .loop .inv .inside in omega arith
-
-part-requires : tie.Need-part-requires Inv-loop μ-loop
-part-requires c κs = search part-inside
 
 put-tlv-requires : tie.Need-put-tlv-requires Inv-loop μ-loop
 put-tlv-requires c κs =
@@ -48,27 +42,7 @@ loop-less c =
     let o = part-some _ _ _ _ _ _ _ _ _ _ (i .loop .inv) (c .before .before .before .before .before .before .loop-test .taken) _ (c .before .before .before .before .before .smaller .ensures) in
     omega arith
 
-loop-again : tie.Need-loop-again Inv-loop μ-loop
-loop-again c = search tlvs-next
-
-returns : tie.Need-returns Inv-loop μ-loop
-returns c = (search tlvs-area, search tlvs-end)
-
 pub put-tlvs-spec : {M : Type 1} → statement M
 put-tlvs-spec =
-    tie.close
-    (tie.spec
-    Inv-loop
-    μ-loop
-    loop-holds
-    mul-loop
-    sub-loop
-    sub-smaller
-    (λ c κs. search needs)
-    part-requires
-    put-tlv-requires
-    add-from
-    loop-less
-    loop-again
-    (λ c. search needs)
-    returns)
+    tie.close (tie.spec Inv-loop μ-loop (λ c. search tlvs-start) mul-loop sub-loop sub-smaller (λ c κs. search needs) (λ c κs. search part-inside)
+    put-tlv-requires add-from loop-less (λ c. search tlvs-next) (λ c. search needs) (λ c. (search tlvs-area, search tlvs-end)))

@@ -16,42 +16,7 @@ Inv-loop src out₀ at i₀ out i = (i ≤ length src) × ((out ≡ paste out₀
 abbrev μ-loop : tie.MeasureT-loop
 μ-loop src out₀ at i₀ out i = length src - i
 
-loop-holds : tie.Need-loop-holds Inv-loop μ-loop
-loop-holds c = search (paste-zero, needs)
-
-shared-slice-read-out : tie.Need-shared-slice-read-out Inv-loop μ-loop
-shared-slice-read-out c = omega arith
-
-add-out : tie.Need-add-out Inv-loop μ-loop
-add-out c = omega arith
-
-slice-write-out : tie.Need-slice-write-out Inv-loop μ-loop
-slice-write-out c = omega arith
-
-add-i : tie.Need-add-i Inv-loop μ-loop
-add-i c = omega arith
-
-loop-less : tie.Need-loop-less Inv-loop μ-loop
-loop-less c = omega arith
-
-loop-again : tie.Need-loop-again Inv-loop μ-loop
-loop-again c = (search needs, (search paste-step, search needs))
-
-returns : tie.Need-returns Inv-loop μ-loop
-returns c = search paste-whole
-
 pub copy-at-spec : {M : Type 1} → statement M
 copy-at-spec =
-    tie.close
-    (tie.spec
-    Inv-loop
-    μ-loop
-    loop-holds
-    shared-slice-read-out
-    add-out
-    slice-write-out
-    add-i
-    loop-less
-    loop-again
-    (λ c. search needs)
-    returns)
+    tie.close (tie.spec Inv-loop μ-loop (λ c. search (paste-zero, needs)) (λ c. omega arith) (λ c. omega arith) (λ c. omega arith) (λ c. omega arith)
+    (λ c. omega arith) (λ c. (search needs, (search paste-step, search needs))) (λ c. search needs) (λ c. search paste-whole))

@@ -34,32 +34,8 @@ loop-again c =
 loop2-holds : tie.Need-loop2-holds Inv-loop μ-loop Inv-loop2 μ-loop2
 loop2-holds c = (search needs, (search paste-zero, (search needs, λ k h. c .before .loop .inv .1 .1 k (omega arith))))
 
-loop2-again : tie.Need-loop2-again Inv-loop μ-loop Inv-loop2 μ-loop2
-loop2-again c = (search needs, (search give-next, (search needs, search needs)))
-
-returns : tie.Need-returns Inv-loop μ-loop Inv-loop2 μ-loop2
-returns c = search paste-whole
-
 pub copy-block-spec : {M : Type 1} → statement M
 copy-block-spec =
-    tie.close
-    (tie.spec
-    Inv-loop
-    μ-loop
-    Inv-loop2
-    μ-loop2
-    loop-holds
-    (λ c. search needs)
-    (λ c. search needs)
-    (λ c. search needs)
-    (λ c. search needs)
-    loop-again
-    loop2-holds
-    (λ c. search needs)
-    (λ c. search needs)
-    (λ c. search needs)
-    (λ c. search needs)
-    (λ c. search needs)
-    loop2-again
-    (λ c. search needs)
-    returns)
+    tie.close (tie.spec Inv-loop μ-loop Inv-loop2 μ-loop2 loop-holds (λ c. search needs) (λ c. search needs) (λ c. search needs) (λ c. search needs)
+    loop-again loop2-holds (λ c. search needs) (λ c. search needs) (λ c. search needs) (λ c. search needs) (λ c. search needs)
+    (λ c. (search needs, (search give-next, (search needs, search needs)))) (λ c. search needs) (λ c. search paste-whole))

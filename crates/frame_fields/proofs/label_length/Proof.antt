@@ -35,30 +35,7 @@ returns-7 : tie.Need-returns-7
 unfolding labelLength
 returns-7 c = search steps depth 16
 
-returns-8 : tie.Need-returns-8
-returns-8 c = search fine-second
-
-returns-9 : tie.Need-returns-9
-returns-9 c = search fine-cut
-
-returns-10 : tie.Need-returns-10
-returns-10 c = search fine-whole
-
 pub label-length-spec : {M : Type 1} → statement M
 label-length-spec =
-    tie.close
-    (tie.spec
-    returns
-    (λ c κs. search needs)
-    returns-2
-    (λ c κs. search needs)
-    returns-3
-    returns-4
-    (λ c κs. search needs)
-    returns-5
-    returns-6
-    returns-7
-    (λ c κs. search needs)
-    returns-8
-    returns-9
-    returns-10)
+    tie.close (tie.spec returns (λ c κs. search needs) returns-2 (λ c κs. search needs) returns-3 returns-4 (λ c κs. search needs) returns-5 returns-6
+    returns-7 (λ c κs. search needs) (λ c. search fine-second) (λ c. search fine-cut) (λ c. search fine-whole))

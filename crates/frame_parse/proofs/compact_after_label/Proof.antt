@@ -13,17 +13,11 @@ use Rattle.frame_parse.proofs.compact_after_label.Tie as tie
 add-after : tie.Need-add-after
 add-after c = let h = c .before .pre in omega (arith, after-room (c .before .args .f .now) (h .0) (c .before .args .k) (h .1 .0))
 
-after-requires : tie.Need-after-requires
-after-requires c κs = search after-room
-
 returns : tie.Need-returns
 returns c = reads-refused _ _ _ (search type-cut)
 
 returns-2 : tie.Need-returns-2
 returns-2 c = reads-refused _ _ _ (search (type-bad, not-true))
-
-after-requires-3 : tie.Need-after-requires-3
-after-requires-3 c κs = search header-room
 
 returns-3 : tie.Need-returns-3
 returns-3 c = reads-refused _ _ _ (search (content-cut, not-false))
@@ -36,23 +30,6 @@ returns-5 c = compact-reads _ _ (omega arith) (omega arith) (omega arith) (searc
 
 pub compact-after-label-spec : {M : Type 1} → statement M
 compact-after-label-spec =
-    tie.close
-    (tie.spec
-    add-after
-    after-requires
-    returns
-    (λ c κs. search needs)
-    returns-2
-    (λ c κs. search needs)
-    (λ c κs. search needs)
-    (λ c. search needs)
-    (λ c. search needs)
-    after-requires-3
-    returns-3
-    (λ c. search needs)
-    (λ c. search needs)
-    (λ c. search needs)
-    (λ c. search needs)
-    (λ c. search needs)
-    returns-4
-    returns-5)
+    tie.close (tie.spec add-after (λ c κs. search after-room) returns (λ c κs. search needs) returns-2 (λ c κs. search needs) (λ c κs. search needs)
+    (λ c. search needs) (λ c. search needs) (λ c κs. search header-room) returns-3 (λ c. search needs) (λ c. search needs) (λ c. search needs)
+    (λ c. search needs) (λ c. search needs) returns-4 returns-5)

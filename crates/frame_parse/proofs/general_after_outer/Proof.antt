@@ -8,17 +8,8 @@ use borrow.Author.Needs.{needs}
 use Rattle.frame_parse.proofs.general_after_outer.Statement.{statement}
 use Rattle.frame_parse.proofs.general_after_outer.Tie as tie
 
-after-requires : tie.Need-after-requires
-after-requires c κs = search outer-room
-
-after-requires-2 : tie.Need-after-requires-2
-after-requires-2 c κs = search header-room
-
 returns : tie.Need-returns
 returns c = reads-refused _ _ _ (search addresses-cut)
-
-after-requires-4 : tie.Need-after-requires-4
-after-requires-4 c κs = search label-room
 
 returns-2 : tie.Need-returns-2
 returns-2 c = reads-refused _ _ _ (search content-cut)
@@ -34,24 +25,6 @@ returns-5 c = general-reads _ _ (omega arith) (omega arith) (omega arith) _ (sea
 
 pub general-after-outer-spec : {M : Type 1} → statement M
 general-after-outer-spec =
-    tie.close
-    (tie.spec
-    after-requires
-    (λ c κs. search needs)
-    (λ c. search needs)
-    (λ c. search needs)
-    after-requires-2
-    returns
-    (λ c κs. search needs)
-    (λ c κs. search needs)
-    (λ c. search needs)
-    (λ c. search needs)
-    after-requires-4
-    returns-2
-    (λ c. search needs)
-    (λ c. search needs)
-    (λ c. search needs)
-    (λ c. search needs)
-    returns-3
-    returns-4
-    returns-5)
+    tie.close (tie.spec (λ c κs. search outer-room) (λ c κs. search needs) (λ c. search needs) (λ c. search needs) (λ c κs. search header-room)
+    returns (λ c κs. search needs) (λ c κs. search needs) (λ c. search needs) (λ c. search needs) (λ c κs. search label-room) returns-2
+    (λ c. search needs) (λ c. search needs) (λ c. search needs) (λ c. search needs) returns-3 returns-4 returns-5)

@@ -6,20 +6,10 @@ use borrow.Author.Needs.{needs}
 use Rattle.frame_parse.proofs.read_compact.Statement.{statement}
 use Rattle.frame_parse.proofs.read_compact.Tie as tie
 
-compact-after-label-requires : tie.Need-compact-after-label-requires
-compact-after-label-requires c κs = (search needs, (search label-got, search needs))
-
 returns : tie.Need-returns
 returns c = reads-refused _ _ _ (search label-refused)
 
 pub read-compact-spec : {M : Type 1} → statement M
 read-compact-spec =
-    tie.close
-    (tie.spec
-    (λ c κs. search needs)
-    (λ c κs. search needs)
-    (λ c. search needs)
-    (λ c. search needs)
-    compact-after-label-requires
-    returns
-    (λ c. search needs))
+    tie.close (tie.spec (λ c κs. search needs) (λ c κs. search needs) (λ c. search needs) (λ c. search needs)
+    (λ c κs. (search needs, (search label-got, search needs))) returns (λ c. search needs))

@@ -23,15 +23,5 @@ returns-2 c = search (sections-put 6 8)
 
 pub capability-sections-spec : {M : Type 1} → statement M
 capability-sections-spec =
-    tie.close
-    (tie.spec
-    put-word-requires
-    put-word-requires-2
-    (λ c κs. search needs)
-    (λ c. search needs)
-    returns
-    (λ c. search needs)
-    (λ c. search needs)
-    capability-tlvs-requires
-    (λ c. search needs)
-    returns-2)
+    tie.close (tie.spec put-word-requires put-word-requires-2 (λ c κs. search needs) (λ c. search needs) returns (λ c. search needs)
+    (λ c. search needs) capability-tlvs-requires (λ c. search needs) returns-2)

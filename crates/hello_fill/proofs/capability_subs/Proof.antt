@@ -20,38 +20,12 @@ Inv-loop l out₀ at₀ p₀ out at p = (at ≤ length l) × ((length out ≡ le
 abbrev μ-loop : tie.MeasureT-loop
 μ-loop l out₀ at₀ p₀ out at p = length l - at
 
-loop-holds : tie.Need-loop-holds Inv-loop μ-loop
-loop-holds c = (search needs, (refl, (search room-first, refl)))
-
-returns : tie.Need-returns Inv-loop μ-loop
-returns c = search (fill-cut, stump-words)
-
 capability-sub-requires : tie.Need-capability-sub-requires Inv-loop μ-loop
 capability-sub-requires c κs = search (room-here (subWords 6) (subWords 8))
 
-loop-again : tie.Need-loop-again Inv-loop μ-loop
-loop-again c = (search needs, (search needs, (search room-next, search walk-next)))
-
-returns-2 : tie.Need-returns-2 Inv-loop μ-loop
-returns-2 c = search fill-done
-
 pub capability-subs-spec : {M : Type 1} → statement M
 capability-subs-spec =
-    tie.close
-    (tie.spec
-    Inv-loop
-    μ-loop
-    loop-holds
-    (λ c κs. search needs)
-    (λ c. search needs)
-    returns
-    (λ c. search needs)
-    (λ c. search needs)
-    (λ c. search needs)
-    (λ c. search needs)
-    (λ c. search needs)
-    capability-sub-requires
-    (λ c. search needs)
-    loop-again
-    (λ c. search needs)
-    returns-2)
+    tie.close (tie.spec Inv-loop μ-loop (λ c. (search needs, (refl, (search room-first, refl)))) (λ c κs. search needs) (λ c. search needs)
+    (λ c. search (fill-cut, stump-words)) (λ c. search needs) (λ c. search needs) (λ c. search needs) (λ c. search needs) (λ c. search needs)
+    capability-sub-requires (λ c. search needs) (λ c. (search needs, (search needs, (search room-next, search walk-next)))) (λ c. search needs)
+    (λ c. search fill-done))

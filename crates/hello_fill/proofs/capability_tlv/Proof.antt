@@ -6,24 +6,7 @@ use borrow.Author.Needs.{needs}
 use Rattle.hello_fill.proofs.capability_tlv.Statement.{statement}
 use Rattle.hello_fill.proofs.capability_tlv.Tie as tie
 
-returns : tie.Need-returns
-returns c = search skip-242
-
-capability-subs-requires : tie.Need-capability-subs-requires
-capability-subs-requires c κs = search (room-242, rest-is)
-
-returns-2 : tie.Need-returns-2
-returns-2 c = search (body-242, rest-is)
-
 pub capability-tlv-spec : {M : Type 1} → statement M
 capability-tlv-spec =
-    tie.close
-    (tie.spec
-    returns
-    (λ c κs. search needs)
-    (λ c. search needs)
-    (λ c. search needs)
-    (λ c. search needs)
-    capability-subs-requires
-    (λ c. search needs)
-    returns-2)
+    tie.close (tie.spec (λ c. search skip-242) (λ c κs. search needs) (λ c. search needs) (λ c. search needs) (λ c. search needs)
+    (λ c κs. search (room-242, rest-is)) (λ c. search needs) (λ c. search (body-242, rest-is)))

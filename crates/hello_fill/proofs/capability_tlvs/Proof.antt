@@ -23,37 +23,14 @@ abbrev μ-loop : tie.MeasureT-loop
 loop-holds : tie.Need-loop-holds Inv-loop μ-loop
 loop-holds c = (search needs, (refl, (search (room-past (tlvWords 6) (tlvWords 8) free-6 free-8, room-first), search (walk-first (tlvWords 6) (tlvWords 8) free-6 free-8))))
 
-returns : tie.Need-returns Inv-loop μ-loop
-returns c = search (fill-cut, tlv-stump-words)
-
 capability-tlv-requires : tie.Need-capability-tlv-requires Inv-loop μ-loop
 capability-tlv-requires c κs = search (room-here (tlvWords 6) (tlvWords 8))
 
 loop-again : tie.Need-loop-again Inv-loop μ-loop
 loop-again c = (search needs, (search needs, (search (room-past (tlvWords 6) (tlvWords 8) free-6 free-8, room-next), search (walk-past (tlvWords 6) (tlvWords 8) free-6 free-8, walk-next))))
 
-returns-2 : tie.Need-returns-2 Inv-loop μ-loop
-returns-2 c = search fill-done
-
 pub capability-tlvs-spec : {M : Type 1} → statement M
 capability-tlvs-spec =
-    tie.close
-    (tie.spec
-    Inv-loop
-    μ-loop
-    (λ c κs. search needs)
-    loop-holds
-    (λ c κs. search needs)
-    (λ c. search needs)
-    returns
-    (λ c. search needs)
-    (λ c. search needs)
-    (λ c. search needs)
-    (λ c. search needs)
-    (λ c. search needs)
-    capability-tlv-requires
-    (λ c κs. search needs)
-    (λ c. search needs)
-    loop-again
-    (λ c. search needs)
-    returns-2)
+    tie.close (tie.spec Inv-loop μ-loop (λ c κs. search needs) loop-holds (λ c κs. search needs) (λ c. search needs)
+    (λ c. search (fill-cut, tlv-stump-words)) (λ c. search needs) (λ c. search needs) (λ c. search needs) (λ c. search needs) (λ c. search needs)
+    capability-tlv-requires (λ c κs. search needs) (λ c. search needs) loop-again (λ c. search needs) (λ c. search fill-done))

@@ -6,26 +6,10 @@ use borrow.Author.Needs.{needs}
 use Rattle.hello_fill.proofs.geninfo_sections.Statement.{statement}
 use Rattle.hello_fill.proofs.geninfo_sections.Tie as tie
 
-put-word-requires : tie.Need-put-word-requires
-put-word-requires c κs = search (count-first 22 23)
-
-put-word-requires-2 : tie.Need-put-word-requires-2
-put-word-requires-2 c κs = search (count-second 22 23)
-
 geninfo-tlvs-requires : tie.Need-geninfo-tlvs-requires
 geninfo-tlvs-requires c κs = let l = c .before .before .before .before .before .before .before .before .before .before .before .args .l .now in let x = section-size 22 l in let y = section-size 23 l in (omega arith, omega arith)
 
-returns : tie.Need-returns
-returns c = search (sections-put 22 23)
-
 pub geninfo-sections-spec : {M : Type 1} → statement M
 geninfo-sections-spec =
-    tie.close
-    (tie.spec
-    put-word-requires
-    put-word-requires-2
-    (λ c. search needs)
-    (λ c. search needs)
-    geninfo-tlvs-requires
-    (λ c. search needs)
-    returns)
+    tie.close (tie.spec (λ c κs. search (count-first 22 23)) (λ c κs. search (count-second 22 23)) (λ c. search needs) (λ c. search needs)
+    geninfo-tlvs-requires (λ c. search needs) (λ c. search (sections-put 22 23)))

@@ -20,38 +20,12 @@ Inv-loop l out₀ at₀ p₀ out at p = (at ≤ length l) × ((length out ≡ le
 abbrev μ-loop : tie.MeasureT-loop
 μ-loop l out₀ at₀ p₀ out at p = length l - at
 
-loop-holds : tie.Need-loop-holds Inv-loop μ-loop
-loop-holds c = (search needs, (refl, (search room-first, refl)))
-
-returns : tie.Need-returns Inv-loop μ-loop
-returns c = search (fill-cut, stump-words)
-
 geninfo-sub-requires : tie.Need-geninfo-sub-requires Inv-loop μ-loop
 geninfo-sub-requires c κs = search (room-here (subWords 22) (subWords 23))
 
-loop-again : tie.Need-loop-again Inv-loop μ-loop
-loop-again c = (search needs, (search needs, (search room-next, search walk-next)))
-
-returns-2 : tie.Need-returns-2 Inv-loop μ-loop
-returns-2 c = search fill-done
-
 pub geninfo-subs-spec : {M : Type 1} → statement M
 geninfo-subs-spec =
-    tie.close
-    (tie.spec
-    Inv-loop
-    μ-loop
-    loop-holds
-    (λ c κs. search needs)
-    (λ c. search needs)
-    returns
-    (λ c. search needs)
-    (λ c. search needs)
-    (λ c. search needs)
-    (λ c. search needs)
-    (λ c. search needs)
-    geninfo-sub-requires
-    (λ c. search needs)
-    loop-again
-    (λ c. search needs)
-    returns-2)
+    tie.close (tie.spec Inv-loop μ-loop (λ c. (search needs, (refl, (search room-first, refl)))) (λ c κs. search needs) (λ c. search needs)
+    (λ c. search (fill-cut, stump-words)) (λ c. search needs) (λ c. search needs) (λ c. search needs) (λ c. search needs) (λ c. search needs)
+    geninfo-sub-requires (λ c. search needs) (λ c. (search needs, (search needs, (search room-next, search walk-next)))) (λ c. search needs)
+    (λ c. search fill-done))

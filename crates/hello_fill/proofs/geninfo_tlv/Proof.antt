@@ -6,24 +6,7 @@ use borrow.Author.Needs.{needs}
 use Rattle.hello_fill.proofs.geninfo_tlv.Statement.{statement}
 use Rattle.hello_fill.proofs.geninfo_tlv.Tie as tie
 
-returns : tie.Need-returns
-returns c = search skip-251
-
-geninfo-subs-requires : tie.Need-geninfo-subs-requires
-geninfo-subs-requires c κs = search (room-251, rest-is)
-
-returns-2 : tie.Need-returns-2
-returns-2 c = search (body-251, rest-is)
-
 pub geninfo-tlv-spec : {M : Type 1} → statement M
 geninfo-tlv-spec =
-    tie.close
-    (tie.spec
-    returns
-    (λ c κs. search needs)
-    (λ c. search needs)
-    (λ c. search needs)
-    (λ c. search needs)
-    geninfo-subs-requires
-    (λ c. search needs)
-    returns-2)
+    tie.close (tie.spec (λ c. search skip-251) (λ c κs. search needs) (λ c. search needs) (λ c. search needs) (λ c. search needs)
+    (λ c κs. search (room-251, rest-is)) (λ c. search needs) (λ c. search (body-251, rest-is)))

@@ -23,37 +23,14 @@ abbrev μ-loop : tie.MeasureT-loop
 loop-holds : tie.Need-loop-holds Inv-loop μ-loop
 loop-holds c = (search needs, (refl, (search (room-past (tlvWords 22) (tlvWords 23) free-22 free-23, room-first), search (walk-first (tlvWords 22) (tlvWords 23) free-22 free-23))))
 
-returns : tie.Need-returns Inv-loop μ-loop
-returns c = search (fill-cut, tlv-stump-words)
-
 geninfo-tlv-requires : tie.Need-geninfo-tlv-requires Inv-loop μ-loop
 geninfo-tlv-requires c κs = search (room-here (tlvWords 22) (tlvWords 23))
 
 loop-again : tie.Need-loop-again Inv-loop μ-loop
 loop-again c = (search needs, (search needs, (search (room-past (tlvWords 22) (tlvWords 23) free-22 free-23, room-next), search (walk-past (tlvWords 22) (tlvWords 23) free-22 free-23, walk-next))))
 
-returns-2 : tie.Need-returns-2 Inv-loop μ-loop
-returns-2 c = search fill-done
-
 pub geninfo-tlvs-spec : {M : Type 1} → statement M
 geninfo-tlvs-spec =
-    tie.close
-    (tie.spec
-    Inv-loop
-    μ-loop
-    (λ c κs. search needs)
-    loop-holds
-    (λ c κs. search needs)
-    (λ c. search needs)
-    returns
-    (λ c. search needs)
-    (λ c. search needs)
-    (λ c. search needs)
-    (λ c. search needs)
-    (λ c. search needs)
-    geninfo-tlv-requires
-    (λ c κs. search needs)
-    (λ c. search needs)
-    loop-again
-    (λ c. search needs)
-    returns-2)
+    tie.close (tie.spec Inv-loop μ-loop (λ c κs. search needs) loop-holds (λ c κs. search needs) (λ c. search needs)
+    (λ c. search (fill-cut, tlv-stump-words)) (λ c. search needs) (λ c. search needs) (λ c. search needs) (λ c. search needs) (λ c. search needs)
+    geninfo-tlv-requires (λ c κs. search needs) (λ c. search needs) loop-again (λ c. search needs) (λ c. search fill-done))

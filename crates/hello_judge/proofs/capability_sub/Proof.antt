@@ -5,15 +5,7 @@ use borrow.Author.Needs.{needs}
 use Rattle.hello_judge.proofs.capability_sub.Statement.{statement}
 use Rattle.hello_judge.proofs.capability_sub.Tie as tie
 
-returns : tie.Need-returns
-returns c = (search sub-as, search needs)
-
-returns-2 : tie.Need-returns-2
-returns-2 c = (search sub-as, search needs)
-
-returns-3 : tie.Need-returns-3
-returns-3 c = (search capability-other, search needs)
-
 pub capability-sub-spec : {M : Type 1} → statement M
 capability-sub-spec =
-    tie.close (tie.spec (λ c κs. search needs) returns (λ c κs. search needs) returns-2 returns-3)
+    tie.close (tie.spec (λ c κs. search needs) (λ c. (search sub-as, search needs)) (λ c κs. search needs) (λ c. (search sub-as, search needs))
+    (λ c. (search capability-other, search needs)))

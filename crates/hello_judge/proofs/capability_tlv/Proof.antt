@@ -5,20 +5,7 @@ use borrow.Author.Needs.{needs}
 use Rattle.hello_judge.proofs.capability_tlv.Statement.{statement}
 use Rattle.hello_judge.proofs.capability_tlv.Tie as tie
 
-returns : tie.Need-returns
-returns c = (search capability-short, search needs)
-
-returns-2 : tie.Need-returns-2
-returns-2 c = (search (capability-subs, rest-is), search needs)
-
 pub capability-tlv-spec : {M : Type 1} → statement M
 capability-tlv-spec =
-    tie.close
-    (tie.spec
-    (λ c κs. search needs)
-    returns
-    (λ c. search needs)
-    (λ c. search needs)
-    (λ c. search needs)
-    (λ c κs. search needs)
-    returns-2)
+    tie.close (tie.spec (λ c κs. search needs) (λ c. (search capability-short, search needs)) (λ c. search needs) (λ c. search needs)
+    (λ c. search needs) (λ c κs. search needs) (λ c. (search (capability-subs, rest-is), search needs)))

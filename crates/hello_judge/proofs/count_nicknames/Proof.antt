@@ -5,12 +5,7 @@ use borrow.Author.Needs.{needs}
 use Rattle.hello_judge.proofs.count_nicknames.Statement.{statement}
 use Rattle.hello_judge.proofs.count_nicknames.Tie as tie
 
-returns : tie.Need-returns
-returns c = (search nicknames-bad, search needs)
-
-returns-2 : tie.Need-returns-2
-returns-2 c = (search nicknames-good, search needs)
-
 pub count-nicknames-spec : {M : Type 1} → statement M
 count-nicknames-spec =
-    tie.close (tie.spec (λ c κs. search needs) returns (λ c. search needs) (λ c. search needs) (λ c. search needs) (λ c. search needs) returns-2)
+    tie.close (tie.spec (λ c κs. search needs) (λ c. (search nicknames-bad, search needs)) (λ c. search needs) (λ c. search needs) (λ c. search needs)
+    (λ c. search needs) (λ c. (search nicknames-good, search needs)))

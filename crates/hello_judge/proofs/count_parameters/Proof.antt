@@ -5,12 +5,7 @@ use borrow.Author.Needs.{needs}
 use Rattle.hello_judge.proofs.count_parameters.Statement.{statement}
 use Rattle.hello_judge.proofs.count_parameters.Tie as tie
 
-returns : tie.Need-returns
-returns c = (search parameters-bad, search needs)
-
-returns-2 : tie.Need-returns-2
-returns-2 c = (search parameters-good, search needs)
-
 pub count-parameters-spec : {M : Type 1} → statement M
 count-parameters-spec =
-    tie.close (tie.spec (λ c κs. search needs) returns (λ c. search needs) (λ c. search needs) returns-2)
+    tie.close (tie.spec (λ c κs. search needs) (λ c. (search parameters-bad, search needs)) (λ c. search needs) (λ c. search needs)
+    (λ c. (search parameters-good, search needs)))

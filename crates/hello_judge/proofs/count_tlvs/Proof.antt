@@ -6,7 +6,7 @@ use Rattle.hello_judge.specs.Counting.{walked, tlvCounting, nothing, tot
 use Rattle.hello.specs.Tlvs.{tlvs}
 use lib.ListN.{length, drop}
 use mathlib.Core.Path.{_≡_}
-use Prim.Native.Nat.{_+_, _-_, _≤_}
+use Prim.Native.Nat.{_-_, _≤_}
 use borrow.Author.Needs.{needs}
 use Rattle.hello_judge.proofs.count_tlvs.Statement.{statement}
 use Rattle.hello_judge.proofs.count_tlvs.Tie as tie
@@ -17,37 +17,9 @@ Inv-loop l at₀ c₀ at c = (at ≤ length l) × ((walked tlvCounting nothing (
 abbrev μ-loop : tie.MeasureT-loop
 μ-loop l at₀ c₀ at c = length l - at
 
-loop-holds : tie.Need-loop-holds Inv-loop μ-loop
-loop-holds c = (search needs, (search first-past, search none-total))
-
-returns : tie.Need-returns Inv-loop μ-loop
-returns c = (search (walk-cut, tlv-stump), search needs)
-
-loop-again : tie.Need-loop-again Inv-loop μ-loop
-loop-again c = (search needs, (search (next-past, walk-next), search needs))
-
-returns-2 : tie.Need-returns-2 Inv-loop μ-loop
-returns-2 c = (search walk-done, search needs)
-
 pub count-tlvs-spec : {M : Type 1} → statement M
 count-tlvs-spec =
-    tie.close
-    (tie.spec
-    Inv-loop
-    μ-loop
-    (λ c κs. search needs)
-    (λ c κs. search needs)
-    loop-holds
-    (λ c κs. search needs)
-    (λ c κs. search needs)
-    returns
-    (λ c. search needs)
-    (λ c. search needs)
-    (λ c. search needs)
-    (λ c. search needs)
-    (λ c. search needs)
-    (λ c κs. search needs)
-    (λ c κs. search needs)
-    (λ c. search needs)
-    loop-again
-    returns-2)
+    tie.close (tie.spec Inv-loop μ-loop (λ c κs. search needs) (λ c κs. search needs) (λ c. (search needs, (search first-past, search none-total)))
+    (λ c κs. search needs) (λ c κs. search needs) (λ c. (search (walk-cut, tlv-stump), search needs)) (λ c. search needs) (λ c. search needs)
+    (λ c. search needs) (λ c. search needs) (λ c. search needs) (λ c κs. search needs) (λ c κs. search needs) (λ c. search needs)
+    (λ c. (search needs, (search (next-past, walk-next), search needs))) (λ c. (search walk-done, search needs)))

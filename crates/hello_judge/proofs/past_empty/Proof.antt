@@ -5,7 +5,7 @@ use Rattle.hello_judge.specs.Counting.{pastEmpty}
 use Rattle.hello.specs.Tlvs.{tlvs}
 use lib.ListN.{length, drop}
 use mathlib.Core.Path.{_≡_, refl}
-use Prim.Native.Nat.{_+_, _-_, _≤_}
+use Prim.Native.Nat.{_-_, _≤_}
 use borrow.Author.Needs.{needs}
 use Rattle.hello_judge.proofs.past_empty.Statement.{statement}
 use Rattle.hello_judge.proofs.past_empty.Tie as tie
@@ -16,40 +16,10 @@ Inv-loop l start at₀ at = (at ≤ length l) × ((start ≤ at) × (pastEmpty (
 abbrev μ-loop : tie.MeasureT-loop
 μ-loop l start at₀ at = length l - at
 
-loop-holds : tie.Need-loop-holds Inv-loop μ-loop
-loop-holds c = (search needs, (search needs, refl))
-
-returns : tie.Need-returns Inv-loop μ-loop
-returns c = (search (past-stop, past-some), (search needs, search needs))
-
-returns-2 : tie.Need-returns-2 Inv-loop μ-loop
-returns-2 c = (search (past-stop, past-242), (search needs, search needs))
-
-returns-3 : tie.Need-returns-3 Inv-loop μ-loop
-returns-3 c = (search (past-stop, past-251), (search needs, search needs))
-
-loop-again : tie.Need-loop-again Inv-loop μ-loop
-loop-again c = (search needs, (search needs, search past-next))
-
-returns-4 : tie.Need-returns-4 Inv-loop μ-loop
-returns-4 c = (search (past-stop, past-done), (search needs, search needs))
-
 pub past-empty-spec : {M : Type 1} → statement M
 past-empty-spec =
-    tie.close
-    (tie.spec
-    Inv-loop
-    μ-loop
-    loop-holds
-    (λ c. search needs)
-    (λ c. search needs)
-    (λ c. search needs)
-    returns
-    (λ c. search needs)
-    returns-2
-    (λ c. search needs)
-    returns-3
-    (λ c. search needs)
-    (λ c. search needs)
-    loop-again
-    returns-4)
+    tie.close (tie.spec Inv-loop μ-loop (λ c. (search needs, (search needs, refl))) (λ c. search needs) (λ c. search needs) (λ c. search needs)
+    (λ c. (search (past-stop, past-some), (search needs, search needs))) (λ c. search needs)
+    (λ c. (search (past-stop, past-242), (search needs, search needs))) (λ c. search needs)
+    (λ c. (search (past-stop, past-251), (search needs, search needs))) (λ c. search needs) (λ c. search needs)
+    (λ c. (search needs, (search needs, search past-next))) (λ c. (search (past-stop, past-done), (search needs, search needs))))

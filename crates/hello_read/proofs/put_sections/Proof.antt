@@ -52,20 +52,5 @@ returns c = let s = c .before .before .before .before .before .before .before .b
 
 pub put-sections-spec : {M : Type 1} → statement M
 put-sections-spec =
-    tie.close
-    (tie.spec
-    mul-n
-    add-n
-    mul-t
-    add-t
-    add-t-2
-    mul-m
-    add-m
-    add-m-2
-    geninfo-sections-requires
-    capability-sections-requires
-    mul-result
-    add-result
-    add-result-2
-    (λ c. search needs)
-    returns)
+    tie.close (tie.spec mul-n add-n mul-t add-t add-t-2 mul-m add-m add-m-2 geninfo-sections-requires capability-sections-requires mul-result
+    add-result add-result-2 (λ c. search needs) returns)

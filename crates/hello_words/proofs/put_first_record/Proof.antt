@@ -5,21 +5,7 @@ use borrow.Author.Needs.{needs}
 use Rattle.hello_words.proofs.put_first_record.Statement.{statement}
 use Rattle.hello_words.proofs.put_first_record.Tie as tie
 
-returns : tie.Need-returns
-returns c = search first-record-put
-
 pub put-first-record-spec : {M : Type 1} → statement M
 put-first-record-spec =
-    tie.close
-    (tie.spec
-    (λ c. search needs)
-    (λ c κs. search needs)
-    (λ c κs. search needs)
-    (λ c κs. search needs)
-    (λ c. search needs)
-    (λ c κs. search needs)
-    (λ c κs. search needs)
-    (λ c. search needs)
-    (λ c κs. search needs)
-    (λ c. search needs)
-    returns)
+    tie.close (tie.spec (λ c. search needs) (λ c κs. search needs) (λ c κs. search needs) (λ c κs. search needs) (λ c. search needs)
+    (λ c κs. search needs) (λ c κs. search needs) (λ c. search needs) (λ c κs. search needs) (λ c. search needs) (λ c. search first-record-put))

@@ -18,31 +18,8 @@ Inv-loop v out₀ at n i₀ out i = (i ≤ n) × ((at + 8 * n ≤ length out) ×
 abbrev μ-loop : tie.MeasureT-loop
 μ-loop v out₀ at n i₀ out i = n - i
 
-loop-holds : tie.Need-loop-holds Inv-loop μ-loop
-loop-holds c = (search needs, (search needs, (refl, search macs-none)))
-
-loop-again : tie.Need-loop-again Inv-loop μ-loop
-loop-again c = (search needs, (search needs, (search needs, search macs-next)))
-
-returns : tie.Need-returns Inv-loop μ-loop
-returns c = search macs-done
-
 pub put-macs-spec : {M : Type 1} → statement M
 put-macs-spec =
-    tie.close
-    (tie.spec
-    Inv-loop
-    μ-loop
-    (λ c. search needs)
-    loop-holds
-    (λ c. search needs)
-    (λ c. search needs)
-    (λ c κs. search needs)
-    (λ c. search needs)
-    (λ c. search needs)
-    (λ c κs. search needs)
-    (λ c. search needs)
-    (λ c. search needs)
-    loop-again
-    (λ c. search needs)
-    returns)
+    tie.close (tie.spec Inv-loop μ-loop (λ c. search needs) (λ c. (search needs, (search needs, (refl, search macs-none)))) (λ c. search needs)
+    (λ c. search needs) (λ c κs. search needs) (λ c. search needs) (λ c. search needs) (λ c κs. search needs) (λ c. search needs) (λ c. search needs)
+    (λ c. (search needs, (search needs, (search needs, search macs-next)))) (λ c. search needs) (λ c. search macs-done))

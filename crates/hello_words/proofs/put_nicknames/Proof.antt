@@ -5,9 +5,6 @@ use borrow.Author.Needs.{needs}
 use Rattle.hello_words.proofs.put_nicknames.Statement.{statement}
 use Rattle.hello_words.proofs.put_nicknames.Tie as tie
 
-returns : tie.Need-returns
-returns c = search nicknames-put
-
 pub put-nicknames-spec : {M : Type 1} → statement M
 put-nicknames-spec =
-    tie.close (tie.spec (λ c κs. search needs) (λ c. search needs) (λ c κs. search needs) (λ c. search needs) returns)
+    tie.close (tie.spec (λ c κs. search needs) (λ c. search needs) (λ c κs. search needs) (λ c. search needs) (λ c. search nicknames-put))

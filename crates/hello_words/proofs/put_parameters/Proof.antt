@@ -5,17 +5,7 @@ use borrow.Author.Needs.{needs}
 use Rattle.hello_words.proofs.put_parameters.Statement.{statement}
 use Rattle.hello_words.proofs.put_parameters.Tie as tie
 
-returns : tie.Need-returns
-returns c = search parameters-put
-
 pub put-parameters-spec : {M : Type 1} → statement M
 put-parameters-spec =
-    tie.close
-    (tie.spec
-    (λ c κs. search needs)
-    (λ c κs. search needs)
-    (λ c κs. search needs)
-    (λ c. search needs)
-    (λ c κs. search needs)
-    (λ c. search needs)
-    returns)
+    tie.close (tie.spec (λ c κs. search needs) (λ c κs. search needs) (λ c κs. search needs) (λ c. search needs) (λ c κs. search needs)
+    (λ c. search needs) (λ c. search parameters-put))

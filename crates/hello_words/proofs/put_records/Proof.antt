@@ -15,33 +15,11 @@ Inv-loop v out₀ at n i₀ out i = (1 ≤ i) × ((i ≤ n) × ((at + 24 * n ≤
 abbrev μ-loop : tie.MeasureT-loop
 μ-loop v out₀ at n i₀ out i = n - i
 
-returns : tie.Need-returns Inv-loop μ-loop
-returns c = search records-empty
-
-loop-holds : tie.Need-loop-holds Inv-loop μ-loop
-loop-holds c = (search needs, (search needs, (search needs, (refl, refl))))
-
 loop-again : tie.Need-loop-again Inv-loop μ-loop
 loop-again c = (search needs, (search needs, (search needs, (search needs, search records-next))))
 
-returns-2 : tie.Need-returns-2 Inv-loop μ-loop
-returns-2 c = search records-done
-
 pub put-records-spec : {M : Type 1} → statement M
 put-records-spec =
-    tie.close
-    (tie.spec
-    Inv-loop
-    μ-loop
-    returns
-    (λ c κs. search needs)
-    loop-holds
-    (λ c. search needs)
-    (λ c. search needs)
-    (λ c. search needs)
-    (λ c κs. search needs)
-    (λ c. search needs)
-    (λ c. search needs)
-    loop-again
-    (λ c. search needs)
-    returns-2)
+    tie.close (tie.spec Inv-loop μ-loop (λ c. search records-empty) (λ c κs. search needs)
+    (λ c. (search needs, (search needs, (search needs, (refl, refl))))) (λ c. search needs) (λ c. search needs) (λ c. search needs)
+    (λ c κs. search needs) (λ c. search needs) (λ c. search needs) loop-again (λ c. search needs) (λ c. search records-done))

@@ -5,19 +5,7 @@ use borrow.Author.Needs.{needs}
 use Rattle.hello_words.proofs.put_smart_mac.Statement.{statement}
 use Rattle.hello_words.proofs.put_smart_mac.Tie as tie
 
-returns : tie.Need-returns
-returns c = search mac-put
-
 pub put-smart-mac-spec : {M : Type 1} → statement M
 put-smart-mac-spec =
-    tie.close
-    (tie.spec
-    (λ c κs. search needs)
-    (λ c κs. search needs)
-    (λ c. search needs)
-    (λ c. search needs)
-    (λ c κs. search needs)
-    (λ c. search needs)
-    (λ c κs. search needs)
-    (λ c. search needs)
-    returns)
+    tie.close (tie.spec (λ c κs. search needs) (λ c κs. search needs) (λ c. search needs) (λ c. search needs) (λ c κs. search needs)
+    (λ c. search needs) (λ c κs. search needs) (λ c. search needs) (λ c. search mac-put))

@@ -5,19 +5,7 @@ use borrow.Author.Needs.{needs}
 use Rattle.hello_words.proofs.put_trees.Statement.{statement}
 use Rattle.hello_words.proofs.put_trees.Tie as tie
 
-returns : tie.Need-returns
-returns c = search trees-put
-
 pub put-trees-spec : {M : Type 1} → statement M
 put-trees-spec =
-    tie.close
-    (tie.spec
-    (λ c κs. search needs)
-    (λ c κs. search needs)
-    (λ c. search needs)
-    (λ c. search needs)
-    (λ c κs. search needs)
-    (λ c. search needs)
-    (λ c κs. search needs)
-    (λ c. search needs)
-    returns)
+    tie.close (tie.spec (λ c κs. search needs) (λ c κs. search needs) (λ c. search needs) (λ c. search needs) (λ c κs. search needs)
+    (λ c. search needs) (λ c κs. search needs) (λ c. search needs) (λ c. search trees-put))

@@ -5,16 +5,6 @@ use borrow.Author.Needs.{needs}
 use Rattle.ingress_call.proofs.destination_agrees.Statement.{statement}
 use Rattle.ingress_call.proofs.destination_agrees.Tie as tie
 
-returns : tie.Need-returns
-returns c = search agrees-all
-
-returns-2 : tie.Need-returns-2
-returns-2 c = search agrees-one
-
 pub destination-agrees-spec : {M : Type 1} → statement M
 destination-agrees-spec =
-    tie.close
-    (tie.spec
-    returns
-    (λ c κs. search needs)
-    returns-2)
+    tie.close (tie.spec (λ c. search agrees-all) (λ c κs. search needs) (λ c. search agrees-one))

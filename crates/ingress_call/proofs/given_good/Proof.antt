@@ -12,7 +12,4 @@ returns c = cc
 
 pub given-good-spec : {M : Type 1} → statement M
 given-good-spec =
-    tie.close
-    (tie.spec
-    (λ c κs. search needs)
-    returns)
+    tie.close (tie.spec (λ c κs. search needs) returns)

@@ -2,7 +2,6 @@
 -- Assumes nothing.
 use Rattle.numbers.specs.Tests.{both, between}
 use Rattle.ingress.specs.Ingress.{hopsGood}
-use borrow.Author.Needs.{needs}
 use Rattle.ingress_call.proofs.hops_good.Statement.{statement}
 use Rattle.ingress_call.proofs.hops_good.Tie as tie
 
@@ -12,6 +11,4 @@ returns c = cc
 
 pub hops-good-spec : {M : Type 1} → statement M
 hops-good-spec =
-    tie.close
-    (tie.spec
-    returns)
+    tie.close (tie.spec returns)

@@ -28,22 +28,6 @@ returns-6 c = put-out (c .before .before .before .before .before .before .before
 
 pub ingress-spec : {M : Type 1} → statement M
 ingress-spec =
-    tie.close
-    (tie.spec
-    (λ c κs. search needs)
-    returns
-    (λ c κs. search needs)
-    returns-2
-    (λ c κs. search needs)
-    returns-3
-    (λ c κs. search needs)
-    (λ c. search needs)
-    (λ c. search needs)
-    (λ c κs. search needs)
-    (λ c. search needs)
-    (λ c. search needs)
-    put-general-requires
-    returns-4
-    returns-5
-    (λ c. search needs)
-    returns-6)
+    tie.close (tie.spec (λ c κs. search needs) returns (λ c κs. search needs) returns-2 (λ c κs. search needs) returns-3 (λ c κs. search needs)
+    (λ c. search needs) (λ c. search needs) (λ c κs. search needs) (λ c. search needs) (λ c. search needs) put-general-requires returns-4 returns-5
+    (λ c. search needs) returns-6)

@@ -28,17 +28,5 @@ returns-7 c = native-good (c .before .before .before .before .before .before .be
 
 pub read-native-spec : {M : Type 1} → statement M
 read-native-spec =
-    tie.close
-    (tie.spec
-    returns
-    (λ c. search needs)
-    returns-2
-    (λ c κs. search needs)
-    returns-3
-    returns-4
-    (λ c κs. search needs)
-    (λ c κs. search needs)
-    returns-5
-    returns-6
-    (λ c. search needs)
-    returns-7)
+    tie.close (tie.spec returns (λ c. search needs) returns-2 (λ c κs. search needs) returns-3 returns-4 (λ c κs. search needs) (λ c κs. search needs)
+    returns-5 returns-6 (λ c. search needs) returns-7)

@@ -5,22 +5,7 @@ use borrow.Author.Needs.{needs}
 use Rattle.ingress_call.proofs.write_label.Statement.{statement}
 use Rattle.ingress_call.proofs.write_label.Tie as tie
 
-returns : tie.Need-returns
-returns c = search label-written
-
 pub write-label-spec : {M : Type 1} → statement M
 write-label-spec =
-    tie.close
-    (tie.spec
-    (λ c. search needs)
-    (λ c. search needs)
-    (λ c κs. search needs)
-    (λ c. search needs)
-    (λ c. search needs)
-    (λ c κs. search needs)
-    (λ c κs. search needs)
-    (λ c. search needs)
-    (λ c. search needs)
-    (λ c κs. search needs)
-    (λ c. search needs)
-    returns)
+    tie.close (tie.spec (λ c. search needs) (λ c. search needs) (λ c κs. search needs) (λ c. search needs) (λ c. search needs) (λ c κs. search needs)
+    (λ c κs. search needs) (λ c. search needs) (λ c. search needs) (λ c κs. search needs) (λ c. search needs) (λ c. search label-written))

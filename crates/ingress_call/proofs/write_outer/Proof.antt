@@ -5,15 +5,6 @@ use borrow.Author.Needs.{needs}
 use Rattle.ingress_call.proofs.write_outer.Statement.{statement}
 use Rattle.ingress_call.proofs.write_outer.Tie as tie
 
-returns : tie.Need-returns
-returns c = search outer-written
-
 pub write-outer-spec : {M : Type 1} → statement M
 write-outer-spec =
-    tie.close
-    (tie.spec
-    (λ c κs. search needs)
-    (λ c κs. search needs)
-    (λ c κs. search needs)
-    (λ c. search needs)
-    returns)
+    tie.close (tie.spec (λ c κs. search needs) (λ c κs. search needs) (λ c κs. search needs) (λ c. search needs) (λ c. search outer-written))

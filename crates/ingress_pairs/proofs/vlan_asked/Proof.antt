@@ -13,9 +13,4 @@ returns-2 c = asked-tag (c .before .before .before .args .f .now) _ (c .be2 .ens
 
 pub vlan-asked-spec : {M : Type 1} → statement M
 vlan-asked-spec =
-    tie.close
-    (tie.spec
-    returns
-    (λ c κs. search needs)
-    (λ c. search needs)
-    returns-2)
+    tie.close (tie.spec returns (λ c κs. search needs) (λ c. search needs) returns-2)

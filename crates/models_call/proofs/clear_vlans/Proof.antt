@@ -23,12 +23,4 @@ returns-2 c =
 
 pub clear-vlans-spec : {M : Type 1} → statement M
 clear-vlans-spec =
-    tie.close
-    (tie.spec
-    returns
-    (λ c. search needs)
-    mark-requires
-    (λ c. search needs)
-    (λ c κs. search needs)
-    (λ c. search needs)
-    returns-2)
+    tie.close (tie.spec returns (λ c. search needs) mark-requires (λ c. search needs) (λ c κs. search needs) (λ c. search needs) returns-2)

@@ -18,9 +18,6 @@ returns c = small-refused _ _ _ _ (c .before .table-good .ensures) (not-true _ (
 front-in : (c : tie.After-known-told) → 2 + nickBytes (c .before .before .before .before .before .before .before .before .before .args .payload .now) ≤ length (c .before .before .before .before .before .before .before .before .before .args .payload .now)
 front-in c = good-front _ _ (c .before .before .before .judge .ensures) _ (c .before .f .given .1)
 
-nick-bytes-requires : tie.Need-nick-bytes-requires
-nick-bytes-requires c κs = omega (arith, front-in c)
-
 part-clear-vlans-end : tie.Need-part-clear-vlans-end
 part-clear-vlans-end c = omega (arith, front-in (c .before))
 
@@ -53,26 +50,7 @@ returns-3 c =
 
 pub flush-vlan-only-spec : {M : Type 1} → statement M
 flush-vlan-only-spec =
-    tie.close
-    (tie.spec
-    (λ c κs. search needs)
-    (λ c. search needs)
-    returns
-    (λ c κs. search needs)
-    (λ c. search needs)
-    (λ c. search needs)
-    nick-bytes-requires
-    (λ c. search needs)
-    (λ c. search needs)
-    (λ c. search needs)
-    (λ c. search needs)
-    part-clear-vlans-end
-    sub-clear-vlans-2
-    part-clear-vlans-start-2
-    (λ c. search needs)
-    clear-vlans-requires
-    cast-t26
-    (λ c. search needs)
-    returns-2
-    (λ c. search needs)
+    tie.close (tie.spec (λ c κs. search needs) (λ c. search needs) returns (λ c κs. search needs) (λ c. search needs) (λ c. search needs)
+    (λ c κs. omega (arith, front-in c)) (λ c. search needs) (λ c. search needs) (λ c. search needs) (λ c. search needs) part-clear-vlans-end
+    sub-clear-vlans-2 part-clear-vlans-start-2 (λ c. search needs) clear-vlans-requires cast-t26 (λ c. search needs) returns-2 (λ c. search needs)
     returns-3)

@@ -5,12 +5,7 @@ use borrow.Author.Needs.{needs}
 use Rattle.port_map_judge.proofs.is_doubtful.Statement.{statement}
 use Rattle.port_map_judge.proofs.is_doubtful.Tie as tie
 
-returns : tie.Need-returns
-returns c = search doubt-low
-
-returns-2 : tie.Need-returns-2
-returns-2 c = search doubt-high
-
 pub is-doubtful-spec : {M : Type 1} → statement M
 is-doubtful-spec =
-    tie.close (tie.spec (λ c. search needs) (λ c κs. search needs) returns (λ c. search needs) (λ c κs. search needs) returns-2)
+    tie.close (tie.spec (λ c. search needs) (λ c κs. search needs) (λ c. search doubt-low) (λ c. search needs) (λ c κs. search needs)
+    (λ c. search doubt-high))

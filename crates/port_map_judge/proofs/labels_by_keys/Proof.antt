@@ -15,10 +15,4 @@ labels-sorted-requires c κs = let start = c .before .before .before in keys-len
 
 pub labels-by-keys-spec : {M : Type 1} → statement M
 labels-by-keys-spec =
-    tie.close
-    (tie.spec
-    (λ c. search needs)
-    slice-aggregate-labels-sorted
-    (λ c. search needs)
-    labels-sorted-requires
-    (λ c. search needs))
+    tie.close (tie.spec (λ c. search needs) slice-aggregate-labels-sorted (λ c. search needs) labels-sorted-requires (λ c. search needs))

@@ -12,10 +12,4 @@ labels-noted-requires c κs = (search needs, length-replicate {A = ℕ} metBytes
 
 pub labels-good-spec : {M : Type 1} → statement M
 labels-good-spec =
-    tie.close
-    (tie.spec
-    (λ c κs. search needs)
-    (λ c. search needs)
-    (λ c. search needs)
-    labels-noted-requires
-    (λ c. search needs))
+    tie.close (tie.spec (λ c κs. search needs) (λ c. search needs) (λ c. search needs) labels-noted-requires (λ c. search needs))

@@ -11,36 +11,8 @@ Inv-loop map met₀ left₀ met left = Marked map left met
 abbrev μ-loop : tie.MeasureT-loop
 μ-loop map met₀ left₀ met left = left
 
-loop-holds : tie.Need-loop-holds Inv-loop μ-loop
-loop-holds c = search marked-start
-
-sub-left : tie.Need-sub-left Inv-loop μ-loop
-sub-left c = search marked-room
-
-note-label-requires : tie.Need-note-label-requires Inv-loop μ-loop
-note-label-requires c κs = (search marked-in, (search needs, search marked-met))
-
-returns : tie.Need-returns Inv-loop μ-loop
-returns c = search marked-bad
-
-loop-again : tie.Need-loop-again Inv-loop μ-loop
-loop-again c = search marked-next
-
-returns-2 : tie.Need-returns-2 Inv-loop μ-loop
-returns-2 c = search marked-done
-
 pub labels-noted-spec : {M : Type 1} → statement M
 labels-noted-spec =
-    tie.close
-    (tie.spec
-    Inv-loop
-    μ-loop
-    loop-holds
-    sub-left
-    note-label-requires
-    (λ c. search needs)
-    returns
-    (λ c. search needs)
-    loop-again
-    (λ c. search needs)
-    returns-2)
+    tie.close (tie.spec Inv-loop μ-loop (λ c. search marked-start) (λ c. search marked-room)
+    (λ c κs. (search marked-in, (search needs, search marked-met))) (λ c. search needs) (λ c. search marked-bad) (λ c. search needs)
+    (λ c. search marked-next) (λ c. search needs) (λ c. search marked-done))

@@ -12,49 +12,12 @@ Inv-loop map low₀ high₀ left₀ doubts₀ low high left doubts = MarkedTwice
 abbrev μ-loop : tie.MeasureT-loop
 μ-loop map low₀ high₀ left₀ doubts₀ low high left doubts = left
 
-loop-holds : tie.Need-loop-holds Inv-loop μ-loop
-loop-holds c = (search twice-start, search needs)
-
-sub-left : tie.Need-sub-left Inv-loop μ-loop
-sub-left c = search twice-room
-
-label-at-requires : tie.Need-label-at-requires Inv-loop μ-loop
-label-at-requires c κs = search twice-in
-
 note-label-twice-requires : tie.Need-note-label-twice-requires Inv-loop μ-loop
 note-label-twice-requires c κs = (search twice-in, (search needs, (search twice-low, search twice-high)))
 
-returns-2 : tie.Need-returns-2 Inv-loop μ-loop
-returns-2 c = search twice-bad
-
-loop-again : tie.Need-loop-again Inv-loop μ-loop
-loop-again c = (search twice-next, search needs)
-
-returns-3 : tie.Need-returns-3 Inv-loop μ-loop
-returns-3 c = search twice-done
-
 pub labels-noted-twice-spec : {M : Type 1} → statement M
 labels-noted-twice-spec =
-    tie.close
-    (tie.spec
-    Inv-loop
-    μ-loop
-    loop-holds
-    (λ c κs. search needs)
-    (λ c. search needs)
-    (λ c. search needs)
-    (λ c. search needs)
-    sub-left
-    label-at-requires
-    (λ c κs. search needs)
-    (λ c κs. search needs)
-    (λ c. search needs)
-    note-label-twice-requires
-    (λ c. search needs)
-    (λ c. search needs)
-    returns-2
-    (λ c. search needs)
-    loop-again
-    (λ c. search needs)
-    (λ c. search needs)
-    returns-3)
+    tie.close (tie.spec Inv-loop μ-loop (λ c. (search twice-start, search needs)) (λ c κs. search needs) (λ c. search needs) (λ c. search needs)
+    (λ c. search needs) (λ c. search twice-room) (λ c κs. search twice-in) (λ c κs. search needs) (λ c κs. search needs) (λ c. search needs)
+    note-label-twice-requires (λ c. search needs) (λ c. search needs) (λ c. search twice-bad) (λ c. search needs)
+    (λ c. (search twice-next, search needs)) (λ c. search needs) (λ c. search needs) (λ c. search twice-done))

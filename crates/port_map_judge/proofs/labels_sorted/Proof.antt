@@ -6,9 +6,6 @@ use borrow.Author.Needs.{needs}
 use Rattle.port_map_judge.proofs.labels_sorted.Statement.{statement}
 use Rattle.port_map_judge.proofs.labels_sorted.Tie as tie
 
-returns : tie.Need-returns
-returns c = search sorted-bad
-
 returns-2 : tie.Need-returns-2
 returns-2 c =
     let k = c .before .before .before .before .before .before .before .before .before .before .before .before .make-keys in
@@ -16,13 +13,5 @@ returns-2 c =
 
 pub labels-sorted-spec : {M : Type 1} → statement M
 labels-sorted-spec =
-    tie.close
-    (tie.spec
-    (λ c κs. search needs)
-    (λ c. search needs)
-    returns
-    (λ c κs. search needs)
-    (λ c κs. search needs)
-    (λ c. search needs)
-    (λ c. search needs)
-    returns-2)
+    tie.close (tie.spec (λ c κs. search needs) (λ c. search needs) (λ c. search sorted-bad) (λ c κs. search needs) (λ c κs. search needs)
+    (λ c. search needs) (λ c. search needs) returns-2)

@@ -13,40 +13,8 @@ Inv-loop map keys₀ i₀ keys i = (length keys ≡ length keys₀) × Making ma
 abbrev μ-loop : tie.MeasureT-loop
 μ-loop map keys₀ i₀ keys i = i
 
-loop-holds : tie.Need-loop-holds Inv-loop μ-loop
-loop-holds c = (refl, search make-start)
-
-label-at-requires : tie.Need-label-at-requires Inv-loop μ-loop
-label-at-requires c κs = search make-in
-
-returns : tie.Need-returns Inv-loop μ-loop
-returns c = search make-over
-
-loop-again : tie.Need-loop-again Inv-loop μ-loop
-loop-again c = (search needs, search make-next)
-
-returns-2 : tie.Need-returns-2 Inv-loop μ-loop
-returns-2 c = search make-done
-
 pub make-keys-spec : {M : Type 1} → statement M
 make-keys-spec =
-    tie.close
-    (tie.spec
-    Inv-loop
-    μ-loop
-    loop-holds
-    (λ c. search needs)
-    (λ c. search needs)
-    label-at-requires
-    (λ c. search needs)
-    (λ c. search needs)
-    returns
-    (λ c. search needs)
-    (λ c. search needs)
-    (λ c. search needs)
-    (λ c. search needs)
-    (λ c. search needs)
-    (λ c. search needs)
-    loop-again
-    (λ c. search needs)
-    returns-2)
+    tie.close (tie.spec Inv-loop μ-loop (λ c. (refl, search make-start)) (λ c. search needs) (λ c. search needs) (λ c κs. search make-in)
+    (λ c. search needs) (λ c. search needs) (λ c. search make-over) (λ c. search needs) (λ c. search needs) (λ c. search needs) (λ c. search needs)
+    (λ c. search needs) (λ c. search needs) (λ c. (search needs, search make-next)) (λ c. search needs) (λ c. search make-done))

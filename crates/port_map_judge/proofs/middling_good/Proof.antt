@@ -5,15 +5,6 @@ use borrow.Author.Needs.{needs}
 use Rattle.port_map_judge.proofs.middling_good.Statement.{statement}
 use Rattle.port_map_judge.proofs.middling_good.Tie as tie
 
-returns : tie.Need-returns
-returns c = search good-cut
-
-returns-2 : tie.Need-returns-2
-returns-2 c = search good-vlans
-
-returns-3 : tie.Need-returns-3
-returns-3 c = search good-labels
-
 pub middling-good-spec : {M : Type 1} → statement M
 middling-good-spec =
-    tie.close (tie.spec returns (λ c κs. search needs) returns-2 (λ c κs. search needs) returns-3)
+    tie.close (tie.spec (λ c. search good-cut) (λ c κs. search needs) (λ c. search good-vlans) (λ c κs. search needs) (λ c. search good-labels))

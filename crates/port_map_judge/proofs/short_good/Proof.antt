@@ -19,5 +19,4 @@ returns-4 c = search good-labels
 
 pub short-good-spec : {M : Type 1} → statement M
 short-good-spec =
-    tie.close
-    (tie.spec returns returns-2 (λ c κs. search needs) returns-3 (λ c κs. search needs) returns-4)
+    tie.close (tie.spec returns returns-2 (λ c κs. search needs) returns-3 (λ c κs. search needs) returns-4)

@@ -13,8 +13,4 @@ vlans-noted-requires c κs = (search needs, (length-replicate {A = ℕ} seenByte
 
 pub vlans-good-spec : {M : Type 1} → statement M
 vlans-good-spec =
-    tie.close
-    (tie.spec
-    (λ c. search needs)
-    vlans-noted-requires
-    (λ c. search needs))
+    tie.close (tie.spec (λ c. search needs) vlans-noted-requires (λ c. search needs))

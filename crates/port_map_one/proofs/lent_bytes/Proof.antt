@@ -4,7 +4,6 @@ use native.Mathlib.Omega.{arith}
 use borrow.Author.Tests.{eq-eqb, ne-eqb}
 use Rattle.numbers.specs.Tests.{pick}
 use Rattle.port_map_one.specs.One.{lentBytes}
-use borrow.Author.Needs.{needs}
 use Rattle.port_map_one.proofs.lent_bytes.Statement.{statement}
 use Rattle.port_map_one.proofs.lent_bytes.Tie as tie
 

@@ -2,7 +2,6 @@
 -- Assumes nothing.
 use borrow.Author.Tests.{eq-eqb, ne-eqb}
 use Rattle.numbers.specs.Tests.{pick}
-use borrow.Author.Needs.{needs}
 use Rattle.port_map_one.proofs.other_label.Statement.{statement}
 use Rattle.port_map_one.proofs.other_label.Tie as tie
 

@@ -12,10 +12,4 @@ returns-2 c = rw (c .before .found .given .1)
 
 pub pair-for-label-spec : {M : Type 1} → statement M
 pair-for-label-spec =
-    tie.close
-    (tie.spec
-    (λ c. search needs)
-    (λ c κs. search needs)
-    (λ c. search needs)
-    returns
-    returns-2)
+    tie.close (tie.spec (λ c. search needs) (λ c κs. search needs) (λ c. search needs) returns returns-2)

@@ -15,30 +15,7 @@ Inv-loop map x at₀ at = (at ≤ length map) × (vlanFor (pairsIn map) x ≡ vl
 abbrev μ-loop : tie.MeasureT-loop
 μ-loop map x at₀ at = length map - at
 
-loop-holds : tie.Need-loop-holds Inv-loop μ-loop
-loop-holds c = (search needs, refl)
-
-returns : tie.Need-returns Inv-loop μ-loop
-returns c = search vlan-hit
-
-loop-again : tie.Need-loop-again Inv-loop μ-loop
-loop-again c = (search needs, search vlan-next)
-
-returns-2 : tie.Need-returns-2 Inv-loop μ-loop
-returns-2 c = search vlans-done
-
 pub vlan-for-spec : {M : Type 1} → statement M
 vlan-for-spec =
-    tie.close
-    (tie.spec
-    Inv-loop
-    μ-loop
-    loop-holds
-    (λ c. search needs)
-    (λ c κs. search needs)
-    (λ c κs. search needs)
-    returns
-    (λ c. search needs)
-    (λ c. search needs)
-    loop-again
-    returns-2)
+    tie.close (tie.spec Inv-loop μ-loop (λ c. (search needs, refl)) (λ c. search needs) (λ c κs. search needs) (λ c κs. search needs)
+    (λ c. search vlan-hit) (λ c. search needs) (λ c. search needs) (λ c. (search needs, search vlan-next)) (λ c. search vlans-done))

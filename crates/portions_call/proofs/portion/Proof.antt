@@ -56,22 +56,5 @@ returns-4 c =
 
 pub portion-spec : {M : Type 1} → statement M
 portion-spec =
-    tie.close
-    (tie.spec
-    (λ c κs. search needs)
-    (λ c. search needs)
-    returns
-    (λ c. search needs)
-    returns-2
-    steps-requires
-    clear-portion-requires
-    (λ c. search needs)
-    (λ c. search needs)
-    cast-t22
-    add-t23
-    cast-t24
-    cast-t25
-    (λ c. search needs)
-    returns-3
-    (λ c. search needs)
-    returns-4)
+    tie.close (tie.spec (λ c κs. search needs) (λ c. search needs) returns (λ c. search needs) returns-2 steps-requires clear-portion-requires
+    (λ c. search needs) (λ c. search needs) cast-t22 add-t23 cast-t24 cast-t25 (λ c. search needs) returns-3 (λ c. search needs) returns-4)

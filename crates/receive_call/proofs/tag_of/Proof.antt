@@ -13,9 +13,4 @@ returns-2 c = c .tag-for .ensures _ (c .before .label-asks .ensures)
 
 pub tag-of-spec : {M : Type 1} → statement M
 tag-of-spec =
-    tie.close
-    (tie.spec
-    returns
-    (λ c κs. search needs)
-    (λ c κs. search needs)
-    returns-2)
+    tie.close (tie.spec returns (λ c κs. search needs) (λ c κs. search needs) returns-2)

@@ -12,8 +12,4 @@ returns c = rw (← c .before .channel-version .ensures, ← c .channel-error .e
 
 pub channel-good-spec : {M : Type 1} → statement M
 channel-good-spec =
-    tie.close
-    (tie.spec
-    (λ c κs. search needs)
-    (λ c κs. search needs)
-    returns)
+    tie.close (tie.spec (λ c κs. search needs) (λ c κs. search needs) returns)

@@ -73,21 +73,6 @@ returns-5 c =
 
 pub handle-spec : {M : Type 1} → statement M
 handle-spec =
-    tie.close
-    (tie.spec
-    (λ c κs. search needs)
-    returns
-    (λ c κs. search needs)
-    returns-2
-    (λ c κs. search needs)
-    returns-3
-    (λ c κs. search needs)
-    (λ c. search needs)
-    clear-meant-requires
-    (λ c. search needs)
-    (λ c. search needs)
-    cast-t19
-    (λ c. search needs)
-    returns-4
-    (λ c. search needs)
+    tie.close (tie.spec (λ c κs. search needs) returns (λ c κs. search needs) returns-2 (λ c κs. search needs) returns-3 (λ c κs. search needs)
+    (λ c. search needs) clear-meant-requires (λ c. search needs) (λ c. search needs) cast-t19 (λ c. search needs) returns-4 (λ c. search needs)
     returns-5)

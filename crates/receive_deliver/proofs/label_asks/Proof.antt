@@ -5,12 +5,6 @@ use borrow.Author.Needs.{needs}
 use Rattle.receive_deliver.proofs.label_asks.Statement.{statement}
 use Rattle.receive_deliver.proofs.label_asks.Tie as tie
 
-returns : tie.Need-returns
-returns c = search asks-nothing
-
-be2-requires : tie.Need-be2-requires
-be2-requires c κs = search low-room
-
 returns-2 : tie.Need-returns-2
 returns-2 c =
     let high = c .before in
@@ -19,16 +13,5 @@ returns-2 c =
 
 pub label-asks-spec : {M : Type 1} → statement M
 label-asks-spec =
-    tie.close
-    (tie.spec
-    returns
-    (λ c. search needs)
-    (λ c. search needs)
-    (λ c κs. search needs)
-    (λ c. search needs)
-    be2-requires
-    (λ c. search needs)
-    (λ c. search needs)
-    (λ c. search needs)
-    (λ c. search needs)
-    returns-2)
+    tie.close (tie.spec (λ c. search asks-nothing) (λ c. search needs) (λ c. search needs) (λ c κs. search needs) (λ c. search needs)
+    (λ c κs. search low-room) (λ c. search needs) (λ c. search needs) (λ c. search needs) (λ c. search needs) returns-2)

@@ -11,9 +11,6 @@ returns c =
     let start = high .before .before .before in
     vlan-read (start .args .f .now) (start .args .p) (start .pre) _ (high .label-part .ensures .0) (c .if1 .taken)
 
-label-part-requires-2 : tie.Need-label-part-requires-2
-label-part-requires-2 c κs = search low-room
-
 returns-2 : tie.Need-returns-2
 returns-2 c =
     let fine = c .before in
@@ -23,16 +20,5 @@ returns-2 c =
 
 pub label-of-spec : {M : Type 1} → statement M
 label-of-spec =
-    tie.close
-    (tie.spec
-    (λ c. search needs)
-    (λ c. search needs)
-    (λ c κs. search needs)
-    (λ c. search needs)
-    returns
-    (λ c. search needs)
-    label-part-requires-2
-    (λ c. search needs)
-    (λ c. search needs)
-    (λ c. search needs)
-    returns-2)
+    tie.close (tie.spec (λ c. search needs) (λ c. search needs) (λ c κs. search needs) (λ c. search needs) returns (λ c. search needs)
+    (λ c κs. search low-room) (λ c. search needs) (λ c. search needs) (λ c. search needs) returns-2)

@@ -18,25 +18,7 @@ put-number-requires-2 c κs =
     let start = told .before .before .before in
     omega (arith, tag-room (start .args .tag) _ (start .args .out .now) (told .tag .given .1) (start .pre))
 
-returns : tie.Need-returns
-returns c = search tag-untagged
-
-returns-2 : tie.Need-returns-2
-returns-2 c = search tag-written
-
-returns-3 : tie.Need-returns-3
-returns-3 c = search tag-missing
-
 pub write-tag-spec : {M : Type 1} → statement M
 write-tag-spec =
-    tie.close
-    (tie.spec
-    (λ c. search needs)
-    (λ c. search needs)
-    put-number-requires
-    put-number-requires-2
-    (λ c. search needs)
-    returns
-    (λ c. search needs)
-    returns-2
-    returns-3)
+    tie.close (tie.spec (λ c. search needs) (λ c. search needs) put-number-requires put-number-requires-2 (λ c. search needs)
+    (λ c. search tag-untagged) (λ c. search needs) (λ c. search tag-written) (λ c. search tag-missing))

@@ -26,14 +26,5 @@ returns-3 c =
 
 pub label-asked-spec : {M : Type 1} → statement M
 label-asked-spec =
-    tie.close
-    (tie.spec
-    (λ c κs. search needs)
-    (λ c. search needs)
-    (λ c. search needs)
-    label-asks-requires
-    (λ c. search needs)
-    (λ c. search needs)
-    returns
-    returns-2
-    returns-3)
+    tie.close (tie.spec (λ c κs. search needs) (λ c. search needs) (λ c. search needs) label-asks-requires (λ c. search needs) (λ c. search needs)
+    returns returns-2 returns-3)

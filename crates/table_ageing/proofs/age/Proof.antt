@@ -14,5 +14,4 @@ returns-2 c = search (age-done, not-false)
 
 pub age-spec : {M : Type 1} → statement M
 age-spec =
-    tie.close
-    (tie.spec (λ c κs. search needs) (λ c. search needs) returns (λ c κs. search needs) (λ c. search needs) returns-2)
+    tie.close (tie.spec (λ c κs. search needs) (λ c. search needs) returns (λ c κs. search needs) (λ c. search needs) returns-2)

@@ -106,24 +106,6 @@ returns c =
 
 pub age-slots-spec : {M : Type 1} → statement M
 age-slots-spec =
-    tie.close
-    (tie.spec
-    Inv-loop
-    μ-loop
-    (λ c. search needs)
-    loop-holds
-    learned-at-requires
-    (λ c. search needs)
-    (λ c. search needs)
-    (λ c. search needs)
-    part-age-slot-end
-    age-slot-requires
-    (λ c. search needs)
-    (λ c. search needs)
-    loop-again
-    (λ c. search needs)
-    next-learned-requires
-    (λ c. search needs)
-    loop-again-2
-    same-length
-    returns)
+    tie.close (tie.spec Inv-loop μ-loop (λ c. search needs) loop-holds learned-at-requires (λ c. search needs) (λ c. search needs) (λ c. search needs)
+    part-age-slot-end age-slot-requires (λ c. search needs) (λ c. search needs) loop-again (λ c. search needs) next-learned-requires
+    (λ c. search needs) loop-again-2 same-length returns)

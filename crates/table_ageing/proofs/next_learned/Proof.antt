@@ -23,9 +23,6 @@ loop-holds c =
     let a = c .before .args in
     (c .before .pre .0, (search needs, (c .before .pre .1, passed-none (InState learnedState) (a .t .now) (a .from / slotBytes))))
 
-none-in-state-requires : tie.Need-none-in-state-requires Inv-loop μ-loop
-none-in-state-requires c κs = omega arith
-
 returns : tie.Need-returns Inv-loop μ-loop
 returns c =
     let at = c .before .before .before .loop .inv in
@@ -47,15 +44,5 @@ returns-2 c =
 
 pub next-learned-spec : {M : Type 1} → statement M
 next-learned-spec =
-    tie.close
-    (tie.spec
-    Inv-loop
-    μ-loop
-    loop-holds
-    (λ c. search needs)
-    none-in-state-requires
-    returns
-    (λ c. search needs)
-    (λ c. search needs)
-    loop-again
-    returns-2)
+    tie.close (tie.spec Inv-loop μ-loop loop-holds (λ c. search needs) (λ c κs. omega arith) returns (λ c. search needs) (λ c. search needs)
+    loop-again returns-2)

@@ -68,21 +68,5 @@ returns-2 c =
 
 pub find-free-spec : {M : Type 1} → statement M
 find-free-spec =
-    tie.close
-    (tie.spec
-    Inv-loop
-    μ-loop
-    loop-holds
-    (λ c. search needs)
-    free-step-requires
-    returns
-    (λ c. search needs)
-    (λ c κs. search needs)
-    (λ c. search needs)
-    loop-again
-    (λ c κs. search needs)
-    (λ c. search needs)
-    add-unpacked
-    (λ c. search needs)
-    loop-again-2
-    returns-2)
+    tie.close (tie.spec Inv-loop μ-loop loop-holds (λ c. search needs) free-step-requires returns (λ c. search needs) (λ c κs. search needs)
+    (λ c. search needs) loop-again (λ c κs. search needs) (λ c. search needs) add-unpacked (λ c. search needs) loop-again-2 returns-2)

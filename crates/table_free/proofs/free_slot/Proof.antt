@@ -33,15 +33,5 @@ returns-3 c = search (free-full, not-false)
 
 pub free-slot-spec : {M : Type 1} → statement M
 free-slot-spec =
-    tie.close
-    (tie.spec
-    (λ c κs. search needs)
-    returns
-    (λ c κs. search needs)
-    (λ c. search needs)
-    cast-t8
-    cast-t9
-    (λ c. search needs)
-    cast-t10
-    returns-2
-    returns-3)
+    tie.close (tie.spec (λ c κs. search needs) returns (λ c κs. search needs) (λ c. search needs) cast-t8 cast-t9 (λ c. search needs) cast-t10
+    returns-2 returns-3)

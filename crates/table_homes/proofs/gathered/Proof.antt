@@ -1,12 +1,11 @@
 -- `table_homes::gathered` meets its contract. The invariant: `h` is what the first `i` slots hold of the pair.
 -- Assumes nothing.
-use Prim.Native.Nat.{ℕ, _≤_, _<_, _-_, _+_, _/_, _^_}
-use mathlib.Core.Path.{_≡_, sym, ap, _∙_}
+use Prim.Native.Nat.{ℕ, _≤_, _-_, _+_, _/_}
+use mathlib.Core.Path.{_≡_, ap, _∙_}
 use lib.ListN.{length}
 use native.Mathlib.Omega.{arith}
 use Rattle.table.specs.Slots.{slotBytes}
-use Rattle.table_homes.specs.Pass.{noHomes, homesTo}
-use Rattle.table_homes.specs.declared.Homes.{Homes}
+use Rattle.table_homes.specs.Pass.{homesTo}
 use Rattle.table_homes.proofs.Laws.{few-seen, seen-next, seen-past}
 use borrow.Author.Needs.{needs}
 use Rattle.table_homes.proofs.gathered.Statement.{statement}
@@ -47,16 +46,5 @@ returns c =
 
 pub gathered-spec : {M : Type 1} → statement M
 gathered-spec =
-    tie.close
-    (tie.spec
-    Inv-loop
-    μ-loop
-    (λ c κs. search needs)
-    (λ c κs. search needs)
-    loop-holds
-    with-slot-requires
-    (λ c. search needs)
-    (λ c κs. search needs)
-    (λ c. search needs)
-    loop-again
-    returns)
+    tie.close (tie.spec Inv-loop μ-loop (λ c κs. search needs) (λ c κs. search needs) loop-holds with-slot-requires (λ c. search needs)
+    (λ c κs. search needs) (λ c. search needs) loop-again returns)

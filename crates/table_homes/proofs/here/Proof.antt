@@ -1,7 +1,6 @@
 -- `table_homes::here` meets its contract.
 -- Assumes nothing.
 use Rattle.numbers.specs.Tests.{pick}
-use borrow.Author.Needs.{needs}
 use Rattle.table_homes.proofs.here.Statement.{statement}
 use Rattle.table_homes.proofs.here.Tie as tie
 

@@ -2,7 +2,6 @@
 -- Assumes nothing.
 use mathlib.Core.Path.{refl}
 use Rattle.table_homes.specs.Pass.{noHomes}
-use borrow.Author.Needs.{needs}
 use Rattle.table_homes.proofs.no_homes.Statement.{statement}
 use Rattle.table_homes.proofs.no_homes.Tie as tie
 

@@ -1,6 +1,5 @@
 -- `table_homes::with_home` meets its contract: the parts are made one by one.
 -- Assumes nothing.
-use mathlib.Core.Path.{refl}
 use Rattle.numbers.specs.Tests.{pick}
 use Rattle.numbers.proofs.Truth.{or-either}
 use Rattle.table_homes.specs.Steps.{withHome}
@@ -14,12 +13,5 @@ returns c = rw (or-either _ _, c .before .or-else3 .ensures, c .before .before .
 
 pub with-home-spec : {M : Type 1} → statement M
 with-home-spec =
-    tie.close
-    (tie.spec
-    (λ c κs. search needs)
-    (λ c κs. search needs)
-    (λ c κs. search needs)
-    (λ c κs. search needs)
-    (λ c κs. search needs)
-    (λ c. search needs)
-    returns)
+    tie.close (tie.spec (λ c κs. search needs) (λ c κs. search needs) (λ c κs. search needs) (λ c κs. search needs) (λ c κs. search needs)
+    (λ c. search needs) returns)

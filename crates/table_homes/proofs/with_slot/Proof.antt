@@ -37,5 +37,4 @@ returns-2 c =
 
 pub with-slot-spec : {M : Type 1} → statement M
 with-slot-spec =
-    tie.close
-    (tie.spec (λ c. search needs) holds-at-requires returns unpack-held-requires with-pair-requires returns-2)
+    tie.close (tie.spec (λ c. search needs) holds-at-requires returns unpack-held-requires with-pair-requires returns-2)

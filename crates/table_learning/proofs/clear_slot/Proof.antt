@@ -31,14 +31,5 @@ returns-3 c =
 
 pub clear-slot-spec : {M : Type 1} → statement M
 clear-slot-spec =
-    tie.close
-    (tie.spec
-    holds-at-requires
-    (λ c. search needs)
-    returns
-    (λ c κs. search needs)
-    (λ c. search needs)
-    returns-2
-    (λ c κs. search needs)
-    (λ c. search needs)
-    returns-3)
+    tie.close (tie.spec holds-at-requires (λ c. search needs) returns (λ c κs. search needs) (λ c. search needs) returns-2 (λ c κs. search needs)
+    (λ c. search needs) returns-3)

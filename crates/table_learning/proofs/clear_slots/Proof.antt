@@ -51,9 +51,6 @@ loop-again c =
     let within = to .1 .0 in
     (omega (arith, same, within), (same, clear-past (a .e) t _ (at .i + 1) step (a .kind) (a .label) (start .pre .0 .pair .kind-small) (start .pre .0 .label-is) _ (first .round-key-of .ensures) _ (to .0) (omega (arith, same, within)) (to .1 .1)))
 
-same-length : tie.Need-same-length Inv-loop μ-loop
-same-length c = c .before .loop .inv .1 .0
-
 returns : tie.Need-returns Inv-loop μ-loop
 returns c =
     let a = c .before .before .before .before .args in
@@ -63,21 +60,6 @@ returns c =
 
 pub clear-slots-spec : {M : Type 1} → statement M
 clear-slots-spec =
-    tie.close
-    (tie.spec
-    Inv-loop
-    μ-loop
-    (λ c κs. search needs)
-    loop-holds
-    (λ c. search needs)
-    (λ c. search needs)
-    (λ c. search needs)
-    (λ c. search needs)
-    part-clear-slot-end
-    clear-slot-requires
-    (λ c. search needs)
-    (λ c κs. search needs)
-    (λ c. search needs)
-    loop-again
-    same-length
-    returns)
+    tie.close (tie.spec Inv-loop μ-loop (λ c κs. search needs) loop-holds (λ c. search needs) (λ c. search needs) (λ c. search needs)
+    (λ c. search needs) part-clear-slot-end clear-slot-requires (λ c. search needs) (λ c κs. search needs) (λ c. search needs) loop-again
+    (λ c. c .before .loop .inv .1 .0) returns)

@@ -43,12 +43,5 @@ returns-2 c = c .before .before .clear-slots .ensures ∙ sym (pick-false _ _ _ 
 
 pub make-room-spec : {M : Type 1} → statement M
 make-room-spec =
-    tie.close
-    (tie.spec
-    returns
-    (λ c κs. search needs)
-    (λ c κs. search needs)
-    (λ c κs. search needs)
-    clear-slots-requires
-    (λ c. search needs)
+    tie.close (tie.spec returns (λ c κs. search needs) (λ c κs. search needs) (λ c κs. search needs) clear-slots-requires (λ c. search needs)
     returns-2)

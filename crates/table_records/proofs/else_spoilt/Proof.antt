@@ -1,7 +1,6 @@
 -- `table_records::else_spoilt` meets its contract.
 -- Assumes nothing.
 use Rattle.numbers.specs.Tests.{pick}
-use borrow.Author.Needs.{needs}
 use Rattle.table_records.proofs.else_spoilt.Statement.{statement}
 use Rattle.table_records.proofs.else_spoilt.Tie as tie
 

@@ -39,13 +39,4 @@ returns-4 c =
 
 pub held-or-spoilt-spec : {M : Type 1} → statement M
 held-or-spoilt-spec =
-    tie.close
-    (tie.spec
-    (λ c κs. search needs)
-    returns
-    (λ c κs. search needs)
-    entry-of-requires
-    returns-2
-    entry-of-requires-2
-    returns-3
-    returns-4)
+    tie.close (tie.spec (λ c κs. search needs) returns (λ c κs. search needs) entry-of-requires returns-2 entry-of-requires-2 returns-3 returns-4)

@@ -1,7 +1,6 @@
 -- `table_records::mark_byte` meets its contract.
 -- Assumes nothing.
 use Rattle.numbers.specs.Tests.{pick}
-use borrow.Author.Needs.{needs}
 use Rattle.table_records.proofs.mark_byte.Statement.{statement}
 use Rattle.table_records.proofs.mark_byte.Tie as tie
 

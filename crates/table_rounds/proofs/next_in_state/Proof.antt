@@ -20,38 +20,13 @@ loop-holds : tie.Need-loop-holds Inv-loop μ-loop
 loop-holds c = let a = c .before .args in
     (search needs, (c .before .pre, passed-none (InState (a .state)) (a .t .now) (a .from)))
 
-none-in-state-requires : tie.Need-none-in-state-requires Inv-loop μ-loop
-none-in-state-requires c κs = omega arith
-
-none-in-state-requires-2 : tie.Need-none-in-state-requires-2 Inv-loop μ-loop
-none-in-state-requires-2 c κs = omega arith
-
-returns : tie.Need-returns Inv-loop μ-loop
-returns c = c .before .before .before .before .loop .inv
-
 loop-again : tie.Need-loop-again Inv-loop μ-loop
 loop-again c = let at = c .before .before .before .before .loop in
     let a = c .before .before .before .before .before .before .args in
     (search needs, (search needs, passed-eight (InState (a .state)) (a .t .now) (a .from) (at .k) (slotBytes * at .k) refl (at .inv .1 .1) _ _ (c .if1 .left) (c .before .before .none-in-state .ensures) (c .before .none-in-state2 .ensures)))
 
-returns-2 : tie.Need-returns-2 Inv-loop μ-loop
-returns-2 c = c .before .loop .inv
-
 pub next-in-state-spec : {M : Type 1} → statement M
 next-in-state-spec =
-    tie.close
-    (tie.spec
-    Inv-loop
-    μ-loop
-    loop-holds
-    (λ c. search needs)
-    (λ c. search needs)
-    none-in-state-requires
-    (λ c. search needs)
-    (λ c. search needs)
-    none-in-state-requires-2
-    returns
-    (λ c. search needs)
-    (λ c. search needs)
-    loop-again
-    returns-2)
+    tie.close (tie.spec Inv-loop μ-loop loop-holds (λ c. search needs) (λ c. search needs) (λ c κs. omega arith) (λ c. search needs)
+    (λ c. search needs) (λ c κs. omega arith) (λ c. c .before .before .before .before .loop .inv) (λ c. search needs) (λ c. search needs) loop-again
+    (λ c. c .before .loop .inv))

@@ -22,24 +22,6 @@ loop-holds : tie.Need-loop-holds Inv-loop μ-loop
 loop-holds c = let a = c .before .args in
     (search needs, (c .before .pre, (passed-none (InOther freeState) (a .t .now) (a .from), passed-none Blank (a .t .now) (a .from))))
 
-all-unpacked-requires : tie.Need-all-unpacked-requires Inv-loop μ-loop
-all-unpacked-requires c κs = omega arith
-
-all-unpacked-requires-2 : tie.Need-all-unpacked-requires-2 Inv-loop μ-loop
-all-unpacked-requires-2 c κs = omega arith
-
-returns : tie.Need-returns Inv-loop μ-loop
-returns c = c .before .before .before .before .loop .inv
-
-none-blank-requires : tie.Need-none-blank-requires Inv-loop μ-loop
-none-blank-requires c κs = omega arith
-
-none-blank-requires-2 : tie.Need-none-blank-requires-2 Inv-loop μ-loop
-none-blank-requires-2 c κs = omega arith
-
-returns-2 : tie.Need-returns-2 Inv-loop μ-loop
-returns-2 c = c .before .before .before .before .before .before .before .loop .inv
-
 loop-again : tie.Need-loop-again Inv-loop μ-loop
 loop-again c =
     let states = c .before .before .before in
@@ -49,30 +31,9 @@ loop-again c =
     let some = passed-eight Blank (a .t .now) (a .from) (at .k) (slotBytes * at .k) refl (at .inv .1 .1 .1) _ _ (c .if2 .left) (c .before .before .none-blank .ensures) (c .before .none-blank2 .ensures) in
     (search needs, (search needs, (unpacked, some)))
 
-returns-3 : tie.Need-returns-3 Inv-loop μ-loop
-returns-3 c = c .before .loop .inv
-
 pub next-not-spoilt-spec : {M : Type 1} → statement M
 next-not-spoilt-spec =
-    tie.close
-    (tie.spec
-    Inv-loop
-    μ-loop
-    loop-holds
-    (λ c. search needs)
-    (λ c. search needs)
-    all-unpacked-requires
-    (λ c. search needs)
-    (λ c. search needs)
-    all-unpacked-requires-2
-    returns
-    (λ c. search needs)
-    none-blank-requires
-    (λ c. search needs)
-    (λ c. search needs)
-    none-blank-requires-2
-    returns-2
-    (λ c. search needs)
-    (λ c. search needs)
-    loop-again
-    returns-3)
+    tie.close (tie.spec Inv-loop μ-loop loop-holds (λ c. search needs) (λ c. search needs) (λ c κs. omega arith) (λ c. search needs)
+    (λ c. search needs) (λ c κs. omega arith) (λ c. c .before .before .before .before .loop .inv) (λ c. search needs) (λ c κs. omega arith)
+    (λ c. search needs) (λ c. search needs) (λ c κs. omega arith) (λ c. c .before .before .before .before .before .before .before .loop .inv)
+    (λ c. search needs) (λ c. search needs) loop-again (λ c. c .before .loop .inv))

@@ -50,17 +50,5 @@ returns-2 c =
 
 pub find-after-spec : {M : Type 1} → statement M
 find-after-spec =
-    tie.close
-    (tie.spec
-    Inv-loop
-    μ-loop
-    (λ c κs. search needs)
-    loop-holds
-    (λ c. search needs)
-    holds-at-requires
-    returns
-    (λ c. search needs)
-    (λ c κs. search needs)
-    (λ c. search needs)
-    loop-again
-    returns-2)
+    tie.close (tie.spec Inv-loop μ-loop (λ c κs. search needs) loop-holds (λ c. search needs) holds-at-requires returns (λ c. search needs)
+    (λ c κs. search needs) (λ c. search needs) loop-again returns-2)

@@ -59,18 +59,7 @@ find-after-requires c κs =
     let here = search-next (holds (labelFrom (a .kind) (a .label)) (a .mac)) (holds-near (labelFrom (a .kind) (a .label)) (a .mac)) (a .t .now) 0 (none _ _) _ (c .before .holds-at .ensures) (c .if3 .left) in
     (omega arith, (c .before .before .key-of .ensures, (pair (c .before .before), here)))
 
-returns-4 : tie.Need-returns-4
-returns-4 c = c .find-after .ensures
-
 pub find-pair-spec : {M : Type 1} → statement M
 find-pair-spec =
-    tie.close
-    (tie.spec
-    (λ c κs. search needs)
-    returns
-    returns-2
-    (λ c κs. search needs)
-    holds-at-requires
-    returns-3
-    find-after-requires
-    returns-4)
+    tie.close (tie.spec (λ c κs. search needs) returns returns-2 (λ c κs. search needs) holds-at-requires returns-3 find-after-requires
+    (λ c. c .find-after .ensures))

@@ -52,15 +52,5 @@ returns-2 c =
 
 pub find-spoilt-spec : {M : Type 1} → statement M
 find-spoilt-spec =
-    tie.close
-    (tie.spec
-    Inv-loop
-    μ-loop
-    (λ c. search needs)
-    loop-holds
-    spoilt-at-requires
-    returns
-    (λ c. search needs)
-    (λ c. search needs)
-    loop-again
+    tie.close (tie.spec Inv-loop μ-loop (λ c. search needs) loop-holds spoilt-at-requires returns (λ c. search needs) (λ c. search needs) loop-again
     returns-2)

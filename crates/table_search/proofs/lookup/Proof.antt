@@ -34,15 +34,5 @@ returns-3 c = search (lookup-none, not-false)
 
 pub lookup-spec : {M : Type 1} → statement M
 lookup-spec =
-    tie.close
-    (tie.spec
-    (λ c κs. search needs)
-    returns
-    (λ c κs. search needs)
-    (λ c. search needs)
-    mul-nickname-at
-    nickname-at-requires
-    (λ c. search needs)
-    (λ c. search needs)
-    returns-2
-    returns-3)
+    tie.close (tie.spec (λ c κs. search needs) returns (λ c κs. search needs) (λ c. search needs) mul-nickname-at nickname-at-requires
+    (λ c. search needs) (λ c. search needs) returns-2 returns-3)

@@ -23,13 +23,4 @@ returns-3 c = search (spoilt-none, not-false)
 
 pub lowest-spoilt-spec : {M : Type 1} → statement M
 lowest-spoilt-spec =
-    tie.close
-    (tie.spec
-    (λ c κs. search needs)
-    returns
-    (λ c κs. search needs)
-    (λ c. search needs)
-    cast-t7
-    (λ c. search needs)
-    returns-2
-    returns-3)
+    tie.close (tie.spec (λ c κs. search needs) returns (λ c κs. search needs) (λ c. search needs) cast-t7 (λ c. search needs) returns-2 returns-3)

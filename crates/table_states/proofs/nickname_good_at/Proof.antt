@@ -16,5 +16,4 @@ returns-3 c = nickname-out _ _ (c .before .before .nickname-high-at .ensures) (c
 
 pub nickname-good-at-spec : {M : Type 1} → statement M
 nickname-good-at-spec =
-    tie.close
-    (tie.spec (λ c κs. search needs) returns (λ c κs. search needs) returns-2 returns-3)
+    tie.close (tie.spec (λ c κs. search needs) returns (λ c κs. search needs) returns-2 returns-3)

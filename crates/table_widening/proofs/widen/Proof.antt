@@ -29,13 +29,4 @@ returns-3 c =
 
 pub widen-spec : {M : Type 1} → statement M
 widen-spec =
-    tie.close
-    (tie.spec
-    (λ c κs. search needs)
-    returns
-    (λ c. search needs)
-    returns-2
-    (λ c κs. search needs)
-    cast-t11
-    (λ c. search needs)
-    returns-3)
+    tie.close (tie.spec (λ c κs. search needs) returns (λ c. search needs) returns-2 (λ c κs. search needs) cast-t11 (λ c. search needs) returns-3)

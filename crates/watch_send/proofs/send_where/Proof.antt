@@ -7,45 +7,8 @@ use borrow.Author.Needs.{needs}
 use Rattle.watch_send.proofs.send_where.Statement.{statement}
 use Rattle.watch_send.proofs.send_where.Tie as tie
 
-returns : tie.Need-returns
-returns c = search send-settings
-
-returns-2 : tie.Need-returns-2
-returns-2 c = search send-short
-
-returns-3 : tie.Need-returns-3
-returns-3 c = search stop-itself
-
-be6-requires : tie.Need-be6-requires
-be6-requires c κs = search dst-room
-
-returns-4 : tie.Need-returns-4
-returns-4 c = search stays-itself
-
-fill-compact-requires : tie.Need-fill-compact-requires
-fill-compact-requires c κs = (search parts-of, search (parts-short, parts-of), search needs)
-
-returns-5 : tie.Need-returns-5
-returns-5 c = search send-refused
-
-returns-6 : tie.Need-returns-6
-returns-6 c = search going-put
-
 pub send-where-spec : {M : Type 1} → statement M
 send-where-spec =
-    tie.close
-    (tie.spec
-    (λ c κs. search needs)
-    returns
-    returns-2
-    (λ c κs. search needs)
-    (λ c. search needs)
-    (λ c. search needs)
-    returns-3
-    be6-requires
-    (λ c κs. search needs)
-    returns-4
-    fill-compact-requires
-    returns-5
-    (λ c. search needs)
-    returns-6)
+    tie.close (tie.spec (λ c κs. search needs) (λ c. search send-settings) (λ c. search send-short) (λ c κs. search needs) (λ c. search needs)
+    (λ c. search needs) (λ c. search stop-itself) (λ c κs. search dst-room) (λ c κs. search needs) (λ c. search stays-itself)
+    (λ c κs. (search parts-of, search (parts-short, parts-of), search needs)) (λ c. search send-refused) (λ c. search needs) (λ c. search going-put))

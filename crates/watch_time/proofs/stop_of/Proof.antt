@@ -5,15 +5,6 @@ use borrow.Author.Needs.{needs}
 use Rattle.watch_time.proofs.stop_of.Statement.{statement}
 use Rattle.watch_time.proofs.stop_of.Tie as tie
 
-returns : tie.Need-returns
-returns c = search stop-native
-
-returns-2 : tie.Need-returns-2
-returns-2 c = search stop-bpdu
-
-returns-3 : tie.Need-returns-3
-returns-3 c = search stop-twice
-
 pub stop-of-spec : {M : Type 1} → statement M
 stop-of-spec =
-    tie.close (tie.spec returns (λ c κs. search needs) returns-2 (λ c κs. search needs) returns-3)
+    tie.close (tie.spec (λ c. search stop-native) (λ c κs. search needs) (λ c. search stop-bpdu) (λ c κs. search needs) (λ c. search stop-twice))

@@ -23,15 +23,5 @@ returns-4 c = search (why-because, not-false)
 
 pub explain-spec : {M : Type 1} → statement M
 explain-spec =
-    tie.close
-    (tie.spec
-    (λ c κs. search needs)
-    returns
-    returns-2
-    (λ c. search needs)
-    (λ c κs. search needs)
-    (λ c. search needs)
-    (λ c. search needs)
-    slot-reason-requires
-    returns-3
-    returns-4)
+    tie.close (tie.spec (λ c κs. search needs) returns returns-2 (λ c. search needs) (λ c κs. search needs) (λ c. search needs) (λ c. search needs)
+    slot-reason-requires returns-3 returns-4)

@@ -6,30 +6,8 @@ use borrow.Author.Needs.{needs}
 use Rattle.why_call.proofs.judge.Statement.{statement}
 use Rattle.why_call.proofs.judge.Tie as tie
 
-returns : tie.Need-returns
-returns c = search judged-short
-
-returns-2 : tie.Need-returns-2
-returns-2 c = search judged-nicks
-
-returns-4 : tie.Need-returns-4
-returns-4 c = search judged-cut
-
-returns-5 : tie.Need-returns-5
-returns-5 c = search (judged-blocks, blocks-alone)
-
 pub judge-spec : {M : Type 1} → statement M
 judge-spec =
-    tie.close
-    (tie.spec
-    returns
-    (λ c κs. search needs)
-    (λ c. search needs)
-    returns-2
-    (λ c κs. search needs)
-    (λ c κs. search needs)
-    (λ c. search needs)
-    (λ c. search needs)
-    (λ c. search needs)
-    returns-4
-    returns-5)
+    tie.close (tie.spec (λ c. search judged-short) (λ c κs. search needs) (λ c. search needs) (λ c. search judged-nicks) (λ c κs. search needs)
+    (λ c κs. search needs) (λ c. search needs) (λ c. search needs) (λ c. search needs) (λ c. search judged-cut)
+    (λ c. search (judged-blocks, blocks-alone)))

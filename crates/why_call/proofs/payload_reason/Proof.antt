@@ -5,24 +5,7 @@ use borrow.Author.Needs.{needs}
 use Rattle.why_call.proofs.payload_reason.Statement.{statement}
 use Rattle.why_call.proofs.payload_reason.Tie as tie
 
-learned-reason-requires : tie.Need-learned-reason-requires
-learned-reason-requires c κs = (search cut-few, (search cut-rest, search needs))
-
-returns : tie.Need-returns
-returns c = search cut-made
-
 pub payload-reason-spec : {M : Type 1} → statement M
 payload-reason-spec =
-    tie.close
-    (tie.spec
-    (λ c κs. search needs)
-    (λ c. search needs)
-    (λ c. search needs)
-    (λ c. search needs)
-    (λ c. search needs)
-    (λ c. search needs)
-    (λ c. search needs)
-    (λ c. search needs)
-    (λ c. search needs)
-    learned-reason-requires
-    returns)
+    tie.close (tie.spec (λ c κs. search needs) (λ c. search needs) (λ c. search needs) (λ c. search needs) (λ c. search needs) (λ c. search needs)
+    (λ c. search needs) (λ c. search needs) (λ c. search needs) (λ c κs. (search cut-few, (search cut-rest, search needs))) (λ c. search cut-made))

@@ -18,38 +18,8 @@ Inv-loop v x at₀ i₀ at i = (at ≤ length v) × ((i ≤ at) × (firstFrom (i
 abbrev μ-loop : tie.MeasureT-loop
 μ-loop v x at₀ i₀ at i = length v - at
 
-returns : tie.Need-returns Inv-loop μ-loop
-returns c = search block-below
-
-returns-2 : tie.Need-returns-2 Inv-loop μ-loop
-returns-2 c = search block-above
-
-loop-holds : tie.Need-loop-holds Inv-loop μ-loop
-loop-holds c = (search needs, (search needs, refl))
-
-returns-3 : tie.Need-returns-3 Inv-loop μ-loop
-returns-3 c = search block-hit
-
-loop-again : tie.Need-loop-again Inv-loop μ-loop
-loop-again c = (search needs, (search needs, search block-next))
-
-returns-4 : tie.Need-returns-4 Inv-loop μ-loop
-returns-4 c = search block-done
-
 pub block-place-spec : {M : Type 1} → statement M
 block-place-spec =
-    tie.close
-    (tie.spec
-    Inv-loop
-    μ-loop
-    returns
-    returns-2
-    loop-holds
-    (λ c. search needs)
-    (λ c κs. search needs)
-    returns-3
-    (λ c. search needs)
-    (λ c. search needs)
-    (λ c. search needs)
-    loop-again
-    returns-4)
+    tie.close (tie.spec Inv-loop μ-loop (λ c. search block-below) (λ c. search block-above) (λ c. (search needs, (search needs, refl)))
+    (λ c. search needs) (λ c κs. search needs) (λ c. search block-hit) (λ c. search needs) (λ c. search needs) (λ c. search needs)
+    (λ c. (search needs, (search needs, search block-next))) (λ c. search block-done))

@@ -1,6 +1,5 @@
 -- `why_places::four_apart` meets its contract: each of the four is passed over.
 -- Assumes nothing.
-use native.Mathlib.Omega.{arith}
 use Rattle.why_places.proofs.Apart.{four-true, four-left}
 use borrow.Author.Needs.{needs}
 use Rattle.why_places.proofs.four_apart.Statement.{statement}
@@ -18,15 +17,5 @@ returns c =
 
 pub four-apart-spec : {M : Type 1} → statement M
 four-apart-spec =
-    tie.close
-    (tie.spec
-    (λ c κs. search needs)
-    (λ c. search needs)
-    (λ c κs. search needs)
-    (λ c. search needs)
-    (λ c. search needs)
-    (λ c κs. search needs)
-    (λ c. search needs)
-    (λ c. search needs)
-    (λ c κs. search needs)
-    returns)
+    tie.close (tie.spec (λ c κs. search needs) (λ c. search needs) (λ c κs. search needs) (λ c. search needs) (λ c. search needs)
+    (λ c κs. search needs) (λ c. search needs) (λ c. search needs) (λ c κs. search needs) returns)

@@ -27,18 +27,5 @@ returns-5 c = search block-meant
 
 pub label-found-spec : {M : Type 1} → statement M
 label-found-spec =
-    tie.close
-    (tie.spec
-    (λ c κs. search needs)
-    (λ c. search needs)
-    (λ c. search needs)
-    returns
-    returns-2
-    returns-3
-    (λ c. search needs)
-    slice-aggregate-block-place
-    (λ c κs. search needs)
-    (λ c. search needs)
-    (λ c. search needs)
-    returns-4
-    returns-5)
+    tie.close (tie.spec (λ c κs. search needs) (λ c. search needs) (λ c. search needs) returns returns-2 returns-3 (λ c. search needs)
+    slice-aggregate-block-place (λ c κs. search needs) (λ c. search needs) (λ c. search needs) returns-4 returns-5)

@@ -18,9 +18,6 @@ Inv-loop nicks x at₀ i₀ at i = (at ≤ length nicks) × ((i ≤ at) × (firs
 abbrev μ-loop : tie.MeasureT-loop
 μ-loop nicks x at₀ i₀ at i = length nicks - at
 
-loop-holds : tie.Need-loop-holds Inv-loop μ-loop
-loop-holds c = (search needs, (search needs, refl))
-
 returns : tie.Need-returns Inv-loop μ-loop
 unfolding inList
 returns c = let some : 0 < 2 = omega arith in search part-hit
@@ -34,19 +31,5 @@ returns-2 c = let some : 0 < 2 = omega arith in search parts-done
 
 pub listed-place-spec : {M : Type 1} → statement M
 listed-place-spec =
-    tie.close
-    (tie.spec
-    Inv-loop
-    μ-loop
-    loop-holds
-    (λ c. search needs)
-    (λ c. search needs)
-    (λ c. search needs)
-    (λ c. search needs)
-    (λ c. search needs)
-    (λ c κs. search needs)
-    returns
-    (λ c. search needs)
-    (λ c. search needs)
-    loop-again
-    returns-2)
+    tie.close (tie.spec Inv-loop μ-loop (λ c. (search needs, (search needs, refl))) (λ c. search needs) (λ c. search needs) (λ c. search needs)
+    (λ c. search needs) (λ c. search needs) (λ c κs. search needs) returns (λ c. search needs) (λ c. search needs) loop-again returns-2)

@@ -15,25 +15,10 @@ Inv-loop v from w x at₀ at = ((from ≤ at) × (at ≤ length v)) × (leftHas 
 abbrev μ-loop : tie.MeasureT-loop
 μ-loop v from w x at₀ at = length v - at
 
-loop-holds : tie.Need-loop-holds Inv-loop μ-loop
-loop-holds c = ((search needs, search needs), refl)
-
 loop-again : tie.Need-loop-again Inv-loop μ-loop
 loop-again c = ((search needs, search needs), c .before .before .before .before .before .loop .inv .1 ∙ c .before .before .four-apart .ensures (not-false _ (c .before .if2 .left)))
 
 pub pass-apart-spec : {M : Type 1} → statement M
 pass-apart-spec =
-    tie.close
-    (tie.spec
-    Inv-loop
-    μ-loop
-    loop-holds
-    (λ c. search needs)
-    (λ c. search needs)
-    (λ c κs. search needs)
-    (λ c. search needs)
-    (λ c. search needs)
-    (λ c. search needs)
-    (λ c. search needs)
-    loop-again
-    (λ c. search needs))
+    tie.close (tie.spec Inv-loop μ-loop (λ c. ((search needs, search needs), refl)) (λ c. search needs) (λ c. search needs) (λ c κs. search needs)
+    (λ c. search needs) (λ c. search needs) (λ c. search needs) (λ c. search needs) loop-again (λ c. search needs))
