@@ -8,7 +8,7 @@ ghost use lib.ListN.{length, take};
 ghost use Rattle.table.specs.Slots.{mostSlots, slotsOf};
 ghost use Rattle.flush_sort.specs.Sorting.{Sorted};
 ghost use Rattle.report_keys.specs.Keys.{keysTo};
-ghost use Rattle.report_tally.specs.Tallies.{tallied, Tallies, OneMore};
+ghost use Rattle.report_tally.specs.Tallies.{tallied, Tallies, OneMore, placesNoted};
 ghost use Rattle.report_set.specs.Set.{setWords, setTallies, Noted};
 use report_keys::FREE_KEY;
 use report_set::SET_WORDS;
@@ -34,7 +34,7 @@ fn note_first(k: u32, s: &mut [u64]) -> bool
 
 // Counts a key once more: how many tallies there are then beside the set.
 fn add(k: u32, s: &mut [u64], tallies: &mut [u32], places: &mut [u16], n: usize) -> usize
-    requires { ⌜ ((k < 2 ^ 18) × ((length (now places) ≡ 1024) × (length (now s) ≡ setWords))) × ((n < length (now tallies)) × ((n < mostSlots) × (tallied k (take n (now tallies)) < mostSlots))) ⌝ }
+    requires { ⌜ ((k < 2 ^ 18) × ((length (now places) ≡ placesNoted) × (length (now s) ≡ setWords))) × ((n < length (now tallies)) × ((n < mostSlots) × (tallied k (take n (now tallies)) < mostSlots))) ⌝ }
     ensures { λ r. ⌜ (r + length (setTallies 0 (now (s .exit))) ≤ n + length (setTallies 0 (now (s .entry))) + 1) × OneMore k (take n (now (tallies .entry)) ++ setTallies 0 (now (s .entry))) (take r (now (tallies .exit)) ++ setTallies 0 (now (s .exit))) ⌝ }
 {
     if report_tally::count_on(k, tallies, places, n) {

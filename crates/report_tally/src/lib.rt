@@ -5,13 +5,13 @@ ghost use mathlib.Core.Bool.{true, false};
 ghost use mathlib.Core.Path.{_≡_};
 ghost use lib.ListN.{length, take, getD};
 ghost use Rattle.table.specs.Slots.{mostSlots};
-ghost use Rattle.report_tally.specs.Tallies.{tallyUnit, tallied, OneMore};
+ghost use Rattle.report_tally.specs.Tallies.{tallyUnit, tallied, OneMore, placesNoted};
 
 // A tally is a key and below it a count.
 pub const TALLY_UNIT: u32 = 0x2000;
 
 // The places that are noted.
-pub const PLACES: usize = 1024;
+pub const PLACES: usize = 2048;
 
 fn wide(n: u16) -> usize
     ensures { λ r. ⌜ (r ≡ n) × (r < 2 ^ 16) ⌝ }
@@ -32,7 +32,7 @@ fn counts_at(tallies: &[u32], e: usize, n: usize, k: u32) -> bool
 
 // Counts a key on in the tally at its place: whether that counts the key.
 pub fn count_on(k: u32, tallies: &mut [u32], places: &[u16], n: usize) -> bool
-    requires { ⌜ (k < 2 ^ 18) × ((length (now places) ≡ 1024) × ((n ≤ length (now tallies)) × (tallied k (take n (now tallies)) < mostSlots))) ⌝ }
+    requires { ⌜ (k < 2 ^ 18) × ((length (now places) ≡ placesNoted) × ((n ≤ length (now tallies)) × (tallied k (take n (now tallies)) < mostSlots))) ⌝ }
     ensures { λ r. ⌜ (r ≡ true → OneMore k (take n (now (tallies .entry))) (take n (now (tallies .exit)))) × (r ≡ false → now (tallies .exit) ≡ now (tallies .entry)) ⌝ }
 {
     if n == 0 {
@@ -48,7 +48,7 @@ pub fn count_on(k: u32, tallies: &mut [u32], places: &[u16], n: usize) -> bool
 
 // Counts a key in a new tally, and notes its place.
 pub fn count_new(k: u32, tallies: &mut [u32], places: &mut [u16], n: usize)
-    requires { ⌜ (k < 2 ^ 18) × ((length (now places) ≡ 1024) × ((n < length (now tallies)) × (n < mostSlots))) ⌝ }
+    requires { ⌜ (k < 2 ^ 18) × ((length (now places) ≡ placesNoted) × ((n < length (now tallies)) × (n < mostSlots))) ⌝ }
     ensures { λ _. ⌜ OneMore k (take n (now (tallies .entry))) (take (n + 1) (now (tallies .exit))) ⌝ }
 {
     tallies[n] = k * TALLY_UNIT + 1;
