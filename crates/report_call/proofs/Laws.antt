@@ -29,7 +29,7 @@ use Rattle.report.proofs.Lines.{SmallNickname, small-unpacked}
 use Rattle.report_keys.specs.Keys.{freeKey, spoiltKey, keyOf, keysTo, timesIn}
 use Rattle.report_keys.proofs.Laws.{pick-one, times-append, times-last}
 use Rattle.report_tally.specs.Tallies.{tallied, Tallies, SameTallies}
-use Rattle.report_tally.proofs.Laws.{length-keys}
+use Rattle.report_gather.proofs.Laws.{length-keys}
 use Rattle.report_rows.specs.Rows.{rowText, linesText}
 use Rattle.report_text.specs.Whole.{wholeText}
 

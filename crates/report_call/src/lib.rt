@@ -31,8 +31,11 @@ fn tally(table: &[u8], tallies: &mut [u32]) -> usize
     requires { ⌜ (slotsOf (now table) ≤ mostSlots) × (length (now tallies) ≡ mostSlots) ⌝ }
     ensures { λ r. ⌜ (r ≤ slotsOf (now (table .entry))) × (Sorted (take r (now (tallies .exit))) × Tallies (keysTo (slotsOf (now (table .entry))) (now (table .entry))) (take r (now (tallies .exit)))) ⌝ }
 {
-    let n = report_tally::gather(table, tallies);
-    report_order::order(&mut tallies[..n]);
+    let g = report_gather::gather(table, tallies);
+    let n = g.all;
+    if g.unsorted != 0 {
+        report_order::order(&mut tallies[..n]);
+    }
     n
 }
 

@@ -4,7 +4,7 @@ use Prim.Native.Nat.{ℕ, zero, suc, _+_, _-_, _*_, _/_, _%_, _^_, _<_, _≤_}
 use mathlib.Core.Bool.{Bool, true, false}
 use mathlib.Core.List.{List, [], _∷_, _++_, append-nil, append-assoc}
 use mathlib.Core.Path.{_≡_, refl, sym, ap, _∙_}
-use native.Mathlib.Nat.{zero-add, suc-add, mul-comm, div-div-eq-div-mul}
+use native.Mathlib.Nat.{zero-add, suc-add, mul-comm, mod-lt, div-div-eq-div-mul}
 use native.Mathlib.Decide.{decLt}
 use native.Mathlib.Numerals.{add-one}
 use native.Mathlib.Omega.{arith}
@@ -161,3 +161,41 @@ hexadecimal-word n v w m ev ew em =
     ap (bytesOf 4) (four-signs a b c d v w m (omega arith) (omega arith) (omega arith) (omega arith) ev ew em)
     ∙ hexadecimal-bytes n (0x30 + a + (a + 6) / 16 * 7) (0x30 + b + (b + 6) / 16 * 7) (0x30 + c + (c + 6) / 16 * 7) (0x30 + d + (d + 6) / 16 * 7)
     (sign-sum a (omega arith)) (sign-sum b (omega arith)) (sign-sum c (omega arith)) (sign-sum d (omega arith)) (omega arith) (omega arith) (omega arith) (omega arith)
+
+-- the two bytes of a number moved apart, and then the two digits of each
+high-of : (p q : ℕ) → p < 0x100 → q < 0x100 → (p * 0x1_0000 + q) / 0x10_0000 % 16 ≡ p / 16
+high-of p q hp hq = omega arith
+
+low-of : (p q : ℕ) → p < 0x100 → q < 0x100 → (p * 0x1_0000 + q) / 0x10 % 16 ≡ q / 16
+low-of p q hp hq = omega arith
+
+two-apart : (p q a b c d : ℕ) → p ≡ a * 16 + b → q ≡ c * 16 + d → p * 0x1_0000 + q + (a * 0x1_0000 + c) * 0xf0 ≡ a * 0x100_0000 + b * 0x1_0000 + c * 0x100 + d
+two-apart p q a b c d ep eq = omega arith
+
+-- the high byte and the low one, of two digits each
+high-byte : (n : ℕ) → n / 0x100 % 0x100 ≡ n / 0x1000 % 16 * 16 + n / 0x100 % 16
+high-byte n = omega arith
+
+low-byte : (n : ℕ) → n % 0x100 ≡ n / 0x10 % 16 * 16 + n % 16
+low-byte n = omega arith
+
+bytes-sum : (n : ℕ) → n % 0x1_0000 + n / 0x100 % 0x100 * 0xff00 ≡ n / 0x100 % 0x100 * 0x1_0000 + n % 0x100
+bytes-sum n = omega arith
+
+high-place : (p q a b : ℕ) → p ≡ a * 16 + b → a < 16 → b < 16 → q < 0x100 → (p * 0x1_0000 + q) / 0x10_0000 % 16 ≡ a
+high-place p q a b e ha hb hq = high-of p q (omega arith) hq ∙ omega arith
+
+low-place : (p q c d : ℕ) → q ≡ c * 16 + d → c < 16 → d < 16 → p < 0x100 → (p * 0x1_0000 + q) / 0x10 % 16 ≡ c
+low-place p q c d e hc hd hp = low-of p q hp (omega arith) ∙ omega arith
+
+pub digits-apart : (n v h : ℕ) → v ≡ n % 0x1_0000 + n / 0x100 % 0x100 * 0xff00 → h ≡ v / 0x10_0000 % 16 * 0x1_0000 + v / 0x10 % 16
+    → v + h * 0xf0 ≡ n / 0x1000 % 16 * 0x100_0000 + n / 0x100 % 16 * 0x1_0000 + n / 0x10 % 16 * 0x100 + n % 16
+digits-apart n v h ev eh =
+    rw (
+      eh,
+      ev,
+      bytes-sum n,
+      high-place (n / 0x100 % 0x100) (n % 0x100) (n / 0x1000 % 16) (n / 0x100 % 16) (high-byte n) (mod-lt _ (omega arith)) (mod-lt _ (omega arith)) (mod-lt _ (omega arith)),
+      low-place (n / 0x100 % 0x100) (n % 0x100) (n / 0x10 % 16) (n % 16) (low-byte n) (mod-lt _ (omega arith)) (mod-lt _ (omega arith)) (mod-lt _ (omega arith)),
+    )
+    (two-apart (n / 0x100 % 0x100) (n % 0x100) (n / 0x1000 % 16) (n / 0x100 % 16) (n / 0x10 % 16) (n % 16) (high-byte n) (low-byte n))

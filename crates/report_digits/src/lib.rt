@@ -71,14 +71,14 @@ pub fn put_hexadecimal(n: u64, out: &mut [u8], at: usize)
     put_hexadecimal_two(n, out, at + 2);
 }
 
-// The signs of a nickname as one number: a digit in each byte, then what stands before 0, and seven more for a letter.
+// The signs of a nickname as one number: a digit in each byte, then what stands before 0, and seven more for a letter. Its bytes are moved
+// apart, and then the digits of both.
 pub fn hexadecimal_word(n: u64) -> u64
     ensures { λ r. ⌜ (bytesOf 4 r ≡ hexadecimal n) × (r < 2 ^ 32) ⌝ }
 {
-    let digits = n / 0x1000 % 16 * 0x100_0000
-        + n / 0x100 % 16 * 0x1_0000
-        + n / 0x10 % 16 * 0x100
-        + n % 16;
+    let bytes = n % 0x1_0000 + n / 0x100 % 0x100 * 0xff00;
+    let high = bytes / 0x10_0000 % 16 * 0x1_0000 + bytes / 0x10 % 16;
+    let digits = bytes + high * 0xf0;
     let up = digits + 0x606_0606;
     let letters = up / 0x1000_0000 % 2 * 0x100_0000
         + up / 0x10_0000 % 2 * 0x1_0000

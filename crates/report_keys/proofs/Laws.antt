@@ -1,19 +1,26 @@
 -- Laws of keys: the key of a slot, and how often one stands in a list.
 -- Assumes nothing.
-use Prim.Native.Nat.{ℕ, _+_, _-_, _*_, _%_, _^_, _<_, _≤_}
-use mathlib.Core.Bool.{Bool, true, false, _||_}
+use Prim.Native.Nat.{ℕ, _+_, _-_, _*_, _/_, _%_, _^_, _<_, _≤_}
+use mathlib.Core.Bool.{Bool, true, false, not, _&&_, _||_}
 use mathlib.Core.List.{List, [], _∷_, _++_}
 use mathlib.Core.Path.{_≡_, refl, sym, ap, _∙_}
 use native.Mathlib.Decide.{ℕ-discrete}
 use native.Mathlib.Omega.{arith}
-use lib.Dec.{eqb, ltb}
-use lib.ListN.{length}
+use lib.Dec.{eqb, leb, ltb}
+use lib.ListN.{length, take, drop, getD}
+use lib.Seq.{getD-drop}
 use borrow.Author.Tests.{eq-eqb, ne-eqb, eqb-false, ltb-true, ltb-false}
+use Rattle.numbers.specs.Bytes.{AreBytes, num}
+use Rattle.numbers.specs.Ranges.{groupBit, nicknameGood}
 use Rattle.numbers.specs.Tests.{pick, both, between}
+use Rattle.numbers.proofs.Bytes.{num-one, num-add}
 use Rattle.numbers.proofs.Truth.{between-in, between-below, between-above}
-use Rattle.table.specs.Record.{recordOf, stateOf, nicknameOf, markOf, learnedState, configuredState, entryOf, entryGood, held, slotOf, markedSlot, unpacked, isFree}
+use Rattle.table.specs.Record.{recordBytes, recordOf, stateOf, macOf, nicknameOf, markOf, learnedState, configuredState, entryOf, entryGood, held, slotOf, markedSlot, unpacked, isFree}
 use Rattle.table.specs.Learning.{freeSlot}
+use Rattle.table.specs.Slots.{slotBytes}
 use Rattle.table.specs.declared.Slot.the-variants.{Free, Spoilt, Learned, Configured}
+use Rattle.table_fields.proofs.Laws.{part-of}
+use Rattle.table_states.proofs.Laws.{entry-vlan-0, entry-either, entry-nickname}
 use Rattle.report_keys.specs.Keys.{freeKey, spoiltKey, keyOf, timesIn}
 
 -- ---- the key of a slot
@@ -70,21 +77,79 @@ module _ (r : List ℕ) where
     unfolding unpacked markedSlot pick
     key-bad g eg h = rw (a-record, ← eg, h)
 
-    pub key-marked : (g : Bool) → g ≡ entryGood (entryOf (recordOf r)) → g ≡ true → (b : ℕ) → b ≡ markOf r → (b % 2 ^ 7 ≡ 0 → ⊥) → spoiltKey ≡ keyOf (unpacked r)
+    pub key-marked : (b : ℕ) → b % 2 ^ 7 ≡ markOf r % 2 ^ 7 → (b % 2 ^ 7 ≡ 0 → ⊥) → spoiltKey ≡ keyOf (unpacked r)
     unfolding unpacked markedSlot pick held
-    key-marked g eg h b eb some = rw (a-record, ← eg, h, ← eb) (go (eqb s learnedState))
+    key-marked b eb some = rw a-record (go (entryGood (entryOf (recordOf r))) (eqb s learnedState))
       where
-        go : (z : Bool) → spoiltKey ≡ keyOf (markedSlot b (pick z (Learned (entryOf (recordOf r))) (Configured (entryOf (recordOf r)))))
-        go true = rw (ne-eqb (b % 2 ^ 7) 0 some)
-        go false = rw (ne-eqb (b % 2 ^ 7) 0 some)
+        bad : eqb (markOf r % 2 ^ 7) 0 ≡ false
+        bad = ne-eqb (markOf r % 2 ^ 7) 0 (λ z. some (eb ∙ z))
 
-    pub key-record : (g : Bool) → g ≡ entryGood (entryOf (recordOf r)) → g ≡ true → (b : ℕ) → b ≡ markOf r → b % 2 ^ 7 ≡ 0 → (x : ℕ) → x ≡ nicknameOf (recordOf r) → x * 2 + (s - learnedState) ≡ keyOf (unpacked r)
+        go : (g z : Bool) → spoiltKey ≡ keyOf (markedSlot (markOf r) (pick g (pick z (Learned (entryOf (recordOf r))) (Configured (entryOf (recordOf r)))) Spoilt))
+        go false z = refl
+        go true true = rw bad
+        go true false = rw bad
+
+    pub key-record : (g : Bool) → g ≡ entryGood (entryOf (recordOf r)) → g ≡ true → (b : ℕ) → b % 2 ^ 7 ≡ markOf r % 2 ^ 7 → b % 2 ^ 7 ≡ 0 → (x : ℕ) → x ≡ nicknameOf (recordOf r) → x * 2 + (s - learnedState) ≡ keyOf (unpacked r)
     unfolding unpacked markedSlot pick held entryOf
-    key-record g eg h b eb none x ex = rw (a-record, ← eg, h, ← eb) (go (ℕ-discrete s learnedState))
+    key-record g eg h b eb none x ex = rw (a-record, ← eg, h) (go (ℕ-discrete s learnedState))
       where
-        go : Dec (s ≡ learnedState) → x * 2 + (s - learnedState) ≡ keyOf (markedSlot b (pick (eqb s learnedState) (Learned (entryOf (recordOf r))) (Configured (entryOf (recordOf r)))))
-        go (yes e) = rw (eq-eqb s learnedState e, eq-eqb (b % 2 ^ 7) 0 none, ← ex) (omega arith)
-        go (no e) = rw (ne-eqb s learnedState e, eq-eqb (b % 2 ^ 7) 0 none, ← ex) (omega arith)
+        fine : eqb (markOf r % 2 ^ 7) 0 ≡ true
+        fine = eq-eqb (markOf r % 2 ^ 7) 0 (sym eb ∙ none)
+
+        go : Dec (s ≡ learnedState) → x * 2 + (s - learnedState) ≡ keyOf (markedSlot (markOf r) (pick (eqb s learnedState) (Learned (entryOf (recordOf r))) (Configured (entryOf (recordOf r)))))
+        go (yes e) = rw (eq-eqb s learnedState e, fine, ← ex) (omega arith)
+        go (no e) = rw (ne-eqb s learnedState e, fine, ← ex) (omega arith)
+
+-- ---- the first bytes of a slot, and the last
+
+pub state-in : (head n : ℕ) → n < 2 ^ 112 → head ≡ n / 2 ^ 48 → head / 2 ^ 62 ≡ stateOf n
+state-in head n small is = omega arith
+
+pub mark-in : (tail n b : ℕ) → tail ≡ n % 2 ^ 56 * 2 ^ 8 + b → tail % 2 ^ 7 ≡ b % 2 ^ 7
+mark-in tail n b is = omega arith
+
+pub nickname-in : (tail n b : ℕ) → b < 2 ^ 8 → tail ≡ n % 2 ^ 56 * 2 ^ 8 + b → tail / 2 ^ 29 % 2 ^ 16 ≡ nicknameOf n
+nickname-in tail n b small is = omega arith
+
+pub mark-small : (l : List ℕ) (at : ℕ) → AreBytes l → markOf (drop at l) < 2 ^ 8
+mark-small l at bytes = rw (getD-drop at l recordBytes 0) (bytes (at + recordBytes))
+
+module _ (l : List ℕ) (at : ℕ) (bytes : AreBytes l) (room : at + slotBytes ≤ length l) where
+  mark-byte : getD l (at + recordBytes) 0 ≡ markOf (drop at l)
+  mark-byte = sym (getD-drop at l recordBytes 0)
+
+  pub tail-is : num (take 8 (drop (at + 7) l)) ≡ recordOf (drop at l) % 2 ^ 56 * 2 ^ 8 + markOf (drop at l)
+  tail-is =
+      let parts = num-add l (at + 7) 7 1 (omega arith) in
+      let fields : num (take 7 (drop (at + 7) l)) ≡ recordOf (drop at l) / 256 ^ 0 % 256 ^ 7 = part-of l at bytes 7 7 0 (omega arith) in
+      let place : at + 7 + 7 ≡ at + recordBytes = omega arith in
+      let last : num (take 1 (drop (at + 7 + 7) l)) ≡ markOf (drop at l) = rw place (num-one l (at + recordBytes) (omega arith) ∙ mark-byte) in
+      omega arith
+
+-- ---- the entry, by the first eight bytes
+
+module _ (n head x : ℕ) (small : n < 2 ^ 112) (is : head ≡ n / 2 ^ 48) (ex : x ≡ nicknameOf n) where
+  front-is : head / 2 ^ 32 % 2 ^ 30 ≡ n / 2 ^ 80 % 2 ^ 30
+  front-is = omega arith
+
+  group-is : head / 2 ^ 29 % 2 ≡ groupBit (macOf n)
+  group-is = omega arith
+
+  pub fields-vlan-0 : head / 2 ^ 32 % 2 ^ 30 < 2 ^ 5 → false ≡ entryGood (entryOf n)
+  fields-vlan-0 h = entry-vlan-0 n (head / 2 ^ 32 % 2 ^ 30) front-is h
+
+  pub fields-above : leb (0xFFF * 2 ^ 5) (head / 2 ^ 32 % 2 ^ 30) && leb (head / 2 ^ 32 % 2 ^ 30) (2 ^ 29 - 1) ≡ true → false ≡ entryGood (entryOf n)
+  fields-above h = entry-either n (head / 2 ^ 32 % 2 ^ 30) front-is (head / 2 ^ 29 % 2) group-is (go (not (eqb (head / 2 ^ 29 % 2) 0)) _ h)
+    where
+      go : (a b : Bool) → b ≡ true → a || b ≡ true
+      go true b e = refl
+      go false b e = e
+
+  pub fields-group : (head / 2 ^ 29 % 2 ≡ 0 → ⊥) → false ≡ entryGood (entryOf n)
+  fields-group h = entry-either n (head / 2 ^ 32 % 2 ^ 30) front-is (head / 2 ^ 29 % 2) group-is (rw (ne-eqb (head / 2 ^ 29 % 2) 0 h))
+
+  pub fields-nickname : 2 ^ 5 ≤ head / 2 ^ 32 % 2 ^ 30 → leb (0xFFF * 2 ^ 5) (head / 2 ^ 32 % 2 ^ 30) && leb (head / 2 ^ 32 % 2 ^ 30) (2 ^ 29 - 1) ≡ false → head / 2 ^ 29 % 2 ≡ 0 → (b : Bool) → b ≡ nicknameGood x → b ≡ entryGood (entryOf n)
+  fields-nickname low above none b e = entry-nickname n (head / 2 ^ 32 % 2 ^ 30) front-is low (head / 2 ^ 29 % 2) group-is (rw (eq-eqb (head / 2 ^ 29 % 2) 0 none) above) b (e ∙ ap nicknameGood ex)
 
 -- ---- counting
 

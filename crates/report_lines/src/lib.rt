@@ -35,6 +35,14 @@ fn put_short(x: u64, l: u64, c: u64, out: &mut [u8], at: usize) -> usize
     at + 9
 }
 
+// The line of a nickname with one learned record.
+pub fn put_single(x: u64, out: &mut [u8], at: usize) -> usize
+    requires { ⌜ at + length (rowText x 1 0) ≤ length (now out) ⌝ }
+    ensures { λ r. ⌜ (now (out .exit) ≡ pasted (now (out .entry)) at (rowText x 1 0)) × (r ≡ at + length (rowText x 1 0)) ⌝ }
+{
+    put_short(x, 1, 0, out, at)
+}
+
 // Eight bytes, as one move.
 fn put_word(v: u64, out: &mut [u8], at: usize)
     requires { ⌜ at + 8 ≤ length (now out) ⌝ }

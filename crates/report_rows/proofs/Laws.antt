@@ -2,24 +2,26 @@
 -- Assumes nothing.
 use Prim.{tt}
 use Prim.Native.Nat.{ℕ, zero, suc, _+_, _-_, _*_, _/_, _%_, _^_, _<_, _≤_}
-use mathlib.Core.Bool.{Bool, true, false}
+use mathlib.Core.Bool.{Bool, true, false, not, _||_}
 use mathlib.Core.List.{List, [], _∷_, _++_, append-nil}
 use mathlib.Core.Path.{_≡_, refl, sym, ap, _∙_}
 use native.Mathlib.Decide.{ℕ-discrete, decLt}
 use native.Mathlib.Nat.{le-trans}
 use native.Mathlib.Numerals.{add-one}
 use native.Mathlib.Omega.{arith}
-use lib.Dec.{eqb}
+use lib.Dec.{eqb, leb}
 use lib.ListN.{length, take, drop, getD, length-append, take-append-drop, length-drop, drop-of-length-le}
 use lib.Seq.{drop-cons, getD-drop, take-length}
-use borrow.Author.Tests.{eq-eqb, ne-eqb}
+use borrow.Author.Tests.{eq-eqb, ne-eqb, eqb-true, eqb-false, leb-false, not-true}
 use Rattle.numbers.specs.Tests.{pick}
 use Rattle.flush_sort.specs.Sorting.{All, Sorted}
 use Rattle.flush_sort.proofs.Laws.{all-at, all-first, take-last}
+use Rattle.report.specs.Report.{nicknameEnd}
+use Rattle.report_keys.specs.Keys.{freeKey}
 use Rattle.report_tally.specs.Tallies.{tallyUnit, countedBy, tallied}
 use Rattle.report_tally.proofs.Laws.{tallied-append, tallied-last}
 use Rattle.report_rows.specs.declared.Row.{Row}
-use Rattle.report_rows.specs.Rows.{rowUnit, rowText, linesText, RowAt, DoneAt}
+use Rattle.report_rows.specs.Rows.{rowUnit, rowText, linesText, RowAt, DoneAt, singleRow}
 
 -- ---- what a tally counts
 
@@ -136,6 +138,30 @@ module _ (v : List ℕ) (i : ℕ) (s : Sorted v) (x : ℕ) (ex : x ≡ getD v i 
 
     pub row-last : length v ≤ j → RowAt v i (record { nickname = x; learned = l; configured = c; next = j })
     row-last h = row-of (all-none (λ t. x + 1 ≤ t / rowUnit) v j h)
+
+-- ---- a row of one tally
+
+pub single-tests : (t : ℕ) → not (eqb (t % rowUnit) 1) || leb freeKey (t / tallyUnit) ≡ false → (t % rowUnit ≡ 1) × (t / rowUnit < nicknameEnd)
+single-tests t h = go (eqb (t % rowUnit) 1) (leb freeKey (t / tallyUnit)) refl refl h
+  where
+    go : (a b : Bool) → eqb (t % rowUnit) 1 ≡ a → leb freeKey (t / tallyUnit) ≡ b → not a || b ≡ false → (t % rowUnit ≡ 1) × (t / rowUnit < nicknameEnd)
+    go false b e f g = let z : _≡_ {A = ℕ} 0 1 = cc in absurd (omega arith)
+    go true true e f g = let z : _≡_ {A = ℕ} 0 1 = cc in absurd (omega arith)
+    go true false e f g = let one = eqb-true (t % rowUnit) 1 e in let few = leb-false freeKey (t / tallyUnit) f in (omega arith, omega arith)
+
+counts-one : (t : ℕ) → t % rowUnit ≡ 1 → 1 ≡ countedBy (t / rowUnit * 2) t
+unfolding pick
+counts-one t e =
+    let key : t / tallyUnit ≡ t / rowUnit * 2 = omega arith in
+    let count : t % tallyUnit ≡ 1 = omega arith in
+    rw (eq-eqb (t / tallyUnit) (t / rowUnit * 2) key, count)
+
+pub single-row : (v : List ℕ) (i : ℕ) → Sorted v → i + 1 < length v → getD v i 0 % rowUnit ≡ 1 → not (eqb (getD v (i + 1) 0 / rowUnit) (getD v i 0 / rowUnit)) ≡ true → RowAt v i (singleRow (getD v i 0) i)
+single-row v i s h one other =
+    let t : ℕ = getD v i 0 in
+    let none : 0 ≡ countedBy (getD v i 0 / rowUnit * 2 + 1) (getD v i 0) = sym (counts-not (getD v i 0 / rowUnit * 2 + 1) (getD v i 0) (λ z. omega arith)) in
+    let start = row-start v i s (getD v i 0 / rowUnit) refl (omega arith) 1 0 (counts-one (getD v i 0) one) (omega arith) none (omega arith) in
+    row-ends v i s (getD v i 0 / rowUnit) refl 1 0 (i + 1) start h (getD v (i + 1) 0 / rowUnit) refl (eqb-false (getD v (i + 1) 0 / rowUnit) (getD v i 0 / rowUnit) (not-true _ other))
 
 -- ---- a key past those of all nicknames
 

@@ -38,3 +38,7 @@ pub record RowAt (v : List ℕ) (i : ℕ) (r : Row) : Type 0 where
 pub record DoneAt (b i : ℕ) (v : List ℕ) : Type 0 where
   pub done : All (λ t. t / rowUnit < b) (take i v)
   pub left : All (λ t. b ≤ t / rowUnit) (drop i v)
+
+-- the row of tally t at place i, where that alone counts one learned record
+abbrev pub singleRow : ℕ → ℕ → Row
+singleRow t i = record { nickname = t / rowUnit; learned = 1; configured = 0; next = i + 1 }

@@ -1,13 +1,15 @@
 // The rows of a report, from tallies that are sorted: the two counts of a nickname, and how often a key past all nicknames was met.
 ghost use Prim.Native.Nat.{_+_, _*_, _/_, _%_, _^_, _<_, _≤_};
+ghost use mathlib.Core.Bool.{true};
 ghost use mathlib.Core.Path.{_≡_};
-ghost use lib.ListN.{length};
+ghost use lib.ListN.{length, getD};
 ghost use Rattle.numbers.specs.Tests.{pick};
 ghost use Rattle.table.specs.Slots.{mostSlots};
 ghost use Rattle.flush_sort.specs.Sorting.{Sorted};
+ghost use Rattle.report.specs.Report.{nicknameEnd};
 ghost use Rattle.report_keys.specs.Keys.{freeKey};
 ghost use Rattle.report_tally.specs.Tallies.{tallyUnit, countedBy, tallied};
-ghost use Rattle.report_rows.specs.Rows.{rowUnit, RowAt};
+ghost use Rattle.report_rows.specs.Rows.{rowUnit, RowAt, singleRow};
 use report_keys::FREE_KEY;
 use report_tally::TALLY_UNIT;
 
@@ -42,7 +44,7 @@ fn configured_of(t: u32) -> u64
     count_if(t / TALLY_UNIT % 2 == 1, t)
 }
 
-fn nickname_of(t: u32) -> u64
+pub fn nickname_of(t: u32) -> u64
     ensures { λ r. ⌜ (r ≡ t / rowUnit) × (r < 2 ^ 18) ⌝ }
 {
     (t / ROW_UNIT) as u64
@@ -76,6 +78,22 @@ pub fn row_at(v: &[u32], i: usize) -> Row
         configured: c,
         next: j,
     }
+}
+
+// Whether the row that starts at a place is one tally, of one learned record.
+pub fn single_at(v: &[u32], i: usize) -> bool
+    requires { ⌜ (i < length (now v)) × Sorted (now v) ⌝ }
+    ensures { λ r. ⌜ (r ≡ true → (getD (now (v .entry)) i 0 / rowUnit < nicknameEnd) × RowAt (now (v .entry)) i (singleRow (getD (now (v .entry)) i 0) i)) ⌝ }
+{
+    let t = v[i];
+    let j = i + 1;
+    if (t % ROW_UNIT != 1) | (FREE_KEY <= t / TALLY_UNIT) {
+        return false;
+    }
+    if v.len() <= j {
+        return false;
+    }
+    v[j] / ROW_UNIT != t / ROW_UNIT
 }
 
 // How often the tallies count a key past those of all nicknames: theirs are the last.

@@ -1,23 +1,17 @@
--- Laws of tallies: a list made longer, a tally counted on, and the keys of a table.
+-- Laws of tallies: a list made longer, a tally counted on.
 -- Assumes nothing.
-use Prim.Native.Nat.{ℕ, zero, suc, _+_, _*_, _/_, _%_, _^_, _<_, _≤_}
+use Prim.Native.Nat.{ℕ, zero, suc, _+_, _*_, _/_, _%_, _<_, _≤_}
 use mathlib.Core.Bool.{Bool, true, false}
 use mathlib.Core.List.{List, [], _∷_, _++_}
-use mathlib.Core.Path.{_≡_, refl, sym, ap, _∙_}
-use native.Mathlib.Decide.{ℕ-discrete}
+use mathlib.Core.Path.{_≡_, refl, ap}
 use native.Mathlib.Numerals.{add-one}
 use native.Mathlib.Omega.{arith}
 use lib.Dec.{eqb}
-use lib.ListN.{length, take, drop, getD, set, length-append}
+use lib.ListN.{length, take, getD, set}
 use lib.Seq.{take-suc-set}
-use borrow.Author.Tests.{eq-eqb, ne-eqb}
+use borrow.Author.Tests.{eq-eqb}
 use Rattle.numbers.specs.Tests.{pick}
-use Rattle.table.specs.Record.{unpacked}
-use Rattle.table.specs.Slots.{slotBytes, slotAt}
-use Rattle.table.proofs.Contents.{unpacked-near}
-use Rattle.report_keys.specs.Keys.{keyOf, keysTo, timesIn}
-use Rattle.report_keys.proofs.Laws.{times-append, times-last, times-few}
-use Rattle.report_tally.specs.Tallies.{tallyUnit, countedBy, tallied, Tallies}
+use Rattle.report_tally.specs.Tallies.{tallyUnit, countedBy, tallied, OneMore}
 
 pub tallied-append : (k : ℕ) (a b : List ℕ) → tallied k (a ++ b) ≡ tallied k a + tallied k b
 unfolding tallied
@@ -57,7 +51,7 @@ one-more j k t e h =
     go true = refl
     go false = refl
 
-a-new : (j k : ℕ) → countedBy j (k * tallyUnit + 1) ≡ pick (eqb k j) 1 0
+pub a-new : (j k : ℕ) → countedBy j (k * tallyUnit + 1) ≡ pick (eqb k j) 1 0
 a-new j k =
     let q : (k * tallyUnit + 1) / tallyUnit ≡ k = omega arith in
     let s : (k * tallyUnit + 1) % tallyUnit ≡ 1 = omega arith in
@@ -72,39 +66,11 @@ module _ (l : List ℕ) (n k : ℕ) where
       let here : countedBy k (getD l e 0) ≡ getD l e 0 % tallyUnit = rw (eq-eqb (getD l e 0 / tallyUnit) k is) in
       omega arith
 
-  pub counted-on : (e : ℕ) → e < n → e < length l → getD l e 0 / tallyUnit ≡ k → getD l e 0 % tallyUnit + 1 < tallyUnit → (j : ℕ) → tallied j (take n (set l e (getD l e 0 + 1))) ≡ tallied j (take n l) + pick (eqb k j) 1 0
+  pub counted-on : (e : ℕ) → e < n → e < length l → getD l e 0 / tallyUnit ≡ k → getD l e 0 % tallyUnit + 1 < tallyUnit → OneMore k (take n l) (take n (set l e (getD l e 0 + 1)))
   counted-on e h g is room j =
       let change = tallied-set j (getD l e 0 + 1) l n e h g in
       let more = one-more j k (getD l e 0) is room in
       omega arith
 
-  pub counted-new : n < length l → (j : ℕ) → tallied j (take (n + 1) (set l n (k * tallyUnit + 1))) ≡ tallied j (take n l) + pick (eqb k j) 1 0
+  pub counted-new : n < length l → OneMore k (take n l) (take (n + 1) (set l n (k * tallyUnit + 1)))
   counted-new h j = rw (add-one n, take-suc-set l n (k * tallyUnit + 1) h, tallied-append j (take n l) ((k * tallyUnit + 1) ∷ []), tallied-last j (k * tallyUnit + 1), a-new j k)
-
--- ---- the keys of a table
-
-pub none-yet : (t l : List ℕ) → Tallies (keysTo 0 t) (take 0 l)
-unfolding keysTo timesIn tallied
-none-yet t l k = refl
-
-pub length-keys : (n : ℕ) (t : List ℕ) → length (keysTo n t) ≡ n
-unfolding keysTo
-length-keys zero t = refl
-length-keys (suc n) t = length-append (keysTo n t) _ ∙ let r = length-keys n t in omega arith
-
--- none is counted more often than there are keys
-pub few-counted : (t l : List ℕ) (i n k : ℕ) → Tallies (keysTo i t) (take n l) → tallied k (take n l) ≤ i
-few-counted t l i n k so-far =
-    let e = so-far k in
-    let f = times-few k (keysTo i t) in
-    let g = length-keys i t in
-    omega arith
-
-pub slot-counted : (t l m : List ℕ) (i n r v : ℕ) → Tallies (keysTo i t) (take n l) → v ≡ keyOf (unpacked (drop (slotBytes * i) t)) → ((j : ℕ) → tallied j (take r m) ≡ tallied j (take n l) + pick (eqb v j) 1 0) → Tallies (keysTo (i + 1) t) (take r m)
-unfolding keysTo
-slot-counted t l m i n r v so-far ev one k =
-    let was = so-far k in
-    let now = one k in
-    let next : timesIn k (keysTo (i + 1) t) ≡ timesIn k (keysTo i t) + pick (eqb v k) 1 0 =
-    rw (add-one i, times-append k (keysTo i t) (keyOf (unpacked (slotAt i t)) ∷ []), times-last k (keyOf (unpacked (slotAt i t))), ev, unpacked-near (drop (slotBytes * i) t)) in
-    omega arith

@@ -27,3 +27,11 @@ Tallies keys ts = (k : ℕ) → tallied k ts ≡ timesIn k keys
 -- both lists count every key as often
 abbrev pub SameTallies : List ℕ → List ℕ → Type 0
 SameTallies a b = (k : ℕ) → tallied k a ≡ tallied k b
+
+-- the list b counts the key k once more than the list a, and every other as often
+abbrev pub OneMore : ℕ → List ℕ → List ℕ → Type 0
+OneMore k a b = (j : ℕ) → tallied j b ≡ tallied j a + pick (eqb k j) 1 0
+
+-- so many places are noted
+abbrev pub placesNoted : ℕ
+placesNoted = 2048

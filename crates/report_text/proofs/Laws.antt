@@ -7,7 +7,7 @@ use mathlib.Core.Path.{_≡_, refl, sym, ap, _∙_}
 use native.Mathlib.Nat.{zero-add}
 use native.Mathlib.Omega.{arith}
 use lib.Dec.{leb}
-use lib.ListN.{length, take, drop, length-append, take-append-drop}
+use lib.ListN.{length, take, drop, length-append, take-append-drop, getD}
 use borrow.Author.Tests.{le-leb, lt-leb}
 use Rattle.numbers.specs.Tests.{pick}
 use Rattle.numbers.specs.Result.{check, settled}
@@ -24,7 +24,7 @@ use Rattle.report.proofs.Digits.{length-digits, length-decimal, width-most, len
 use Rattle.report_digits.proofs.Laws.{then-pasted}
 use Rattle.flush_sort.specs.Sorting.{Sorted}
 use Rattle.report_rows.specs.declared.Row.{Row}
-use Rattle.report_rows.specs.Rows.{rowUnit, rowText, linesText, RowAt, DoneAt}
+use Rattle.report_rows.specs.Rows.{rowUnit, rowText, linesText, RowAt, DoneAt, singleRow}
 use Rattle.report_rows.proofs.Laws.{all-map}
 use Rattle.report_rows.proofs.Lines.{lines-rest, lines-end, done-none, none-done, row-left, done-next, row-lines, lines-more}
 use Rattle.report_lines.proofs.Laws.{pasted-none}
@@ -96,6 +96,13 @@ module _ (v : List ℕ) where
 
     pub put-done : (o o₁ : List ℕ) → o₁ ≡ pasted o 0 (linesText (so .below) v) → length v ≤ i → o₁ ≡ pasted o 0 (linesText nicknameEnd v)
     put-done o o₁ first h = first ∙ ap (pasted o 0) (lines-end v i (so .below) (so .done .done) nicknameEnd (so .low) h)
+
+-- a row of one learned record, by its nickname
+abbrev pub singleNamed : ℕ → ℕ → Row
+singleNamed x i = record { nickname = x; learned = 1; configured = 0; next = i + 1 }
+
+pub single-named : (v : List ℕ) (i x : ℕ) → x ≡ getD v i 0 / rowUnit → (getD v i 0 / rowUnit < nicknameEnd) × RowAt v i (singleRow (getD v i 0) i) → (x < nicknameEnd) × RowAt v i (singleNamed x i)
+single-named v i x e single = rw e single
 
 pub put-none : (o v : List ℕ) → (so : SoLong v 0 0) × (o ≡ pasted o 0 (linesText (so .below) v))
 put-none o v =

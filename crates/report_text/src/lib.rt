@@ -65,12 +65,17 @@ fn put_lines(v: &[u32], out: &mut [u8]) -> usize
     let mut at = 0;
     let mut i = 0;
     while i < v.len() {
-        let r = report_rows::row_at(v, i);
-        if NICKNAME_END <= r.nickname {
-            return at;
+        if report_rows::single_at(v, i) {
+            at = report_lines::put_single(report_rows::nickname_of(v[i]), out, at);
+            i += 1;
+        } else {
+            let r = report_rows::row_at(v, i);
+            if NICKNAME_END <= r.nickname {
+                return at;
+            }
+            at = report_lines::put_line(r.nickname, r.learned, r.configured, out, at);
+            i = r.next;
         }
-        at = report_lines::put_line(r.nickname, r.learned, r.configured, out, at);
-        i = r.next;
     }
     at
 }

@@ -2,13 +2,13 @@
 -- Assumes nothing.
 use mathlib.Core.Path.{refl}
 use native.Mathlib.Omega.{arith}
-use Rattle.report_digits.proofs.Laws.{hexadecimal-word}
+use Rattle.report_digits.proofs.Laws.{hexadecimal-word, digits-apart}
 use borrow.Author.Needs.{needs}
 use Rattle.report_digits.proofs.hexadecimal_word.Statement.{statement}
 use Rattle.report_digits.proofs.hexadecimal_word.Tie as tie
 
 returns : tie.Need-returns
-returns c = (hexadecimal-word (c .args .n) _ _ _ refl refl refl, omega arith)
+returns c = (hexadecimal-word (c .args .n) _ _ _ (digits-apart (c .args .n) _ _ refl refl) refl refl, omega arith)
 
 pub hexadecimal-word-spec : {M : Type 1} → statement M
 hexadecimal-word-spec =
