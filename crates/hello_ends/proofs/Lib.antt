@@ -4,3 +4,4 @@ pub mod Shapes
 pub mod Judged
 pub mod Many
 pub mod Sums
+pub mod Good

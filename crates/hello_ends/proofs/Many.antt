@@ -18,7 +18,7 @@ use Rattle.hello_ends.specs.Below.{takeBelow}
 use Rattle.hello_ends.proofs.Numbers.{numbers-length, below-none, below-good, below-bad, suffix-below}
 use Rattle.hello_ends.proofs.Shapes.{nick-end, label-on, suffix-item, many-next, many-done, item-8, item-23}
 
-inside-or : (k n : ℕ) (P : Type 0) → (k ≤ n → P) → (n < k → P) → P
+pub inside-or : (k n : ℕ) (P : Type 0) → (k ≤ n → P) → (n < k → P) → P
 inside-or k n P a b = go (leb k n) refl
   where
     go : (c : Bool) → leb k n ≡ c → P
@@ -217,28 +217,16 @@ many-same p sp q sq ns e (suc m) i =
     reach-next p sp ns m i ∙ many-same p sp q sq ns e m (reach p ns i) ∙ ap (reach (takeMany q m) ns) (e i) ∙ sym (reach-next q sq ns m i)
 
 module _ (k : ℕ) (ns : List ℕ) (m i r : ℕ) where
-  pub items-6 : k ≡ 6 → r ≡ reach (takeMany (takeItem 6) m) ns i → r ≡ reach (takeMany (takeItem k) m) ns i
-  items-6 e f = rw e f
-
   pub items-8 : k ≡ 8 → r ≡ reach (takeMany (takeBelow 65536) m) ns i → r ≡ reach (takeMany (takeItem k) m) ns i
   items-8 e f = f ∙ many-same (takeBelow 65536) (suffix-below 65536) (takeItem k) (suffix-item k) ns (λ j. item-8 k ns j _ e refl) m i
 
   pub items-23 : (k ≡ 6 → ⊥) → (k ≡ 8 → ⊥) → r ≡ reach (takeMany (takeBelow 281474976710656) m) ns i → r ≡ reach (takeMany (takeItem k) m) ns i
   items-23 d e f = f ∙ many-same (takeBelow 281474976710656) (suffix-below 281474976710656) (takeItem k) (suffix-item k) ns (λ j. item-23 k ns j _ d e refl) m i
 
--- ---- their most
-
-pub most-records : (k m : ℕ) → k ≡ 6 → m ≤ mostOf k → m ≤ 49
-unfolding pick
-most-records k m e h = let x : mostOf k ≡ 49 = rw e in omega arith
-
-pub most-numbers : (k m : ℕ) → (k ≡ 6 → ⊥) → m ≤ mostOf k → m ≤ 123
-unfolding pick
-most-numbers k m d h = let x : mostOf k ≡ pick (eqb k 8) 123 41 = rw (ne-eqb k 6 d) in go (eqb k 8) (omega arith)
-  where
-    go : (c : Bool) → m ≤ pick c 123 41 → m ≤ 123
-    go true g = g
-    go false g = omega arith
+-- ---- places
 
 pub place-fits : (area : List ℕ) (i k n : ℕ) → i + k ≤ length (numbersIn area) → length area < 2 ^ 64 → n ≤ k → i + n < 2 ^ 64
 place-fits area i k n h big g = let l = numbers-length area in omega arith
+
+pub item-fits : (area : List ℕ) (i m j : ℕ) → i + m ≤ length (numbersIn area) → length area < 2 ^ 64 → j < m → i + j < 2 ^ 64
+item-fits area i m j h big g = let l = numbers-length area in omega arith

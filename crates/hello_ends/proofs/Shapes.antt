@@ -170,18 +170,6 @@ module _ (k : ℕ) (ns : List ℕ) (i n : ℕ) (en : n ≡ length ns) where
         e ∙ reach-in (takeMany (takeItem k) m) ns (i + 1) (omega arith)
         ∙ sym (reach-in (takeList k) ns i (omega arith) ∙ rw (here ns i (omega arith), ← em, le-leb m (mostOf k) (omega arith)) (value-lost ns (takeMany (takeItem k) m (drop (i + 1) ns)) (flatMap (λ (b : List ℕ). b))))
 
-pub most-6 : (k : ℕ) → k ≡ 6 → 49 ≡ mostOf k
-unfolding pick
-most-6 k e = rw e
-
-pub most-8 : (k : ℕ) → k ≡ 8 → 123 ≡ mostOf k
-unfolding pick
-most-8 k e = rw e
-
-pub most-23 : (k : ℕ) → (k ≡ 6 → ⊥) → (k ≡ 8 → ⊥) → 41 ≡ mostOf k
-unfolding pick
-most-23 k a b = rw (ne-eqb k 6 a, ne-eqb k 8 b)
-
 -- ---- Smart-Parameters
 
 params-is : (l : List ℕ) → takeHead 22 l ≡ andThen (takeOne l) λ t. Pair (λ n. ltb n 65536) (λ n. n) takeOne only-one (λ n. ltb n 65536) (λ n. n) (λ x y. parametersBytes (record { holding = x; flags = y })) (t .value) (takeOne (t .rest))
@@ -246,12 +234,6 @@ top-vlan f d = rw (ne-eqb f 1 d)
 -- ---- the head of an entry, and an entry
 
 module _ (k : ℕ) (ns : List ℕ) (i : ℕ) where
-  pub head-22 : k ≡ 22 → (r : ℕ) → r ≡ reach (takeHead 22) ns i → r ≡ reach (takeHead k) ns i
-  head-22 e r f = f ∙ ap (λ (n : ℕ). reach (takeHead n) ns i) (sym e)
-
-  pub head-6-over : (k ≡ 22 → ⊥) → k ≡ 6 → (n : ℕ) → n ≡ length ns → n < i → n + 1 ≡ reach (takeHead k) ns i
-  head-6-over d e n en h = let a = reach-over (takeHead k) ns i (omega arith) in omega arith
-
   pub head-6 : (k ≡ 22 → ⊥) → k ≡ 6 → (n : ℕ) → n ≡ length ns → i ≤ n → i ≡ reach (takeHead k) ns i
   unfolding takeHead pick
   head-6 d e n en h =
@@ -261,10 +243,6 @@ module _ (k : ℕ) (ns : List ℕ) (i : ℕ) where
   pub head-8 : (k ≡ 22 → ⊥) → (k ≡ 6 → ⊥) → k ≡ 8 → (r : ℕ) → r ≡ reach (takeBelow 65536) ns i → r ≡ reach (takeHead k) ns i
   unfolding takeHead pick
   head-8 a b e r f = f ∙ rw e (sym (single-end 2 65536 ns i))
-
-  pub head-23 : (k ≡ 22 → ⊥) → (k ≡ 6 → ⊥) → (k ≡ 8 → ⊥) → (r : ℕ) → r ≡ reach (takeHead 23) ns i → r ≡ reach (takeHead k) ns i
-  unfolding takeHead pick
-  head-23 a b d r f = f ∙ rw (ne-eqb k 22 a, ne-eqb k 6 b, ne-eqb k 8 d)
 
   pub entry-22 : k ≡ 22 → (h : ℕ) → h ≡ reach (takeHead k) ns i → h ≡ reach (takeSub k) ns i
   unfolding takeSub pick then

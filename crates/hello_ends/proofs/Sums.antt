@@ -5,9 +5,9 @@ use mathlib.Core.Bool.{Bool, true, false}
 use mathlib.Core.List.{List}
 use mathlib.Core.Path.{_≡_, refl, sym, ap, _∙_}
 use native.Mathlib.Omega.{arith}
-use lib.Dec.{eqb}
+use lib.Dec.{leb, eqb}
 use lib.ListN.{length, take, drop, getD}
-use borrow.Author.Tests.{ne-eqb, eqb-true, eqb-false}
+use borrow.Author.Tests.{ne-eqb, eqb-true, eqb-false, le-leb, lt-leb}
 use Rattle.numbers.specs.Tests.{either}
 use Rattle.numbers.specs.Bytes.{num}
 use Rattle.numbers.specs.Swapped.{swapped4}
@@ -15,8 +15,7 @@ use Rattle.numbers.proofs.Bytes.{num-add}
 use Rattle.hello.specs.Area.{takeMany}
 use Rattle.hello_area.specs.Entries.{numbersIn, reach}
 use Rattle.hello_ends.specs.Below.{takeBelow, fieldTop, Over}
-use Rattle.hello_ends.proofs.Numbers.{numbers-length, number-is, suffix-below}
-use Rattle.hello_ends.proofs.Shapes.{many-start, many-done}
+use Rattle.hello_ends.proofs.Numbers.{numbers-length, number-is}
 use Rattle.hello_ends.proofs.Many.{numbers-bad, numbers-next, numbers-done}
 
 -- ---- one number
@@ -172,13 +171,16 @@ module _ (ns : List ℕ) (i m top n : ℕ) where
             let ds = eqb-false s 0 ex in
             record { none = λ q. absurd (ds (omega arith)); some = λ d. inv .some ds }
 
-    pub sums-good : (s j : ℕ) → Sums s j → m ≤ j → j ≤ m → s ≡ 0 → i + m ≡ reach (takeMany (takeBelow top) m) ns i
-    sums-good s j inv h g z =
-        let e : j ≡ m = omega arith in
-        ap (λ (x : ℕ). i + x) (sym e) ∙ numbers-done ns i m top n en room j (i + j) (inv .none z) refl h g
-
-  pub sums-bad : (s j : ℕ) → Sums s j → (s ≡ 0 → ⊥) → n + 1 ≡ reach (takeMany (takeBelow top) m) ns i
-  sums-bad s j inv d = inv .some d
+    pub sums-test : (s j : ℕ) → Sums s j → m ≤ j → j ≤ m → eqb s 0 ≡ leb (reach (takeMany (takeBelow top) m) ns i) (length ns)
+    sums-test s j inv h g = go (eqb s 0) refl
+      where
+        go : (c : Bool) → eqb s 0 ≡ c → c ≡ leb (reach (takeMany (takeBelow top) m) ns i) (length ns)
+        go true e =
+            let l = numbers-done ns i m top n en room j (i + j) (inv .none (eqb-true s 0 e)) refl h g in
+            sym (le-leb (reach (takeMany (takeBelow top) m) ns i) (length ns) (omega arith))
+        go false e =
+            let l = inv .some (eqb-false s 0 e) in
+            sym (lt-leb (reach (takeMany (takeBelow top) m) ns i) (length ns) (omega arith))
 
 pub sum-fits : (s r j top v : ℕ) → s ≤ 281474976710656 * j → j < 123 → Over top v r → s + r < 2 ^ 64
 sum-fits s r j top v h few o = let x = o .small in omega arith

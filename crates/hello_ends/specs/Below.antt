@@ -1,14 +1,15 @@
--- One number below a limit, and two of them.
+-- One number below a limit, and two of them; an entry that is good.
 -- Assumes nothing.
 use Prim.Native.Nat.{ℕ, _<_, _≤_}
 use mathlib.Core.Bool.{Bool}
 use mathlib.Core.List.{List}
 use mathlib.Core.Path.{_≡_}
-use lib.Dec.{ltb, eqb}
+use lib.Dec.{leb, ltb, eqb}
+use lib.ListN.{length}
 use Rattle.numbers.specs.Tests.{both, either}
 use Rattle.numbers.specs.Result.{Result, refused, got}
 use Rattle.hello.specs.Area.{Taken, Taker, taken, takeOne, then}
-use Rattle.hello_area.specs.Entries.{via}
+use Rattle.hello_area.specs.Entries.{via, takeSub, reach}
 
 unfoldable pub takeBelow : ℕ → Taker ℕ
 takeBelow top = via takeOne (λ n. ltb n top) (λ n. n)
@@ -36,6 +37,10 @@ pairBelow a b x = both (ltb (x .left) a) (ltb (x .right) b)
 -- two numbers below their limits
 unfoldable pub takeTwo : ℕ → ℕ → Taker TwoNumbers
 takeTwo a b = via takePair (pairBelow a b) (λ x. x)
+
+-- the entry of a type at the number i is taken: it ends within the area
+abbrev pub entryGood : ℕ → List ℕ → ℕ → Bool
+entryGood k ns i = leb (reach (takeSub k) ns i) (length ns)
 
 -- the number of a refusal, or 0
 abbrev pub refusalOf : {A : Type 0} → Result A → ℕ

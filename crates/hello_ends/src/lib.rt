@@ -1,24 +1,29 @@
-// Where the entries of a contents area end; past its end where one is malformed. Places are counted in numbers of 8 bytes.
+// Whether an entry of a contents area is good, and where it ends. Places are counted in numbers of 8 bytes.
 ghost use Prim.Native.Nat.{_+_, _*_, _^_, _<_, _≤_};
 ghost use mathlib.Core.Bool.{true};
 ghost use mathlib.Core.Path.{_≡_};
-ghost use lib.Dec.{ltb};
+ghost use lib.Dec.{leb, ltb};
 ghost use lib.ListN.{length, take, drop, getD};
 ghost use Rattle.numbers.specs.Tests.{both};
 ghost use Rattle.numbers.specs.Bytes.{num};
 ghost use Rattle.numbers.specs.Swapped.{swapped4};
-ghost use Rattle.hello.specs.Pieces.{smartMacType, nicknameType};
+ghost use Rattle.hello.specs.Pieces.{parametersType, smartMacType, nicknameType, treesType};
 ghost use Rattle.hello.specs.Writing.{mostNicknames, mostTrees, labelTop};
 ghost use Rattle.hello.specs.Area.{takeMany};
-ghost use Rattle.hello_area.specs.Entries.{numbersIn, takeHead, takeItem, mostOf, takeList, takeSub, reach};
-ghost use Rattle.hello_ends.specs.Below.{takeBelow, fieldTop, Over};
+ghost use Rattle.hello_area.specs.Entries.{numbersIn, takeItem, takeSub, reach};
+ghost use Rattle.hello_ends.specs.Below.{takeBelow, fieldTop, Over, entryGood};
 
-// The types of the sections.
-const PARAMETERS: u8 = 22;
+// The most elements of the lists.
+const MOST_NICKNAMES: u64 = 49;
 
-const NICKNAME: u8 = 6;
+const MOST_TREES: u64 = 123;
 
-const TREES: u8 = 8;
+const MOST_MACS: u64 = 41;
+
+// What a number of two bytes is below, and one of six.
+const TWO_BYTES: u64 = 0x1_0000;
+
+const SIX_BYTES: u64 = 0x1_0000_0000_0000;
 
 // How many numbers an area has.
 pub fn size(area: &[u8]) -> usize
@@ -33,20 +38,6 @@ pub fn number(area: &[u8], i: usize) -> u64
     ensures { λ r. ⌜ r ≡ getD (numbersIn (now (area .entry))) i 0 ⌝ }
 {
     numbers::be8(area, 8 * i)
-}
-
-// One number below a limit.
-fn number_end(area: &[u8], i: usize, top: u64) -> usize
-    ensures { λ r. ⌜ r ≡ reach (takeBelow top) (numbersIn (now (area .entry))) i ⌝ }
-{
-    let n = size(area);
-    if n <= i {
-        return n + 1;
-    }
-    if number(area, i) < top {
-        return i + 1;
-    }
-    n + 1
 }
 
 // Three numbers, each below its limit.
@@ -115,74 +106,18 @@ fn number_over(area: &[u8], i: usize, top: u64) -> u64
     w % 0x1_0000
 }
 
-// So many numbers below a limit. Their bytes over the field are added up, so that the list has one test.
-fn numbers_end(area: &[u8], i: usize, m: usize, top: u64) -> usize
-    requires { ⌜ (i ≤ length (numbersIn (now area))) × ((m ≤ mostTrees) × (fieldTop top ≡ true)) ⌝ }
-    ensures { λ r. ⌜ r ≡ reach (takeMany (takeBelow top) m) (numbersIn (now (area .entry))) i ⌝ }
+// So many numbers are below a limit. Their bytes over the field are added up, so that the list has one test.
+fn numbers_good(area: &[u8], i: usize, m: usize, top: u64) -> bool
+    requires { ⌜ (i + m ≤ length (numbersIn (now area))) × ((m ≤ mostTrees) × (fieldTop top ≡ true)) ⌝ }
+    ensures { λ r. ⌜ r ≡ leb (reach (takeMany (takeBelow top) m) (numbersIn (now (area .entry))) i) (length (numbersIn (now (area .entry)))) ⌝ }
 {
-    let n = size(area);
-    if n < i + m {
-        return n + 1;
-    }
     let mut sum = 0;
     let mut j = 0;
     while j < m {
         sum += number_over(area, i + j, top);
         j += 1;
     }
-    if sum != 0 {
-        return n + 1;
-    }
-    i + m
-}
-
-// So many elements of the list of an entry.
-fn items_end(kind: u8, area: &[u8], i: usize, m: usize) -> usize
-    requires { ⌜ (i ≤ length (numbersIn (now area))) × (m ≤ mostOf kind) ⌝ }
-    ensures { λ r. ⌜ r ≡ reach (takeMany (takeItem kind) m) (numbersIn (now (area .entry))) i ⌝ }
-{
-    if kind == NICKNAME {
-        return records_end(area, i, m);
-    }
-    if kind == TREES {
-        return numbers_end(area, i, m, 0x1_0000);
-    }
-    numbers_end(area, i, m, 0x1_0000_0000_0000)
-}
-
-// The most elements of a list.
-fn most(kind: u8) -> u64
-    ensures { λ r. ⌜ r ≡ mostOf kind ⌝ }
-{
-    if kind == NICKNAME {
-        return 49;
-    }
-    if kind == TREES {
-        return 123;
-    }
-    41
-}
-
-// The list of an entry, behind its count.
-fn list_end(kind: u8, area: &[u8], i: usize) -> usize
-    ensures { λ r. ⌜ r ≡ reach (takeList kind) (numbersIn (now (area .entry))) i ⌝ }
-{
-    let n = size(area);
-    if n <= i {
-        return n + 1;
-    }
-    let m = number(area, i);
-    if most(kind) < m {
-        return n + 1;
-    }
-    items_end(kind, area, i + 1, m as usize)
-}
-
-fn parameters_end(area: &[u8], i: usize) -> usize
-    ensures { λ r. ⌜ r ≡ reach (takeHead 22) (numbersIn (now (area .entry))) i ⌝ }
-{
-    let a = number_end(area, i, 0x1_0000);
-    number_end(area, a, 0x1_0000)
+    sum == 0
 }
 
 fn label_top(f: u64) -> u64
@@ -195,57 +130,89 @@ fn label_top(f: u64) -> u64
 }
 
 // F, M and the label of a Smart-MAC.
-fn label_end(area: &[u8], i: usize) -> usize
-    ensures { λ r. ⌜ r ≡ reach (takeHead smartMacType) (numbersIn (now (area .entry))) i ⌝ }
+fn label_good(area: &[u8], i: usize) -> bool
+    requires { ⌜ i + 3 ≤ length (numbersIn (now area)) ⌝ }
+    ensures { λ r. ⌜ r ≡ both (ltb (getD (numbersIn (now (area .entry))) i 0) 2) (both (ltb (getD (numbersIn (now (area .entry))) (i + 1) 0) 2) (ltb (getD (numbersIn (now (area .entry))) (i + 2) 0) (labelTop (getD (numbersIn (now (area .entry))) i 0)))) ⌝ }
 {
-    let n = size(area);
-    if n <= i {
-        return n + 1;
-    }
-    if n < i + 3 {
-        return n + 1;
-    }
     let f = number(area, i);
-    if three_good(
+    three_good(
         f,
         number(area, i + 1),
         number(area, i + 2),
         2,
         2,
         label_top(f),
-    ) {
-        return i + 3;
-    }
-    n + 1
+    )
 }
 
-// What stands in front of the list of an entry.
-fn head_end(kind: u8, area: &[u8], i: usize) -> usize
-    ensures { λ r. ⌜ r ≡ reach (takeHead kind) (numbersIn (now (area .entry))) i ⌝ }
+// The entries of a section, each by its type: whether it is good, one test for all numbers in front of its list.
+pub fn parameters_good(area: &[u8], i: usize) -> bool
+    requires { ⌜ i ≤ length (numbersIn (now area)) ⌝ }
+    ensures { λ r. ⌜ r ≡ entryGood parametersType (numbersIn (now (area .entry))) i ⌝ }
 {
-    if kind == PARAMETERS {
-        return parameters_end(area, i);
+    if size(area) < i + 2 {
+        return false;
     }
-    if kind == NICKNAME {
-        let n = size(area);
-        if n < i {
-            return n + 1;
-        }
-        return i;
+    if TWO_BYTES <= number(area, i) {
+        return false;
     }
-    if kind == TREES {
-        return number_end(area, i, 0x1_0000);
-    }
-    label_end(area, i)
+    number(area, i + 1) < TWO_BYTES
 }
 
-// An entry of a section.
-pub fn entry_end(kind: u8, area: &[u8], i: usize) -> usize
-    ensures { λ r. ⌜ r ≡ reach (takeSub kind) (numbersIn (now (area .entry))) i ⌝ }
+pub fn trees_good(area: &[u8], i: usize) -> bool
+    requires { ⌜ i ≤ length (numbersIn (now area)) ⌝ }
+    ensures { λ r. ⌜ r ≡ entryGood treesType (numbersIn (now (area .entry))) i ⌝ }
 {
-    let h = head_end(kind, area, i);
-    if kind == PARAMETERS {
-        return h;
+    let n = size(area);
+    if n < i + 2 {
+        return false;
     }
-    list_end(kind, area, h)
+    let m = number(area, i + 1);
+    if MOST_TREES < m {
+        return false;
+    }
+    if n < i + 2 + m as usize {
+        return false;
+    }
+    if TWO_BYTES <= number(area, i) {
+        return false;
+    }
+    numbers_good(area, i + 2, m as usize, TWO_BYTES)
+}
+
+pub fn macs_good(area: &[u8], i: usize) -> bool
+    requires { ⌜ i ≤ length (numbersIn (now area)) ⌝ }
+    ensures { λ r. ⌜ r ≡ entryGood smartMacType (numbersIn (now (area .entry))) i ⌝ }
+{
+    let n = size(area);
+    if n < i + 4 {
+        return false;
+    }
+    let m = number(area, i + 3);
+    if MOST_MACS < m {
+        return false;
+    }
+    if n < i + 4 + m as usize {
+        return false;
+    }
+    if !label_good(area, i) {
+        return false;
+    }
+    numbers_good(area, i + 4, m as usize, SIX_BYTES)
+}
+
+// Where an entry of nicknames ends; past the area's end where it is malformed. So entries without one follow without waiting for a count.
+pub fn nicknames_end(area: &[u8], i: usize) -> usize
+    requires { ⌜ i ≤ length (numbersIn (now area)) ⌝ }
+    ensures { λ r. ⌜ r ≡ reach (takeSub nicknameType) (numbersIn (now (area .entry))) i ⌝ }
+{
+    let n = size(area);
+    if n <= i {
+        return n + 1;
+    }
+    let m = number(area, i);
+    if MOST_NICKNAMES < m {
+        return n + 1;
+    }
+    records_end(area, i + 1, m as usize)
 }

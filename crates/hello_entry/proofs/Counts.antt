@@ -16,7 +16,7 @@ use Rattle.hello.specs.Pieces.{Sub}
 use Rattle.hello.specs.Writing.{headOf, subBytes}
 use Rattle.hello_area.specs.Entries.{numbersIn, labelBytes, parametersBytes, mostOf, holderFor, takeSub, reach, subAt}
 use Rattle.hello_ends.proofs.Numbers.{numbers-length}
-use Rattle.hello_entry.specs.Kinds.{hasSection}
+use Rattle.hello_entry.specs.Kinds.{hasSection, countAt}
 use Rattle.hello_entry.specs.Bytes.{parametersAt, run}
 use Rattle.hello_entry.proofs.Plain.{length-run}
 use Rattle.hello_entry.proofs.Shape.{subOf, headNumbers, itemNumbers, headAt, itemAt, number-long, record-long, entry-alone, entry-listed}
@@ -77,6 +77,22 @@ module _ (k : ℕ) (area : List ℕ) (i : ℕ) (good : reach (takeSub k) (number
   macs-counted d f e = counted d 3 4 1 6 41 (rw (ne-eqb k 22 d, ne-eqb k 6 f, ne-eqb k 8 e)) (rw (ne-eqb k 6 f, ne-eqb k 8 e)) (rw (ne-eqb k 6 f, ne-eqb k 8 e)) (rw (ne-eqb k 22 d, ne-eqb k 6 f, ne-eqb k 8 e) (length-bytesOf 4 _)) (λ j. rw (ne-eqb k 6 f, ne-eqb k 8 e) (number-long 6 ns j))
 
   -- ---- as the code has them
+
+  pub alone-count : k ≡ 22 → 0 ≡ countAt k ns i
+  unfolding countAt pick
+  alone-count e = rw e
+
+  pub nicknames-count : (k ≡ 22 → ⊥) → k ≡ 6 → (m : ℕ) → m ≡ getD ns i 0 → m ≡ countAt k ns i
+  unfolding countAt pick
+  nicknames-count d e m em = em ∙ rw e
+
+  pub trees-count : (k ≡ 22 → ⊥) → (k ≡ 6 → ⊥) → k ≡ 8 → (m : ℕ) → m ≡ getD ns (i + 1) 0 → m ≡ countAt k ns i
+  unfolding countAt pick
+  trees-count d f e m em = em ∙ rw e
+
+  pub macs-count : (k ≡ 22 → ⊥) → (k ≡ 6 → ⊥) → (k ≡ 8 → ⊥) → (m : ℕ) → m ≡ getD ns (i + 3) 0 → m ≡ countAt k ns i
+  unfolding countAt pick
+  macs-count d f g m em = em ∙ rw (ne-eqb k 22 d, ne-eqb k 6 f, ne-eqb k 8 g)
 
   pub alone-ends : k ≡ 22 → i + 2 ≡ reach (takeSub k) ns i
   alone-ends e = sym (entry-alone k ns i good e .1 .0)

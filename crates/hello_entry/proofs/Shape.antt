@@ -183,14 +183,6 @@ module _ (k : ℕ) (ns : List ℕ) (i : ℕ) (good : reach (takeSub k) ns i ≤ 
     head-good : takeHead k ≡ via p g f → g x ≡ true
     head-good e = via-good p g f ns i w x plain (head-got .0) (head-got .1 .0) (ap (λ (q : Taker (List ℕ)). q (drop i ns)) (sym e) ∙ head-got .1 .1)
 
-  pub parameters-good : k ≡ 22 → parametersGood (parametersAt ns i) ≡ true
-  unfolding takeHead pick
-  parameters-good e = head-good _ takeParameters parametersGood parametersBytes 2 (parametersAt ns i) (plain-parameters ns i) (rw e)
-
-  pub trees-good : k ≡ 8 → within 2 (getD ns i 0) ≡ true
-  unfolding takeHead pick
-  trees-good e = head-good _ takeOne (within 2) (bytesOf 2) 1 (getD ns i 0) (plain-one ns i) (rw e)
-
   pub label-good : (k ≡ 22 → ⊥) → (k ≡ 6 → ⊥) → (k ≡ 8 → ⊥) → labelGood (labelAt ns i) ≡ true
   unfolding takeHead pick
   label-good d e f = head-good _ takeLabel labelGood labelBytes 3 (labelAt ns i) (plain-label ns i) (rw (ne-eqb k 22 d, ne-eqb k 6 e, ne-eqb k 8 f))

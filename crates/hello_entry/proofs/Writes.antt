@@ -1,25 +1,26 @@
--- Bytes put into an area: the elements of a list one after the other, and the front of a sub-TLV as one number.
+-- Bytes put into an area: the last bytes of a number, the elements of a list one after the other, and the parts of a sub-TLV.
 -- Assumes nothing.
-use Prim.Native.Nat.{ℕ, suc, _+_, _-_, _*_, _/_, _%_, _^_, _<_, _≤_}
+use Prim.Native.Nat.{ℕ, zero, suc, _+_, _-_, _*_, _/_, _%_, _^_, _<_, _≤_}
 use mathlib.Core.Bool.{Bool, true, false}
 use mathlib.Core.List.{List, [], _∷_, _++_, append-nil, append-assoc}
 use mathlib.Core.Path.{_≡_, refl, sym, ap, _∙_}
-use native.Mathlib.Nat.{add-zero}
+use native.Mathlib.Nat.{add-zero, zero-add, suc-add, mul-le-mul-left}
 use native.Mathlib.Omega.{arith}
 use lib.Dec.{leb, ltb, eqb}
-use lib.ListN.{length, take, drop, getD, length-append, take-append-drop}
-use lib.Seq.{take-at, drop-append-add, drop-drop, length-take-le}
+use lib.ListN.{length, take, drop, getD, length-append, length-drop, take-append-drop}
+use lib.Seq.{take-at, drop-at, drop-append-add, drop-drop, getD-drop, length-take-le}
 use borrow.Author.Tests.{leb-true, ltb-true}
 use Rattle.numbers.specs.Tests.{pick, both}
-use Rattle.numbers.specs.Bytes.{bytesOf}
-use Rattle.numbers.proofs.Bytes.{length-bytesOf, bytesOf-low, bytesOf-join}
+use Rattle.numbers.specs.Bytes.{num, bytesOf, AreBytes}
+use Rattle.numbers.proofs.Bytes.{length-bytesOf, take-bytesOf, num-part-lt, num-add, bytesOf-low, bytesOf-part, bytesOf-append, bytesOf-join}
+use Rattle.numbers.proofs.Lists.{part-prefix}
 use Rattle.numbers.proofs.Truth.{both-true}
 use Rattle.frame_copy.specs.Areas.{pasted}
 use Rattle.frame_copy.proofs.Copying.{paste-next}
 use Rattle.hello.specs.Tlvs.{tlvBytes}
-use Rattle.hello.specs.Writing.{within, parametersGood, nicknameBytes, labelTop}
+use Rattle.hello.specs.Writing.{nicknameBytes, labelTop}
 use Rattle.hello_area.specs.Entries.{numbersIn, labelGood, labelBytes, parametersBytes}
-use Rattle.hello_ends.proofs.Numbers.{numbers-length}
+use Rattle.hello_ends.proofs.Numbers.{numbers-length, number-is}
 use Rattle.hello_entry.specs.Bytes.{parametersAt, nicknameAt, labelAt, recordAt, numberAt, run}
 use Rattle.hello_entry.proofs.Plain.{length-run}
 use Rattle.hello_entry.proofs.Shape.{number-long, record-long}
@@ -29,12 +30,35 @@ use Rattle.hello_entry.proofs.Shape.{number-long, record-long}
 pub number-fits : (area : List ℕ) (i k n : ℕ) → i + k ≤ length (numbersIn area) → length area < 2 ^ 64 → n ≤ k → i + n < 2 ^ 64
 number-fits area i k n h big g = let l = numbers-length area in omega arith
 
-module _ (area : List ℕ) (i m j : ℕ) (few : j ≤ m) (h : i + m ≤ length (numbersIn area)) (big : length area < 2 ^ 64) where
-  pub four-fit : j + 4 < 2 ^ 64
-  four-fit = let l = numbers-length area in omega arith
+pub rest-fits : (area : List ℕ) (i m j : ℕ) → j ≤ m → i + m ≤ length (numbersIn area) → length area < 2 ^ 64 → i + j < 2 ^ 64
+rest-fits area i m j few h big = let l = numbers-length area in omega arith
 
-  pub rest-fits : i + j < 2 ^ 64
-  rest-fits = let l = numbers-length area in omega arith
+pub place-fits : (area : List ℕ) (i k r n : ℕ) → i + k + r ≤ length (numbersIn area) → length area < 2 ^ 64 → n ≤ k → i + n < 2 ^ 64
+place-fits area i k r n h big g = let l = numbers-length area in omega arith
+
+module _ (area : List ℕ) (i : ℕ) (there : i < length (numbersIn area)) where
+  pub eight-fits : length area < 2 ^ 64 → 8 * i < 2 ^ 64
+  eight-fits big = let l = numbers-length area in omega arith
+
+  module _ (b : ℕ) (few : b ≤ 8) where
+    pub low-inside : 8 * i + (8 - b) + b ≤ length area
+    low-inside = let l = numbers-length area in omega arith
+
+    pub low-fits : length area < 2 ^ 64 → 8 * i + (8 - b) < 2 ^ 64
+    low-fits big = let l = numbers-length area in omega arith
+
+module _ (area : List ℕ) (i : ℕ) (there : i + 4 ≤ length (numbersIn area)) (n : ℕ) (few : n ≤ 24) where
+  pub four-fits : length area < 2 ^ 64 → 8 * i + n < 2 ^ 64
+  four-fits big = let l = numbers-length area in omega arith
+
+  pub four-inside : 8 * i + n + 8 ≤ length area
+  four-inside = let l = numbers-length area in omega arith
+
+pub first-fits : (area : List ℕ) (i : ℕ) → i + 4 ≤ length (numbersIn area) → length area < 2 ^ 64 → 8 * i < 2 ^ 64
+first-fits area i h big = let l = numbers-length area in omega arith
+
+pub last-fits : (area : List ℕ) (i m n : ℕ) → i + m ≤ length (numbersIn area) → length area < 2 ^ 64 → i + (m - n) < 2 ^ 64
+last-fits area i m n h big = let l = numbers-length area in omega arith
 
 module _ (area : List ℕ) (i m j : ℕ) (more : j < m) where
   pub item-fits : i + m ≤ length (numbersIn area) → length area < 2 ^ 64 → i + j < 2 ^ 64
@@ -48,7 +72,7 @@ module _ (area : List ℕ) (i m j : ℕ) (more : j < m) where
 
 -- ---- one behind the other
 
-paste-none : (o : List ℕ) (at : ℕ) → pasted o at [] ≡ o
+pub paste-none : (o : List ℕ) (at : ℕ) → pasted o at [] ≡ o
 unfolding pasted
 paste-none o at = rw (add-zero at, append-nil (take at o)) (take-append-drop at o)
 
@@ -129,23 +153,39 @@ module _ (f : ℕ → List ℕ) (w b : ℕ) (long : (j : ℕ) → length (f j) �
       rw z (paste-none o (at + b * j))
 
 -- the low bytes of a number, and others that are 0
-wide-two : (v : ℕ) → bytesOf 8 (v % 0x1_0000 * 0x1_0000_0000_0000) ≡ bytesOf 2 v ++ bytesOf 6 0
-wide-two v =
-    let e : v ≡ v / 0x1_0000 * 256 ^ 2 + v % 0x1_0000 = omega arith in
-    ap (bytesOf 8) (sym (add-zero (v % 0x1_0000 * 0x1_0000_0000_0000))) ∙ bytesOf-join 2 6 (v % 0x1_0000) 0 (omega arith) ∙ ap (λ (l : List ℕ). l ++ bytesOf 6 0) (sym (bytesOf-low 2 (v / 0x1_0000) (v % 0x1_0000)) ∙ ap (bytesOf 2) (sym e))
-
 wide-six : (v : ℕ) → bytesOf 8 (v % 0x1_0000_0000_0000 * 0x1_0000) ≡ bytesOf 6 v ++ bytesOf 2 0
 wide-six v =
     let e : v ≡ v / 0x1_0000_0000_0000 * 256 ^ 6 + v % 0x1_0000_0000_0000 = omega arith in
     ap (bytesOf 8) (sym (add-zero (v % 0x1_0000_0000_0000 * 0x1_0000))) ∙ bytesOf-join 6 2 (v % 0x1_0000_0000_0000) 0 (omega arith) ∙ ap (λ (l : List ℕ). l ++ bytesOf 2 0) (sym (bytesOf-low 6 (v / 0x1_0000_0000_0000) (v % 0x1_0000_0000_0000)) ∙ ap (bytesOf 6) (sym e))
 
-pub tree-put : (ns : List ℕ) (i v : ℕ) → v ≡ getD ns i 0 → (o u : List ℕ) (at : ℕ) → u ≡ pasted o at (bytesOf 8 (v % 0x1_0000 * 0x1_0000_0000_0000)) → u ≡ pasted o at (numberAt 2 ns i ++ bytesOf 6 0)
-unfolding numberAt
-tree-put ns i v ev o u at e = e ∙ ap (pasted o at) (wide-two v) ∙ rw ev
-
 pub mac-put : (ns : List ℕ) (i v : ℕ) → v ≡ getD ns i 0 → (o u : List ℕ) (at : ℕ) → u ≡ pasted o at (bytesOf 8 (v % 0x1_0000_0000_0000 * 0x1_0000)) → u ≡ pasted o at (numberAt 6 ns i ++ bytesOf 2 0)
 unfolding numberAt
 mac-put ns i v ev o u at e = e ∙ ap (pasted o at) (wide-six v) ∙ rw ev
+
+-- the last bytes of the eight of a number
+module _ (area : List ℕ) (bytes : AreBytes area) (i : ℕ) (there : i < length (numbersIn area)) where
+  eight : bytesOf 8 (getD (numbersIn area) i 0) ≡ take 8 (drop (8 * i) area)
+  eight =
+      let n = numbers-length area in
+      let d = length-drop (8 * i) area in
+      ap (bytesOf 8) (sym (number-is area i there (num (take 8 (drop (8 * i) area))) refl))
+      ∙ bytesOf-part (drop (8 * i) area) 8 (λ j. rw (getD-drop (8 * i) area j 0) (bytes (8 * i + j))) (omega arith)
+
+  low-bytes : (a b : ℕ) → a + b ≡ 8 → take b (drop (8 * i + a) area) ≡ numberAt b (numbersIn area) i
+  unfolding numberAt
+  low-bytes a b sum =
+      let v : ℕ = getD (numbersIn area) i 0 in
+      let n = numbers-length area in
+      let d = length-drop (8 * i) area in
+      let e : take 8 (drop (8 * i) area) ≡ bytesOf a (v / 256 ^ b) ++ bytesOf b v = sym eight ∙ ap (λ (x : ℕ). bytesOf x v) (sym sum) ∙ bytesOf-append a b v in
+      ap (take b) (sym (drop-drop a (8 * i) area))
+      ∙ part-prefix (drop (8 * i) area) a b 8 (omega arith) (omega arith)
+      ∙ ap (λ (l : List ℕ). take b (drop a l)) e
+      ∙ ap (take b) (drop-at (bytesOf a (v / 256 ^ b)) (bytesOf b v) a (length-bytesOf a (v / 256 ^ b)))
+      ∙ take-bytesOf b v
+
+  pub low-put : (b : ℕ) → b ≤ 8 → (out u x : List ℕ) (at : ℕ) → x ≡ take b (drop (8 * i + (8 - b)) area) → u ≡ pasted out at x → u ≡ pasted out at (numberAt b (numbersIn area) i)
+  low-put b few out u x at ex eu = eu ∙ ap (pasted out at) (ex ∙ low-bytes (8 - b) b (omega arith))
 
 -- numbers of b bytes
 module _ (ns : List ℕ) (i m : ℕ) (out : List ℕ) (at : ℕ) where
@@ -156,77 +196,61 @@ module _ (ns : List ℕ) (i m : ℕ) (out : List ℕ) (at : ℕ) where
   unfolding run
   numbers-empty b e = rw e (sym (paste-none out at))
 
-  module _ (b : ℕ) (o : List ℕ) (j : ℕ) (inv : Left (numberAt b ns) 1 b i m o at j ≡ pasted out at (run (numberAt b ns) 1 i m)) where
-    number-next : at + b * j ≤ length o → j < m → (v : ℕ) → v ≡ getD ns (i + j) 0 → (u : List ℕ) → u ≡ pasted o (at + b * j) (bytesOf b v) → Left (numberAt b ns) 1 b i m u at (j + 1) ≡ pasted out at (run (numberAt b ns) 1 i m)
-    unfolding numberAt
-    number-next room more v ev u e =
-        let p : i + j ≡ i + 1 * j = omega arith in
-        left-next (numberAt b ns) 1 b (number-long b ns) i m at o u j room more (e ∙ ap (λ (x : ℕ). pasted o (at + b * j) (bytesOf b x)) (ev ∙ ap (λ (x : ℕ). getD ns x 0) p)) ∙ inv
+  module _ (b : ℕ) (o : List ℕ) (j : ℕ) (same : length o ≡ length out) (room : at + b * m ≤ length out) (inv : Left (numberAt b ns) 1 b i m o at j ≡ pasted out at (run (numberAt b ns) 1 i m)) where
+    place : i + j ≡ i + 1 * j
+    place = omega arith
 
-    number-past : at + b * j ≤ length o → j < m → (g : List ℕ) → length g ≤ b * (m - (j + 1)) → (u : List ℕ) → u ≡ pasted o (at + b * j) (numberAt b ns (i + j) ++ g) → Left (numberAt b ns) 1 b i m u at (j + 1) ≡ pasted out at (run (numberAt b ns) 1 i m)
-    number-past room more g few u e =
-        let p : i + j ≡ i + 1 * j = omega arith in
-        left-past (numberAt b ns) 1 b (number-long b ns) i m at o u g j room more few (e ∙ ap (λ (x : ℕ). pasted o (at + b * j) (numberAt b ns x ++ g)) p) ∙ inv
+    within-out : j < m → at + b * j ≤ length o
+    within-out more = let h : j ≤ m = omega arith in let x = mul-le-mul-left b h in omega arith
 
-    -- the others by another function
-    numbers-rest : (u : List ℕ) → u ≡ pasted o (at + b * j) (run (numberAt b ns) 1 (i + j) (m - j)) → u ≡ pasted out at (run (numberAt b ns) 1 i m)
-    unfolding Left
-    numbers-rest u e =
-        let p : i + j ≡ i + 1 * j = omega arith in
-        e ∙ ap (λ (x : ℕ). pasted o (at + b * j) (run (numberAt b ns) 1 x (m - j))) p ∙ inv
+    pub numbers-next : j < m → (u : List ℕ) → u ≡ pasted o (at + b * j) (numberAt b ns (i + j)) → Left (numberAt b ns) 1 b i m u at (j + 1) ≡ pasted out at (run (numberAt b ns) 1 i m)
+    numbers-next more u e = left-next (numberAt b ns) 1 b (number-long b ns) i m at o u j (within-out more) more (e ∙ ap (λ (x : ℕ). pasted o (at + b * j) (numberAt b ns x)) place) ∙ inv
+
+    number-past : j < m → (g : List ℕ) → length g ≤ b * (m - (j + 1)) → (u : List ℕ) → u ≡ pasted o (at + b * j) (numberAt b ns (i + j) ++ g) → Left (numberAt b ns) 1 b i m u at (j + 1) ≡ pasted out at (run (numberAt b ns) 1 i m)
+    number-past more g few u e = left-past (numberAt b ns) 1 b (number-long b ns) i m at o u g j (within-out more) more few (e ∙ ap (λ (x : ℕ). pasted o (at + b * j) (numberAt b ns x ++ g)) place) ∙ inv
 
     pub numbers-done : m ≤ j → o ≡ pasted out at (run (numberAt b ns) 1 i m)
     numbers-done h = sym (left-done (numberAt b ns) 1 b (number-long b ns) i m at o j h) ∙ inv
 
-  module _ (o : List ℕ) (j : ℕ) (more : j < m) (same : length o ≡ length out) where
-    pub trees-next : at + 2 * m ≤ length out → Left (numberAt 2 ns) 1 2 i m o at j ≡ pasted out at (run (numberAt 2 ns) 1 i m) → (v : ℕ) → v ≡ getD ns (i + j) 0 → (u : List ℕ) → u ≡ pasted o (at + 2 * j) (bytesOf 2 v) → Left (numberAt 2 ns) 1 2 i m u at (j + 1) ≡ pasted out at (run (numberAt 2 ns) 1 i m)
-    trees-next room inv v ev u e = number-next 2 o j inv (omega arith) more v ev u e
-
-    pub macs-next : at + 6 * m ≤ length out → Left (numberAt 6 ns) 1 6 i m o at j ≡ pasted out at (run (numberAt 6 ns) 1 i m) → (v : ℕ) → v ≡ getD ns (i + j) 0 → (u : List ℕ) → u ≡ pasted o (at + 6 * j) (bytesOf 6 v) → Left (numberAt 6 ns) 1 6 i m u at (j + 1) ≡ pasted out at (run (numberAt 6 ns) 1 i m)
-    macs-next room inv v ev u e = number-next 6 o j inv (omega arith) more v ev u e
-
-    pub records-next : at + 5 * m ≤ length out → Left (recordAt ns) 3 5 i m o at j ≡ pasted out at (run (recordAt ns) 3 i m) → (u : List ℕ) → u ≡ pasted o (at + 5 * j) (recordAt ns (i + 3 * j)) → Left (recordAt ns) 3 5 i m u at (j + 1) ≡ pasted out at (run (recordAt ns) 3 i m)
-    records-next room inv u e = left-next (recordAt ns) 3 5 (record-long ns) i m at o u j (omega arith) more e ∙ inv
-
-  -- as eight bytes
-  module _ (o : List ℕ) (j : ℕ) (same : length o ≡ length out) where
-    pub trees-past : j + 4 ≤ m → at + 2 * m ≤ length out → Left (numberAt 2 ns) 1 2 i m o at j ≡ pasted out at (run (numberAt 2 ns) 1 i m) → (u : List ℕ) → u ≡ pasted o (at + 2 * j) (numberAt 2 ns (i + j) ++ bytesOf 6 0) → Left (numberAt 2 ns) 1 2 i m u at (j + 1) ≡ pasted out at (run (numberAt 2 ns) 1 i m)
-    trees-past four room inv u e =
-        let l = length-bytesOf 6 0 in
-        number-past 2 o j inv (omega arith) (omega arith) (bytesOf 6 0) (omega arith) u e
-
-    pub trees-rest : Left (numberAt 2 ns) 1 2 i m o at j ≡ pasted out at (run (numberAt 2 ns) 1 i m) → (u : List ℕ) → u ≡ pasted o (at + 2 * j) (run (numberAt 2 ns) 1 (i + j) (m - j)) → u ≡ pasted out at (run (numberAt 2 ns) 1 i m)
-    trees-rest inv u e = numbers-rest 2 o j inv u e
-
-    pub macs-past : j + 1 < m → at + 6 * m ≤ length out → Left (numberAt 6 ns) 1 6 i m o at j ≡ pasted out at (run (numberAt 6 ns) 1 i m) → (u : List ℕ) → u ≡ pasted o (at + 6 * j) (numberAt 6 ns (i + j) ++ bytesOf 2 0) → Left (numberAt 6 ns) 1 6 i m u at (j + 1) ≡ pasted out at (run (numberAt 6 ns) 1 i m)
-    macs-past two room inv u e =
+  module _ (o : List ℕ) (j : ℕ) (same : length o ≡ length out) (room : at + 6 * m ≤ length out) (inv : Left (numberAt 6 ns) 1 6 i m o at j ≡ pasted out at (run (numberAt 6 ns) 1 i m)) where
+    -- as eight bytes
+    pub macs-past : j < m - 1 → (u : List ℕ) → u ≡ pasted o (at + 6 * j) (numberAt 6 ns (i + j) ++ bytesOf 2 0) → Left (numberAt 6 ns) 1 6 i m u at (j + 1) ≡ pasted out at (run (numberAt 6 ns) 1 i m)
+    macs-past two u e =
         let l = length-bytesOf 2 0 in
-        number-past 6 o j inv (omega arith) (omega arith) (bytesOf 2 0) (omega arith) u e
+        number-past 6 o j same room inv (omega arith) (bytesOf 2 0) (omega arith) u e
 
-    pub macs-last : j < m → m ≤ j + 1 → at + 6 * m ≤ length out → Left (numberAt 6 ns) 1 6 i m o at j ≡ pasted out at (run (numberAt 6 ns) 1 i m) → (v : ℕ) → v ≡ getD ns (i + j) 0 → (u : List ℕ) → u ≡ pasted o (at + 6 * j) (bytesOf 6 v) → u ≡ pasted out at (run (numberAt 6 ns) 1 i m)
-    macs-last more h room inv v ev u e = numbers-done 6 u (j + 1) (macs-next o j more same room inv v ev u e) h
+    -- the last one as it is
+    pub macs-last : j < m → m - 1 ≤ j → (u : List ℕ) → u ≡ pasted o (at + 6 * (m - 1)) (numberAt 6 ns (i + (m - 1))) → u ≡ pasted out at (run (numberAt 6 ns) 1 i m)
+    macs-last more h u e =
+        let z : m - 1 ≡ j = omega arith in
+        let n = numbers-next 6 o j same room inv more u (e ∙ ap (λ (x : ℕ). pasted o (at + 6 * x) (numberAt 6 ns (i + x))) z) in
+        sym (left-done (numberAt 6 ns) 1 6 (number-long 6 ns) i m at u (j + 1) (omega arith)) ∙ n
 
+  -- records
   pub records-none : Left (recordAt ns) 3 5 i m out at 0 ≡ pasted out at (run (recordAt ns) 3 i m)
   records-none = left-none (recordAt ns) 3 5 (record-long ns) i m at out
+
+  pub records-next : (o : List ℕ) (j : ℕ) → j < m → length o ≡ length out → at + 5 * m ≤ length out → Left (recordAt ns) 3 5 i m o at j ≡ pasted out at (run (recordAt ns) 3 i m) → (u : List ℕ) → u ≡ pasted o (at + 5 * j) (recordAt ns (i + 3 * j)) → Left (recordAt ns) 3 5 i m u at (j + 1) ≡ pasted out at (run (recordAt ns) 3 i m)
+  records-next o j more same room inv u e = left-next (recordAt ns) 3 5 (record-long ns) i m at o u j (omega arith) more e ∙ inv
 
   pub records-done : (o : List ℕ) (j : ℕ) → Left (recordAt ns) 3 5 i m o at j ≡ pasted out at (run (recordAt ns) 3 i m) → m ≤ j → o ≡ pasted out at (run (recordAt ns) 3 i m)
   records-done o j inv h = sym (left-done (recordAt ns) 3 5 (record-long ns) i m at o j h) ∙ inv
 
 -- ---- the record of a nickname
 
-pub record-put : (ns : List ℕ) (i : ℕ) (out : List ℕ) (at : ℕ) → at + 5 ≤ length out
-    → (a : ℕ) → a ≡ getD ns i 0 → (o : List ℕ) → o ≡ pasted out at (bytesOf 1 a)
-    → (b : ℕ) → b ≡ getD ns (i + 1) 0 → (u : List ℕ) → u ≡ pasted o (at + 1) (bytesOf 2 b)
-    → (d : ℕ) → d ≡ getD ns (i + 2) 0 → (w : List ℕ) → w ≡ pasted u (at + 3) (bytesOf 2 d)
+pub record-put : (ns : List ℕ) (i : ℕ) (out : List ℕ) (at : ℕ) → at + 5 ≤ length out → (o u w : List ℕ)
+    → o ≡ pasted out at (numberAt 1 ns i) → u ≡ pasted o (at + 1) (numberAt 2 ns (i + 1)) → w ≡ pasted u (at + 3) (numberAt 2 ns (i + 2))
     → w ≡ pasted out at (recordAt ns i)
-unfolding recordAt nicknameBytes nicknameAt
-record-put ns i out at room a ea o eo b eb u eu d ed w ew =
-    let x = length-bytesOf 1 a in
-    let y = length-bytesOf 2 b in
-    let l = length-append (bytesOf 1 a) (bytesOf 2 b) in
-    let first : u ≡ pasted out at (bytesOf 1 a ++ bytesOf 2 b) = behind out o u (bytesOf 1 a) (bytesOf 2 b) at 1 (omega arith) x eo eu in
-    behind out u w (bytesOf 1 a ++ bytesOf 2 b) (bytesOf 2 d) at 3 (omega arith) (omega arith) first ew
-    ∙ rw (← ea, ← eb, ← ed) (ap (pasted out at) (append-assoc (bytesOf 1 a) (bytesOf 2 b) (bytesOf 2 d)))
+unfolding recordAt nicknameBytes nicknameAt numberAt
+record-put ns i out at room o u w eo eu ew =
+    let a : List ℕ = numberAt 1 ns i in
+    let b : List ℕ = numberAt 2 ns (i + 1) in
+    let d : List ℕ = numberAt 2 ns (i + 2) in
+    let x = number-long 1 ns i in
+    let y = number-long 2 ns (i + 1) in
+    let l = length-append a b in
+    behind out u w (a ++ b) d at 3 (omega arith) (omega arith) (behind out o u a b at 1 (omega arith) x eo eu) ew
+    ∙ ap (pasted out at) (append-assoc a b d)
 
 -- ---- the front of a sub-TLV: type, length, c bytes of a number
 
@@ -237,84 +261,47 @@ two-bytes k n hk hn =
     let b : (k * 256 + n) / 256 ^ 0 % 256 ≡ n = omega arith in
     rw (a, b)
 
-front : (c k n w : ℕ) → k < 256 → n < 256 → w < 256 ^ c → bytesOf (2 + c) ((k * 256 + n) * 256 ^ c + w) ≡ k ∷ (n ∷ bytesOf c w)
-front c k n w hk hn hw = bytesOf-join 2 c (k * 256 + n) w hw ∙ ap (λ (x : List ℕ). x ++ bytesOf c w) (two-bytes k n hk hn)
+-- type and length, the bytes in front of the list, and the list
+pub tlv-put : (out o p u : List ℕ) (at k n a : ℕ) (x y : List ℕ) → at ≤ length out → k < 256 → n < 256 → length x ≡ a → n ≡ a + length y
+    → o ≡ pasted out at (bytesOf 2 (k * 256 + n)) → p ≡ pasted o (at + 2) x → u ≡ pasted p (at + (2 + a)) y
+    → u ≡ pasted out at (tlvBytes k (x ++ y))
+unfolding tlvBytes
+tlv-put out o p u at k n a x y room hk hn lx en eo ep eu =
+    let l = length-append x y in
+    let z : n ≡ length (x ++ y) = omega arith in
+    let front : p ≡ pasted out at (k ∷ (n ∷ x)) = behind out o p (k ∷ (n ∷ [])) x at 2 room refl (eo ∙ ap (pasted out at) (two-bytes k n hk hn)) ep in
+    behind out p u (k ∷ (n ∷ x)) y at (2 + a) room (omega arith) front eu
+    ∙ ap (λ (m : ℕ). pasted out at (k ∷ (m ∷ (x ++ y)))) z
 
-module _ (out o u : List ℕ) (at : ℕ) (room : at ≤ length out) (c k n w : ℕ) (hk : k < 256) (hn : n < 256) (hw : w < 256 ^ c) (y : List ℕ) where
-  tlv-put : n ≡ c + length y → o ≡ pasted out at (bytesOf (2 + c) ((k * 256 + n) * 256 ^ c + w)) → u ≡ pasted o (at + (2 + c)) y → u ≡ pasted out at (tlvBytes k (bytesOf c w ++ y))
-  unfolding tlvBytes
-  tlv-put en eo eu =
-      let l = length-append (bytesOf c w) y in
-      let x = length-bytesOf c w in
-      let z : n ≡ length (bytesOf c w ++ y) = omega arith in
-      behind out o u (k ∷ (n ∷ bytesOf c w)) y at (2 + c) room (omega arith) (eo ∙ ap (pasted out at) (front c k n w hk hn hw)) eu
-      ∙ ap (λ (m : ℕ). pasted out at (k ∷ (m ∷ (bytesOf c w ++ y)))) z
+module _ (ns : List ℕ) (i : ℕ) (out : List ℕ) (at : ℕ) (o : List ℕ) where
+  pub parameters-written : at + 6 ≤ length out → o ≡ pasted out at (bytesOf 2 0x1604) → (p u : List ℕ) → p ≡ pasted o (at + 2) (numberAt 2 ns i) → u ≡ pasted p (at + 4) (numberAt 2 ns (i + 1)) → u ≡ pasted out at (tlvBytes 22 (parametersBytes (parametersAt ns i)))
+  unfolding parametersBytes parametersAt numberAt
+  parameters-written room eo p u ep eu =
+      let x = number-long 2 ns i in
+      let y = number-long 2 ns (i + 1) in
+      tlv-put out o p u at 22 4 2 _ _ (omega arith) (omega arith) (omega arith) x (omega arith) eo ep eu
 
-pub place-fits : (area : List ℕ) (i k r n : ℕ) → i + k + r ≤ length (numbersIn area) → length area < 2 ^ 64 → n ≤ k → i + n < 2 ^ 64
-place-fits area i k r n h big g = let l = numbers-length area in omega arith
+  module _ (m : ℕ) where
+    pub nicknames-written : m ≤ 49 → at + (2 + 5 * m) ≤ length out → o ≡ pasted out at (bytesOf 2 (0x600 + 5 * m)) → (u : List ℕ) → u ≡ pasted o (at + 2) (run (recordAt ns) 3 (i + 1) m) → u ≡ pasted out at (tlvBytes 6 (run (recordAt ns) 3 (i + 1) m))
+    nicknames-written few room eo u eu =
+        let l = length-run (recordAt ns) 3 5 (record-long ns) m (i + 1) in
+        let v : 0x600 + 5 * m ≡ 6 * 256 + 5 * m = omega arith in
+        tlv-put out o o u at 6 (5 * m) 0 [] _ (omega arith) (omega arith) (omega arith) refl (omega arith) (eo ∙ ap (λ (n : ℕ). pasted out at (bytesOf 2 n)) v) (sym (paste-none o (at + 2))) eu
 
--- ---- Smart-Parameters
+    pub trees-written : m ≤ 123 → at + (4 + 2 * m) ≤ length out → o ≡ pasted out at (bytesOf 2 (0x802 + 2 * m)) → (p u : List ℕ) → p ≡ pasted o (at + 2) (numberAt 2 ns i) → u ≡ pasted p (at + 4) (run (numberAt 2 ns) 1 (i + 2) m) → u ≡ pasted out at (tlvBytes 8 (numberAt 2 ns i ++ run (numberAt 2 ns) 1 (i + 2) m))
+    trees-written few room eo p u ep eu =
+        let l = length-run (numberAt 2 ns) 1 2 (number-long 2 ns) m (i + 2) in
+        let v : 0x802 + 2 * m ≡ 8 * 256 + (2 + 2 * m) = omega arith in
+        tlv-put out o p u at 8 (2 + 2 * m) 2 _ _ (omega arith) (omega arith) (omega arith) (number-long 2 ns i) (omega arith) (eo ∙ ap (λ (n : ℕ). pasted out at (bytesOf 2 n)) v) ep eu
 
-module _ (ns : List ℕ) (i : ℕ) (good : parametersGood (parametersAt ns i) ≡ true) where
-  parameters-small : (getD ns i 0 < 65536) × (getD ns (i + 1) 0 < 65536)
-  unfolding parametersGood parametersAt
-  parameters-small = let b = both-true (within 2 (getD ns i 0)) (within 2 (getD ns (i + 1) 0)) good in (ltb-true (getD ns i 0) 65536 (b .0), ltb-true (getD ns (i + 1) 0) 65536 (b .1))
+    pub macs-written : m ≤ 41 → at + (6 + 6 * m) ≤ length out → o ≡ pasted out at (bytesOf 2 (0x1704 + 6 * m)) → (w : ℕ) → bytesOf 4 w ≡ labelBytes (labelAt ns i) → (p u : List ℕ) → p ≡ pasted o (at + 2) (bytesOf 4 w) → u ≡ pasted p (at + 6) (run (numberAt 6 ns) 1 (i + 4) m) → u ≡ pasted out at (tlvBytes 23 (labelBytes (labelAt ns i) ++ run (numberAt 6 ns) 1 (i + 4) m))
+    macs-written few room eo w ew p u ep eu =
+        let l = length-run (numberAt 6 ns) 1 6 (number-long 6 ns) m (i + 4) in
+        let v : 0x1704 + 6 * m ≡ 23 * 256 + (4 + 6 * m) = omega arith in
+        tlv-put out o p u at 23 (4 + 6 * m) 4 _ _ (omega arith) (omega arith) (omega arith) (length-bytesOf 4 w) (omega arith) (eo ∙ ap (λ (n : ℕ). pasted out at (bytesOf 2 n)) v) ep eu
+        ∙ ap (λ (x : List ℕ). pasted out at (tlvBytes 23 (x ++ run (numberAt 6 ns) 1 (i + 4) m))) ew
 
-  module _ (h : ℕ) (eh : h ≡ getD ns i 0) where
-    pub holding-fits : h * 65536 < 2 ^ 64
-    holding-fits = let s = parameters-small in omega arith
-
-    pub holding-behind : 0x1604_0000_0000 + h * 65536 < 2 ^ 64
-    holding-behind = let s = parameters-small in omega arith
-
-    module _ (f : ℕ) (ef : f ≡ getD ns (i + 1) 0) where
-      pub flags-behind : 0x1604_0000_0000 + h * 65536 + f < 2 ^ 64
-      flags-behind = let s = parameters-small in omega arith
-
-      pub parameters-written : (out u : List ℕ) (at : ℕ) → at + 6 ≤ length out → u ≡ pasted out at (bytesOf 6 (0x1604_0000_0000 + h * 65536 + f)) → u ≡ pasted out at (tlvBytes 22 (parametersBytes (parametersAt ns i)))
-      unfolding parametersBytes parametersAt
-      parameters-written out u at room e =
-          let s = parameters-small in
-          let w : ℕ = h * 256 ^ 2 + f in
-          let v : 0x1604_0000_0000 + h * 65536 + f ≡ (22 * 256 + 4) * 256 ^ 4 + w = omega arith in
-          let x = tlv-put out u u at (omega arith) 4 22 4 w (omega arith) (omega arith) (omega arith) [] refl (e ∙ ap (λ (n : ℕ). pasted out at (bytesOf 6 n)) v) (sym (paste-none u (at + 6))) in
-          x ∙ ap (λ (l : List ℕ). pasted out at (tlvBytes 22 l)) (append-nil (bytesOf 4 w) ∙ bytesOf-join 2 2 h f (omega arith) ∙ rw (eh, ef))
-
--- ---- nicknames
-
-pub nicknames-written : (ns : List ℕ) (i : ℕ) (out : List ℕ) (at : ℕ) → getD ns i 0 ≤ 49 → at + (2 + 5 * getD ns i 0) ≤ length out
-    → (m : ℕ) → m ≡ getD ns i 0 → (o u : List ℕ) → o ≡ pasted out at (bytesOf 2 (0x600 + 5 * m)) → u ≡ pasted o (at + 2) (run (recordAt ns) 3 (i + 1) m)
-    → u ≡ pasted out at (tlvBytes 6 (run (recordAt ns) 3 (i + 1) (getD ns i 0)))
-unfolding bytesOf
-nicknames-written ns i out at few room m em o u eo eu =
-    let y : List ℕ = run (recordAt ns) 3 (i + 1) m in
-    let l = length-run (recordAt ns) 3 5 (record-long ns) m (i + 1) in
-    let v : 0x600 + 5 * m ≡ (6 * 256 + 5 * m) * 256 ^ 0 + 0 = omega arith in
-    tlv-put out o u at (omega arith) 0 6 (5 * m) 0 (omega arith) (omega arith) (omega arith) y (omega arith) (eo ∙ ap (λ (n : ℕ). pasted out at (bytesOf 2 n)) v) eu
-    ∙ ap (λ (n : ℕ). pasted out at (tlvBytes 6 (run (recordAt ns) 3 (i + 1) n))) em
-
--- ---- Tree Identifiers
-
-module _ (ns : List ℕ) (i : ℕ) (good : within 2 (getD ns i 0) ≡ true) (few : getD ns (i + 1) 0 ≤ 123) (m : ℕ) (em : m ≡ getD ns (i + 1) 0) (s : ℕ) (es : s ≡ getD ns i 0) where
-  start-small : s < 65536
-  start-small = let h = ltb-true (getD ns i 0) 65536 good in omega arith
-
-  pub start-behind : 0x802_0000 + m * 0x2_0000 + s < 2 ^ 64
-  start-behind = let h = start-small in omega arith
-
-  pub trees-written : (out o u : List ℕ) (at : ℕ) → at + (4 + 2 * getD ns (i + 1) 0) ≤ length out → o ≡ pasted out at (bytesOf 4 (0x802_0000 + m * 0x2_0000 + s)) → u ≡ pasted o (at + 4) (run (numberAt 2 ns) 1 (i + 2) m)
-      → u ≡ pasted out at (tlvBytes 8 (numberAt 2 ns i ++ run (numberAt 2 ns) 1 (i + 2) (getD ns (i + 1) 0)))
-  unfolding numberAt
-  trees-written out o u at room eo eu =
-      let h = start-small in
-      let y : List ℕ = run (numberAt 2 ns) 1 (i + 2) m in
-      let l = length-run (numberAt 2 ns) 1 2 (number-long 2 ns) m (i + 2) in
-      let v : 0x802_0000 + m * 0x2_0000 + s ≡ (8 * 256 + (2 + 2 * m)) * 256 ^ 2 + s = omega arith in
-      tlv-put out o u at (omega arith) 2 8 (2 + 2 * m) s (omega arith) (omega arith) h y (omega arith) (eo ∙ ap (λ (n : ℕ). pasted out at (bytesOf 4 n)) v) eu
-      ∙ ap (λ (n : ℕ). pasted out at (tlvBytes 8 (bytesOf 2 n ++ y))) es
-      ∙ ap (λ (n : ℕ). pasted out at (tlvBytes 8 (bytesOf 2 (getD ns i 0) ++ run (numberAt 2 ns) 1 (i + 2) n))) em
-
--- ---- Smart-MACs
+-- ---- the label of a Smart-MAC
 
 top-small : (f : ℕ) → labelTop f ≤ 16777216
 unfolding pick
@@ -349,22 +336,111 @@ module _ (ns : List ℕ) (i : ℕ) (good : labelGood (labelAt ns i) ≡ true) wh
         pub label-behind : f * 0x8000_0000 + m * 0x4000_0000 + n < 2 ^ 64
         label-behind = let s = label-small in omega arith
 
-        pub label-below : f * 0x8000_0000 + m * 0x4000_0000 + n < 2 ^ 32
-        label-below = let s = label-small in omega arith
-
         pub label-is : bytesOf 4 (f * 0x8000_0000 + m * 0x4000_0000 + n) ≡ labelBytes (labelAt ns i)
         unfolding labelBytes labelAt
         label-is = let e : f * 0x8000_0000 + m * 0x4000_0000 + n ≡ getD ns i 0 * 2 ^ 31 + (getD ns (i + 1) 0 * 2 ^ 30 + getD ns (i + 2) 0) = omega arith in ap (bytesOf 4) e
 
-module _ (ns : List ℕ) (i : ℕ) (few : getD ns (i + 3) 0 ≤ 41) (m : ℕ) (em : m ≡ getD ns (i + 3) 0) where
-  pub macs-written : (k j : ℕ) → j ≡ k → j < 2 ^ 8 → (w : ℕ) → bytesOf 4 w ≡ labelBytes (labelAt ns i) → w < 2 ^ 32
-      → (out o u : List ℕ) (at : ℕ) → at + (6 + 6 * getD ns (i + 3) 0) ≤ length out → o ≡ pasted out at (bytesOf 6 (j * 0x100_0000_0000 + (4 + 6 * m) * 0x1_0000_0000 + w)) → u ≡ pasted o (at + 6) (run (numberAt 6 ns) 1 (i + 4) m)
-      → u ≡ pasted out at (tlvBytes k (labelBytes (labelAt ns i) ++ run (numberAt 6 ns) 1 (i + 4) (getD ns (i + 3) 0)))
-  macs-written k j ej hj w ew hw out o u at room eo eu =
-      let y : List ℕ = run (numberAt 6 ns) 1 (i + 4) m in
-      let l = length-run (numberAt 6 ns) 1 6 (number-long 6 ns) m (i + 4) in
-      let v : j * 0x100_0000_0000 + (4 + 6 * m) * 0x1_0000_0000 + w ≡ (j * 256 + (4 + 6 * m)) * 256 ^ 4 + w = omega arith in
-      tlv-put out o u at (omega arith) 4 j (4 + 6 * m) w hj (omega arith) hw y (omega arith) (eo ∙ ap (λ (n : ℕ). pasted out at (bytesOf 6 n)) v) eu
-      ∙ ap (λ (n : ℕ). pasted out at (tlvBytes n (bytesOf 4 w ++ y))) ej
-      ∙ ap (λ (x : List ℕ). pasted out at (tlvBytes k (x ++ y))) ew
-      ∙ ap (λ (n : ℕ). pasted out at (tlvBytes k (labelBytes (labelAt ns i) ++ run (numberAt 6 ns) 1 (i + 4) n))) em
+-- ---- four tree nicknames at a time
+
+-- bytes as the number of a part of eight
+module _ (area : List ℕ) (bytes : AreBytes area) where
+  abbrev pair : ℕ → ℕ
+  pair k = num (take 2 (drop k area))
+
+  abbrev part : ℕ → ℕ → ℕ
+  part n k = num (take n (drop k area))
+
+  first-pair : (k : ℕ) → k + 8 ≤ length area → part 8 k / 0x1_0000_0000_0000 ≡ pair k
+  first-pair k h =
+      let a = num-add area k 2 6 (omega arith) in
+      let x = num-part-lt area (k + 2) 6 bytes (omega arith) in
+      omega arith
+
+  second-pair : (k : ℕ) → k + 8 ≤ length area → part 8 k / 0x1_0000_0000 % 0x1_0000 ≡ pair (k + 2)
+  second-pair k h =
+      let a = num-add area k 2 6 (omega arith) in
+      let b = num-add area (k + 2) 2 4 (omega arith) in
+      let x = num-part-lt area (k + 2) 2 bytes (omega arith) in
+      let y = num-part-lt area (k + 2 + 2) 4 bytes (omega arith) in
+      omega arith
+
+  third-pair : (k : ℕ) → k + 8 ≤ length area → part 8 k / 0x1_0000 % 0x1_0000 ≡ pair (k + 4)
+  third-pair k h =
+      let a = num-add area k 4 4 (omega arith) in
+      let b = num-add area (k + 4) 2 2 (omega arith) in
+      let x = num-part-lt area (k + 4) 2 bytes (omega arith) in
+      let y = num-part-lt area (k + 4 + 2) 2 bytes (omega arith) in
+      omega arith
+
+  fourth-pair : (k : ℕ) → k + 8 ≤ length area → part 8 k % 0x1_0000 ≡ pair (k + 6)
+  fourth-pair k h =
+      let a = num-add area k 6 2 (omega arith) in
+      let x = num-part-lt area (k + 6) 2 bytes (omega arith) in
+      omega arith
+
+  -- the last two bytes of a number
+  pair-at : (i k : ℕ) → i < length (numbersIn area) → 8 * i + 6 ≡ k → bytesOf 2 (pair k) ≡ numberAt 2 (numbersIn area) i
+  pair-at i k there e =
+      let n = numbers-length area in
+      let d = length-drop k area in
+      bytesOf-part (drop k area) 2 (λ j. rw (getD-drop k area j 0) (bytes (k + j))) (omega arith)
+      ∙ ap (λ (x : ℕ). take 2 (drop x area)) (sym e)
+      ∙ low-bytes area bytes i there 6 2 refl
+
+  four-bytes : (a b c d : ℕ) → b < 65536 → c < 65536 → d < 65536 → bytesOf 8 (a * 0x1_0000_0000_0000 + b * 0x1_0000_0000 + c * 0x1_0000 + d) ≡ bytesOf 2 a ++ (bytesOf 2 b ++ (bytesOf 2 c ++ bytesOf 2 d))
+  four-bytes a b c d hb hc hd =
+      let e : a * 0x1_0000_0000_0000 + b * 0x1_0000_0000 + c * 0x1_0000 + d ≡ a * 256 ^ 6 + (b * 256 ^ 4 + (c * 256 ^ 2 + d)) = omega arith in
+      ap (bytesOf 8) e
+      ∙ bytesOf-join 2 6 a (b * 256 ^ 4 + (c * 256 ^ 2 + d)) (omega arith)
+      ∙ ap (λ (l : List ℕ). bytesOf 2 a ++ l) (bytesOf-join 2 4 b (c * 256 ^ 2 + d) (omega arith) ∙ ap (λ (l : List ℕ). bytesOf 2 b ++ l) (bytesOf-join 2 2 c d (omega arith)))
+
+  module _ (i : ℕ) (there : i + 4 ≤ length (numbersIn area)) (w x y z : ℕ) (ew : w ≡ part 8 (8 * i + 6)) (ex : x ≡ part 8 (8 * i + 12)) (ey : y ≡ part 8 (8 * i + 18)) (ez : z ≡ part 8 (8 * i + 24)) where
+    pub four-are : bytesOf 8 (w / 0x1_0000_0000_0000 * 0x1_0000_0000_0000 + x / 0x1_0000_0000 % 0x1_0000 * 0x1_0000_0000 + y / 0x1_0000 % 0x1_0000 * 0x1_0000 + z % 0x1_0000) ≡ run (numberAt 2 (numbersIn area)) 1 i 4
+    unfolding run
+    four-are =
+        let n = numbers-length area in
+        let p : w / 0x1_0000_0000_0000 ≡ pair (8 * i + 6) = ap (λ (v : ℕ). v / 0x1_0000_0000_0000) ew ∙ first-pair (8 * i + 6) (omega arith) in
+        let q : x / 0x1_0000_0000 % 0x1_0000 ≡ pair (8 * i + 12 + 2) = ap (λ (v : ℕ). v / 0x1_0000_0000 % 0x1_0000) ex ∙ second-pair (8 * i + 12) (omega arith) in
+        let r : y / 0x1_0000 % 0x1_0000 ≡ pair (8 * i + 18 + 4) = ap (λ (v : ℕ). v / 0x1_0000 % 0x1_0000) ey ∙ third-pair (8 * i + 18) (omega arith) in
+        let s : z % 0x1_0000 ≡ pair (8 * i + 24 + 6) = ap (λ (v : ℕ). v % 0x1_0000) ez ∙ fourth-pair (8 * i + 24) (omega arith) in
+        rw (p, q, r, s)
+        (four-bytes (pair (8 * i + 6)) (pair (8 * i + 12 + 2)) (pair (8 * i + 18 + 4)) (pair (8 * i + 24 + 6)) (num-part-lt area (8 * i + 12 + 2) 2 bytes (omega arith)) (num-part-lt area (8 * i + 18 + 4) 2 bytes (omega arith)) (num-part-lt area (8 * i + 24 + 6) 2 bytes (omega arith))
+        ∙ rw (pair-at i (8 * i + 6) (omega arith) refl, pair-at (i + 1) (8 * i + 12 + 2) (omega arith) (omega arith), pair-at (i + 1 + 1) (8 * i + 18 + 4) (omega arith) (omega arith), pair-at (i + 1 + 1 + 1) (8 * i + 24 + 6) (omega arith) (omega arith), append-nil (numberAt 2 (numbersIn area) (i + 1 + 1 + 1))))
+
+-- a list in two parts
+run-parts : (f : ℕ → List ℕ) (a b i : ℕ) → run f 1 i (a + b) ≡ run f 1 i a ++ run f 1 (i + a) b
+unfolding run
+run-parts f zero b i = rw (zero-add b, add-zero i)
+run-parts f (suc a) b i =
+    let e : i + 1 + a ≡ i + suc a = omega arith in
+    rw (suc-add a b, run-parts f a b (i + 1), e) (sym (append-assoc (f i) (run f 1 (i + 1) a) (run f 1 (i + suc a) b)))
+
+module _ (ns : List ℕ) (i m : ℕ) (out : List ℕ) (at : ℕ) (room : at + 2 * m ≤ length out) (o : List ℕ) (j : ℕ) (inv : o ≡ pasted out at (run (numberAt 2 ns) 1 i j)) where
+  trees-long : (a n : ℕ) → length (run (numberAt 2 ns) 1 a n) ≡ 2 * n
+  trees-long a n = length-run (numberAt 2 ns) 1 2 (number-long 2 ns) n a
+
+  pub fours-next : (v : ℕ) → bytesOf 8 v ≡ run (numberAt 2 ns) 1 (i + j) 4 → (u : List ℕ) → u ≡ pasted o (at + 2 * j) (bytesOf 8 v) → u ≡ pasted out at (run (numberAt 2 ns) 1 i (j + 4))
+  fours-next v ev u e =
+      behind out o u (run (numberAt 2 ns) 1 i j) (bytesOf 8 v) at (2 * j) (omega arith) (trees-long i j) inv e
+      ∙ ap (pasted out at) (ap (λ (l : List ℕ). run (numberAt 2 ns) 1 i j ++ l) ev ∙ sym (run-parts (numberAt 2 ns) j 4 i))
+
+  -- the last four, over some that are there
+  pub fours-last : 4 ≤ m → m - 4 ≤ j → j ≤ m → (v : ℕ) → bytesOf 8 v ≡ run (numberAt 2 ns) 1 (i + (m - 4)) 4 → (u : List ℕ) → u ≡ pasted o (at + 2 * (m - 4)) (bytesOf 8 v) → u ≡ pasted out at (run (numberAt 2 ns) 1 i m)
+  fours-last four past few v ev u e =
+      let a : ℕ = m - 4 in
+      let b : ℕ = j - (m - 4) in
+      let s : a + b ≡ j = omega arith in
+      let t : a + 4 ≡ m = omega arith in
+      let x : List ℕ = run (numberAt 2 ns) 1 i a in
+      let g : List ℕ = run (numberAt 2 ns) 1 (i + a) b in
+      let lx = trees-long i a in
+      let lg = trees-long (i + a) b in
+      let ly = length-bytesOf 8 v in
+      let start : o ≡ pasted out at (x ++ g) = inv ∙ ap (λ (n : ℕ). pasted out at (run (numberAt 2 ns) 1 i n)) (sym s) ∙ ap (pasted out at) (run-parts (numberAt 2 ns) a b i) in
+      e ∙ rw start (paste-past out x g (bytesOf 8 v) at (at + 2 * a) (omega arith) (omega arith) (omega arith))
+      ∙ ap (λ (l : List ℕ). pasted out at (x ++ l)) ev
+      ∙ ap (pasted out at) (sym (run-parts (numberAt 2 ns) a 4 i) ∙ ap (run (numberAt 2 ns) 1 i) t)
+
+pub fours-none : (ns out : List ℕ) (i at : ℕ) → out ≡ pasted out at (run (numberAt 2 ns) 1 i 0)
+unfolding run
+fours-none ns out i at = sym (paste-none out at)

@@ -104,6 +104,9 @@ module _ (c : Cursor) (h n : ℕ) where
     pub step-small : length o * 1 < 2 ^ 63 → c .at < 3 * 2 ^ 62
     step-small f = let g = step-grows in omega arith
 
+    pub step-fits : length o * 1 < 2 ^ 63 → c .at + n < 2 ^ 64
+    step-fits f = let g = step-grows in omega arith
+
     module _ (r : Bool) (er : r ≡ takes c h n) where
       pub grown-room : r ≡ true → c .at + n ≤ length o
       grown-room e = let a = step-grows in omega arith
@@ -114,6 +117,13 @@ module _ (c : Cursor) (h n : ℕ) where
 
       pub opened-room : r ≡ false → c .at + (2 + length (headOf h)) ≤ length o
       opened-room e = let a = ap (λ (d : Cursor). d .at) (step-new c h n r er e (length (headOf h)) refl) in omega arith
+
+      module _ (new : r ≡ false) (m : ℕ) (em : m ≡ length (headOf h)) (f : length o * 1 < 2 ^ 63) where
+        pub head-fits : c .at + (2 + m) < 2 ^ 64
+        head-fits = let a = opened-room new in omega arith
+
+        pub after-fits : c .at + (2 + m) + n < 2 ^ 64
+        after-fits = let a = ap (λ (d : Cursor). d .at) (step-new c h n r er new m em) in omega arith
 
       pub opened-new : r ≡ false → (u : List ℕ) → u ≡ pasted o (c .at) (opening h n) → u ≡ opened o c h n
       unfolding opened pick

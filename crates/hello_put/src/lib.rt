@@ -26,6 +26,12 @@ pub struct Cursor {
     pub at: usize,
 }
 
+// Where a sub-TLV goes, and the cursor after it.
+pub struct Room {
+    pub at: usize,
+    pub after: Cursor,
+}
+
 // The bytes of a TLV's value in front of its sub-TLVs.
 fn head_size(h: u64) -> usize
     ensures { λ r. ⌜ (r ≡ length (headOf h)) × (r ≤ 5) ⌝ }
@@ -94,13 +100,29 @@ fn grow_tlv(out: &mut [u8], start: usize, at: usize, size: usize)
 }
 
 // Makes the room of a sub-TLV: the length byte counts it, or a new TLV is opened.
-pub fn open(out: &mut [u8], c: Cursor, h: u64, size: usize)
+pub fn open(out: &mut [u8], c: Cursor, h: u64, size: usize) -> Room
     requires { ⌜ (((c .start ≤ c .at) × (h < 256)) × ((2 ≤ size) × (length (headOf h) + size ≤ 255))) × (stepped c h size .at ≤ length (now out)) ⌝ }
-    ensures { λ _. ⌜ now (out .exit) ≡ opened (now (out .entry)) c h size ⌝ }
+    ensures { λ r. ⌜ ((r .after ≡ stepped c h size) × (r .at + size ≡ r .after .at)) × (now (out .exit) ≡ opened (now (out .entry)) c h size) ⌝ }
 {
     if takes_it(c, h, size) {
         grow_tlv(out, c.start, c.at, size);
-        return;
+        return Room {
+            at: c.at,
+            after: Cursor {
+                holder: h,
+                start: c.start,
+                at: c.at + size,
+            },
+        };
     }
     open_tlv(out, c.at, h, size);
+    let at = c.at + (TLV_HEAD + head_size(h));
+    Room {
+        at: at,
+        after: Cursor {
+            holder: h,
+            start: c.at,
+            at: at + size,
+        },
+    }
 }

@@ -1,25 +1,29 @@
 -- The walk that judges and sizes: where it is not past the end, its cursor is that of the fold.
 -- Assumes nothing.
 use Prim.Native.Nat.{ℕ, suc, _+_, _-_, _*_, _^_, _<_, _≤_}
+use mathlib.Core.Bool.{Bool, true, false, not}
 use mathlib.Core.List.{List, _++_}
 use mathlib.Core.Path.{_≡_, refl, sym, ap, _∙_}
 use native.Mathlib.Omega.{arith}
 use lib.ListN.{length, getD}
+use borrow.Author.Tests.{not-true, not-false, leb-true, leb-false}
 use Rattle.hello.specs.Pieces.{Sub}
+use Rattle.hello.specs.Writing.{subBytes}
 use Rattle.hello.specs.Area.{takeMany}
 use Rattle.hello.specs.Calls.{areaWritten}
-use Rattle.hello_area.specs.Entries.{numbersIn, takeSub, takeSubs, reach, subAt, subsAt}
+use Rattle.hello_area.specs.Entries.{numbersIn, holderFor, takeSub, takeSubs, reach, subAt, subsAt}
 use Rattle.hello_area.proofs.Places.{reach-none}
-use Rattle.hello_ends.specs.Below.{refusalOf}
+use Rattle.hello_ends.specs.Below.{entryGood, refusalOf}
 use Rattle.hello_ends.proofs.Numbers.{numbers-length}
 use Rattle.hello_ends.proofs.Shapes.{suffix-sub, many-next, many-over, section-none, section-on, subs-end}
 use Rattle.hello_put.specs.declared.Cursor.{Cursor}
-use Rattle.hello_put.specs.Placing.{unopened, steppedBy, steppedAll}
+use Rattle.hello_put.specs.Placing.{unopened, stepped, steppedAll}
+use Rattle.hello_put.proofs.Laws.{step-ordered}
 use Rattle.hello_put.proofs.Placed.{stepped-append}
 use Rattle.hello_write.specs.declared.Walk.{Walk}
 use Rattle.hello_write.specs.Sections.{sectionAt, sectionEnd, subsIn, atFirst, Follows, SizeIs}
 use Rattle.hello_write.proofs.Taking.{within-22, within-6, within-8, within-23}
-use Rattle.hello_write.proofs.Walking.{entries-done}
+use Rattle.hello_write.proofs.Walking.{entry-stepped, entry-most, entries-next, entries-done}
 
 pub past-follows : (ns : List ℕ) (n : ℕ) → n ≡ length ns → (c : Cursor) (ss : List Sub) (r : Walk) → r .next ≡ n + 1 → Follows ns c ss r
 past-follows ns n en c ss r e = record { is = λ h. absurd (omega arith) }
@@ -29,8 +33,27 @@ past-follows ns n en c ss r e = record { is = λ h. absurd (omega arith) }
 pub entry-within : (k : ℕ) (ns : List ℕ) (at n e : ℕ) → n ≡ length ns → e ≡ reach (takeSub k) ns at → e ≤ n → reach (takeSub k) ns at ≤ length ns
 entry-within k ns at n e en ee h = omega arith
 
-pub next-within : (k : ℕ) (ns : List ℕ) (at n e : ℕ) → n ≡ length ns → e ≡ reach (takeSub k) ns at → e ≤ n → (r : ℕ) → r ≡ reach (takeSub k) ns at → r ≤ length ns
-next-within k ns at n e en ee h r er = omega arith
+module _ (k : ℕ) (ns : List ℕ) (at : ℕ) (b : Bool) (eb : b ≡ entryGood k ns at) where
+  pub good-within : not b ≡ false → reach (takeSub k) ns at ≤ length ns
+  good-within h = leb-true (reach (takeSub k) ns at) (length ns) (sym eb ∙ not-false b h)
+
+  pub bad-past : not b ≡ true → length ns < reach (takeSub k) ns at
+  bad-past h = leb-false (reach (takeSub k) ns at) (length ns) (sym eb ∙ not-true b h)
+
+pub next-within : (k : ℕ) (ns : List ℕ) (at : ℕ) → reach (takeSub k) ns at ≤ length ns → (r : ℕ) → r ≡ reach (takeSub k) ns at → r ≤ length ns
+next-within k ns at good r er = omega arith
+
+-- the cursor after the entry
+module _ (c r : Cursor) (h n : ℕ) (er : r ≡ stepped c h n) where
+  pub sized-ordered : c .start ≤ c .at → r .start ≤ r .at
+  sized-ordered o = rw er (step-ordered c h n o)
+
+  module _ (k : ℕ) (area : List ℕ) (at : ℕ) (good : reach (takeSub k) (numbersIn area) at ≤ length (numbersIn area)) (eh : h ≡ holderFor k) (en : n ≡ length (subBytes (subAt k (numbersIn area) at))) where
+    pub sized-most : c .at ≤ 9 * at → (e : ℕ) → e ≡ reach (takeSub k) (numbersIn area) at → r .at ≤ 9 * e
+    sized-most = entry-most k area at good c r (entry-stepped k area at good c h n eh en r er)
+
+    pub sized-next : (i m j : ℕ) → j < m → (d : Cursor) → steppedAll c (subsAt k (numbersIn area) at (m - j)) ≡ steppedAll d (subsAt k (numbersIn area) i m) → (e : ℕ) → e ≡ reach (takeSub k) (numbersIn area) at → steppedAll r (subsAt k (numbersIn area) e (m - (j + 1))) ≡ steppedAll d (subsAt k (numbersIn area) i m)
+    sized-next i m j more d inv = entries-next k (numbersIn area) i m j at more d c inv r (entry-stepped k area at good c h n eh en r er)
 
 pub walk-small : (area : List ℕ) (at x : ℕ) → x ≤ 9 * at → at ≤ length (numbersIn area) → length area * 1 < 2 ^ 63 → x < 3 * 2 ^ 62
 walk-small area at x h inside few = let n = numbers-length area in omega arith
@@ -38,6 +61,9 @@ walk-small area at x h inside few = let n = numbers-length area in omega arith
 module _ (k : ℕ) (ns : List ℕ) (i m j at n : ℕ) (en : n ≡ length ns) (inv : reach (takeMany (takeSub k) (m - j)) ns at ≡ reach (takeMany (takeSub k) m) ns i) where
   pub entry-past : j < m → (e : ℕ) → e ≡ reach (takeSub k) ns at → n < e → (r : Walk) → r .next ≡ n + 1 → r .next ≡ reach (takeMany (takeSub k) m) ns i
   entry-past more e ee h r er = er ∙ many-over (takeSub k) (suffix-sub k) ns i m (j + 1) e (many-next (takeSub k) (suffix-sub k) ns i m j at inv more e ee) n en h
+
+  pub entry-bad : j < m → length ns < reach (takeSub k) ns at → (r : Walk) → r .next ≡ n + 1 → r .next ≡ reach (takeMany (takeSub k) m) ns i
+  entry-bad more h r er = entry-past more (reach (takeSub k) ns at) refl (omega arith) r er
 
   pub walk-done : m ≤ j → at ≤ length ns → at ≡ reach (takeMany (takeSub k) m) ns i
   walk-done h g =

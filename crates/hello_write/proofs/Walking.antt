@@ -24,7 +24,7 @@ use Rattle.hello_entry.proofs.Shape.{Entry, entry-alone, entry-listed}
 use Rattle.hello_entry.proofs.Counts.{Counted, nicknames-counted, trees-counted, macs-counted, alone-ends, alone-long}
 use Rattle.hello_put.specs.declared.Cursor.{Cursor}
 use Rattle.hello_put.specs.Placing.{unopened, stepped, opened, steppedBy, placed, steppedAll, placedAll}
-use Rattle.hello_put.proofs.Laws.{step-grows, step-small, step-ordered, step-most}
+use Rattle.hello_put.proofs.Laws.{step-small, step-ordered, step-most}
 use Rattle.hello_put.proofs.Placed.{stepped-append, placed-append, steps-grow}
 use Rattle.hello_write.specs.declared.Walk.{Walk}
 use Rattle.hello_write.specs.Sections.{sectionAt, sectionEnd, subsIn, frontIn, atFirst, walked}
@@ -100,9 +100,6 @@ module _ (k : ℕ) (area : List ℕ) (i : ℕ) (good : reach (takeSub k) (number
   entry-two n en = omega arith
 
   module _ (c : Cursor) (o : List ℕ) (room : steppedBy c entry .at ≤ length o) where
-    pub entry-small : length o * 1 < 2 ^ 63 → c .at < 3 * 2 ^ 62
-    entry-small few = step-small c (entry .holder) (length (subBytes entry)) o room few
-
     module _ (h n : ℕ) (eh : h ≡ holderFor k) (en : n ≡ length (subBytes entry)) where
       pub entry-head : length (headOf (holderFor k)) + n ≤ 255 → length (headOf h) + n ≤ 255
       entry-head f = rw eh f
@@ -110,20 +107,20 @@ module _ (k : ℕ) (area : List ℕ) (i : ℕ) (good : reach (takeSub k) (number
       pub entry-room : stepped c h n .at ≤ length o
       entry-room = rw (eh, en, ← sub-holder) room
 
-      module _ (d : Cursor) (ed : d ≡ stepped c h n) where
-        pub entry-behind : n ≤ d .at
-        entry-behind = let a = ap (λ (e : Cursor). e .at) ed in let b = step-grows c h n in omega arith
-
-        pub entry-end : (u : List ℕ) → length u ≡ length o → d .at - n + length (subBytes entry) ≤ length u
+      -- behind it the sub-TLV ends
+      module _ (d : Cursor) (ed : d ≡ stepped c h n) (p : ℕ) (ep : p + n ≡ d .at) where
+        pub entry-end : (u : List ℕ) → length u ≡ length o → p + length (subBytes entry) ≤ length u
         entry-end u same =
             let a = ap (λ (e : Cursor). e .at) ed in
-            let b = step-grows c h n in
             let r = entry-room in
             omega arith
 
-        pub entry-placed : (u v : List ℕ) → u ≡ opened o c h n → v ≡ pasted u (d .at - n) (subBytes entry) → v ≡ placed o c entry
+        pub entry-placed : (u v : List ℕ) → u ≡ opened o c h n → v ≡ pasted u p (subBytes entry) → v ≡ placed o c entry
         unfolding placed
-        entry-placed u v eu ev = ev ∙ rw (eu, ed, eh, en, sub-holder)
+        entry-placed u v eu ev =
+            let a = ap (λ (e : Cursor). e .at) ed in
+            let z : p ≡ stepped c h n .at - n = omega arith in
+            ev ∙ rw (eu, z, eh, en, sub-holder)
 
 -- ---- the loop over entries
 

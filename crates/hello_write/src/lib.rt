@@ -1,6 +1,5 @@
 // The call that writes a Smart-Hello: the contents area is judged, then the room, and then the payload is written, section by section.
 ghost use Prim.Native.Nat.{_+_, _*_, _^_, _<_, _≤_};
-ghost use mathlib.Core.Bool.{true};
 ghost use mathlib.Core.Path.{_≡_};
 ghost use lib.ListN.{length};
 ghost use Rattle.numbers.specs.After.{onArea};
@@ -9,7 +8,6 @@ ghost use Rattle.hello.specs.Area.{takeMany};
 ghost use Rattle.hello.specs.Calls.{areaWritten, writeCall};
 ghost use Rattle.hello_area.specs.Entries.{numbersIn, holderFor, takeSub, takeSubs, reach, subAt, subsAt};
 ghost use Rattle.hello_ends.specs.Below.{refusalOf};
-ghost use Rattle.hello_entry.specs.Kinds.{hasSection};
 ghost use Rattle.hello_put.specs.Placing.{unopened, steppedBy, placed, steppedAll, placedAll};
 ghost use Rattle.hello_write.specs.Sections.{sectionAt, sectionEnd, subsIn, frontIn, atFirst, walked, Follows, SizeIs};
 use hello::HELLO_MALFORMED;
@@ -57,14 +55,6 @@ fn holder(kind: u8) -> u64
     CAPABILITY
 }
 
-// The cursor after an entry.
-fn entry_size(kind: u8, area: &[u8], i: usize, c: Cursor) -> Cursor
-    requires { ⌜ ((hasSection kind ≡ true) × (reach (takeSub kind) (numbersIn (now area)) i ≤ length (numbersIn (now area)))) × ((c .start ≤ c .at) × (c .at < 3 * 2 ^ 62)) ⌝ }
-    ensures { λ r. ⌜ r ≡ steppedBy c (subAt kind (numbersIn (now (area .entry))) i) ⌝ }
-{
-    hello_put::step(c, holder(kind), hello_entry::size(kind, area, i))
-}
-
 // A walk that is past the end of an area of so many numbers.
 fn past(n: usize) -> Walk
     requires { ⌜ 8 * n < 2 ^ 64 ⌝ }
@@ -81,21 +71,21 @@ fn past(n: usize) -> Walk
 }
 
 // Judges so many entries of a section, with the cursor after them.
-fn entries_size(kind: u8, area: &[u8], i: usize, m: usize, c: Cursor) -> Walk
-    requires { ⌜ ((hasSection kind ≡ true) × (i ≤ length (numbersIn (now area)))) × ((c .start ≤ c .at) × (c .at ≤ 9 * i)) ⌝ }
-    ensures { λ r. ⌜ ((r .next ≡ reach (takeMany (takeSub kind) m) (numbersIn (now (area .entry))) i) × Follows (numbersIn (now (area .entry))) c (subsAt kind (numbersIn (now (area .entry))) i m) r) × ((r .cursor .start ≤ r .cursor .at) × (r .cursor .at ≤ 9 * r .next)) ⌝ }
+fn entries_size(area: &[u8], i: usize, m: usize, c: Cursor) -> Walk
+    requires { ⌜ (i ≤ length (numbersIn (now area))) × ((c .start ≤ c .at) × (c .at ≤ 9 * i)) ⌝ }
+    ensures { λ r. ⌜ ((r .next ≡ reach (takeMany (takeSub parametersType) m) (numbersIn (now (area .entry))) i) × Follows (numbersIn (now (area .entry))) c (subsAt parametersType (numbersIn (now (area .entry))) i m) r) × ((r .cursor .start ≤ r .cursor .at) × (r .cursor .at ≤ 9 * r .next)) ⌝ }
 {
     let n = hello_ends::size(area);
     let mut d = c;
     let mut at = i;
     let mut j = 0;
     while j < m {
-        let e = hello_ends::entry_end(kind, area, at);
-        if n < e {
+        if !hello_ends::parameters_good(area, at) {
             return past(n);
         }
-        d = entry_size(kind, area, at, d);
-        at = hello_entry::next(kind, area, at);
+        let e = hello_entry::measure(PARAMETERS, area, at);
+        d = hello_put::step(d, holder(PARAMETERS), e.size);
+        at = e.next;
         j += 1;
     }
     Walk {
@@ -105,16 +95,16 @@ fn entries_size(kind: u8, area: &[u8], i: usize, m: usize, c: Cursor) -> Walk
 }
 
 // A section, behind its count.
-fn section_size(kind: u8, area: &[u8], w: Walk) -> Walk
-    requires { ⌜ (hasSection kind ≡ true) × ((w .cursor .start ≤ w .cursor .at) × (w .cursor .at ≤ 9 * w .next)) ⌝ }
-    ensures { λ r. ⌜ ((r .next ≡ sectionEnd kind (numbersIn (now (area .entry))) (w .next)) × Follows (numbersIn (now (area .entry))) (w .cursor) (sectionAt kind (numbersIn (now (area .entry))) (w .next)) r) × ((r .cursor .start ≤ r .cursor .at) × (r .cursor .at ≤ 9 * r .next)) ⌝ }
+fn section_size(area: &[u8], w: Walk) -> Walk
+    requires { ⌜ (w .cursor .start ≤ w .cursor .at) × (w .cursor .at ≤ 9 * w .next) ⌝ }
+    ensures { λ r. ⌜ ((r .next ≡ sectionEnd parametersType (numbersIn (now (area .entry))) (w .next)) × Follows (numbersIn (now (area .entry))) (w .cursor) (sectionAt parametersType (numbersIn (now (area .entry))) (w .next)) r) × ((r .cursor .start ≤ r .cursor .at) × (r .cursor .at ≤ 9 * r .next)) ⌝ }
 {
     let n = hello_ends::size(area);
     if n <= w.next {
         return past(n);
     }
     let m = hello_ends::number(area, w.next) as usize;
-    entries_size(kind, area, w.next + 1, m, w.cursor)
+    entries_size(area, w.next + 1, m, w.cursor)
 }
 
 // The same for the other types, with the type as a constant: the compiler then makes their loops without a test of it. Nicknames go on from
@@ -128,11 +118,12 @@ fn nickname_entries_size(area: &[u8], i: usize, m: usize, c: Cursor) -> Walk
     let mut at = i;
     let mut j = 0;
     while j < m {
-        let e = hello_ends::entry_end(NICKNAME, area, at);
+        let e = hello_ends::nicknames_end(area, at);
         if n < e {
             return past(n);
         }
-        d = entry_size(NICKNAME, area, at, d);
+        let k = hello_entry::measure(NICKNAME, area, at);
+        d = hello_put::step(d, holder(NICKNAME), k.size);
         at = e;
         j += 1;
     }
@@ -163,12 +154,12 @@ fn tree_entries_size(area: &[u8], i: usize, m: usize, c: Cursor) -> Walk
     let mut at = i;
     let mut j = 0;
     while j < m {
-        let e = hello_ends::entry_end(TREES, area, at);
-        if n < e {
+        if !hello_ends::trees_good(area, at) {
             return past(n);
         }
-        d = entry_size(TREES, area, at, d);
-        at = hello_entry::next(TREES, area, at);
+        let e = hello_entry::measure(TREES, area, at);
+        d = hello_put::step(d, holder(TREES), e.size);
+        at = e.next;
         j += 1;
     }
     Walk {
@@ -186,12 +177,12 @@ fn mac_entries_size(area: &[u8], i: usize, m: usize, c: Cursor) -> Walk
     let mut at = i;
     let mut j = 0;
     while j < m {
-        let e = hello_ends::entry_end(SMART_MAC, area, at);
-        if n < e {
+        if !hello_ends::macs_good(area, at) {
             return past(n);
         }
-        d = entry_size(SMART_MAC, area, at, d);
-        at = hello_entry::next(SMART_MAC, area, at);
+        let e = hello_entry::measure(SMART_MAC, area, at);
+        d = hello_put::step(d, holder(SMART_MAC), e.size);
+        at = e.next;
         j += 1;
     }
     Walk {
@@ -242,7 +233,7 @@ fn at_first() -> Walk
 fn sections_size(area: &[u8]) -> Walk
     ensures { λ r. ⌜ (r .next ≡ reach takeSubs (numbersIn (now (area .entry))) 0) × Follows (numbersIn (now (area .entry))) unopened (subsIn (numbersIn (now (area .entry)))) r ⌝ }
 {
-    let a = section_size(PARAMETERS, area, at_first());
+    let a = section_size(area, at_first());
     let b = nickname_section_size(area, a);
     let c = tree_section_size(area, b);
     mac_section_size(area, c)
@@ -281,66 +272,76 @@ fn refused(n: u8) -> Judgement
     }
 }
 
-// Writes an entry as its sub-TLV, and gives the cursor after it.
-fn put_entry(kind: u8, area: &[u8], i: usize, c: Cursor, out: &mut [u8]) -> Cursor
-    requires { ⌜ ((hasSection kind ≡ true) × (reach (takeSub kind) (numbersIn (now area)) i ≤ length (numbersIn (now area)))) × ((c .start ≤ c .at) × (steppedBy c (subAt kind (numbersIn (now area)) i) .at ≤ length (now out))) ⌝ }
-    ensures { λ r. ⌜ (r ≡ steppedBy c (subAt kind (numbersIn (now (area .entry))) i)) × (now (out .exit) ≡ placed (now (out .entry)) c (subAt kind (numbersIn (now (area .entry))) i)) ⌝ }
+// Writes an entry as its sub-TLV, and gives the walk after it.
+fn put_entry(area: &[u8], i: usize, c: Cursor, out: &mut [u8]) -> Walk
+    requires { ⌜ (reach (takeSub parametersType) (numbersIn (now area)) i ≤ length (numbersIn (now area))) × ((c .start ≤ c .at) × (steppedBy c (subAt parametersType (numbersIn (now area)) i) .at ≤ length (now out))) ⌝ }
+    ensures { λ r. ⌜ ((r .cursor ≡ steppedBy c (subAt parametersType (numbersIn (now (area .entry))) i)) × (r .next ≡ reach (takeSub parametersType) (numbersIn (now (area .entry))) i)) × (now (out .exit) ≡ placed (now (out .entry)) c (subAt parametersType (numbersIn (now (area .entry))) i)) ⌝ }
 {
-    let h = holder(kind);
-    let n = hello_entry::size(kind, area, i);
-    let d = hello_put::step(c, h, n);
-    hello_put::open(out, c, h, n);
-    hello_entry::put(kind, area, i, out, d.at - n);
-    d
+    let e = hello_entry::measure(PARAMETERS, area, i);
+    let r = hello_put::open(out, c, holder(PARAMETERS), e.size);
+    hello_entry::put_parameters(area, i, out, r.at);
+    let d = r.after;
+    Walk {
+        cursor: d,
+        next: e.next,
+    }
 }
 
-fn put_nickname_entry(area: &[u8], i: usize, c: Cursor, out: &mut [u8]) -> Cursor
+fn put_nickname_entry(area: &[u8], i: usize, c: Cursor, out: &mut [u8]) -> Walk
     requires { ⌜ (reach (takeSub nicknameType) (numbersIn (now area)) i ≤ length (numbersIn (now area))) × ((c .start ≤ c .at) × (steppedBy c (subAt nicknameType (numbersIn (now area)) i) .at ≤ length (now out))) ⌝ }
-    ensures { λ r. ⌜ (r ≡ steppedBy c (subAt nicknameType (numbersIn (now (area .entry))) i)) × (now (out .exit) ≡ placed (now (out .entry)) c (subAt nicknameType (numbersIn (now (area .entry))) i)) ⌝ }
+    ensures { λ r. ⌜ ((r .cursor ≡ steppedBy c (subAt nicknameType (numbersIn (now (area .entry))) i)) × (r .next ≡ reach (takeSub nicknameType) (numbersIn (now (area .entry))) i)) × (now (out .exit) ≡ placed (now (out .entry)) c (subAt nicknameType (numbersIn (now (area .entry))) i)) ⌝ }
 {
-    let h = holder(NICKNAME);
-    let n = hello_entry::size(NICKNAME, area, i);
-    let d = hello_put::step(c, h, n);
-    hello_put::open(out, c, h, n);
-    hello_entry::put(NICKNAME, area, i, out, d.at - n);
-    d
+    let e = hello_entry::measure(NICKNAME, area, i);
+    let r = hello_put::open(out, c, holder(NICKNAME), e.size);
+    hello_entry::put_nicknames(area, i, e.count, out, r.at);
+    let d = r.after;
+    Walk {
+        cursor: d,
+        next: e.next,
+    }
 }
 
-fn put_tree_entry(area: &[u8], i: usize, c: Cursor, out: &mut [u8]) -> Cursor
+fn put_tree_entry(area: &[u8], i: usize, c: Cursor, out: &mut [u8]) -> Walk
     requires { ⌜ (reach (takeSub treesType) (numbersIn (now area)) i ≤ length (numbersIn (now area))) × ((c .start ≤ c .at) × (steppedBy c (subAt treesType (numbersIn (now area)) i) .at ≤ length (now out))) ⌝ }
-    ensures { λ r. ⌜ (r ≡ steppedBy c (subAt treesType (numbersIn (now (area .entry))) i)) × (now (out .exit) ≡ placed (now (out .entry)) c (subAt treesType (numbersIn (now (area .entry))) i)) ⌝ }
+    ensures { λ r. ⌜ ((r .cursor ≡ steppedBy c (subAt treesType (numbersIn (now (area .entry))) i)) × (r .next ≡ reach (takeSub treesType) (numbersIn (now (area .entry))) i)) × (now (out .exit) ≡ placed (now (out .entry)) c (subAt treesType (numbersIn (now (area .entry))) i)) ⌝ }
 {
-    let h = holder(TREES);
-    let n = hello_entry::size(TREES, area, i);
-    let d = hello_put::step(c, h, n);
-    hello_put::open(out, c, h, n);
-    hello_entry::put(TREES, area, i, out, d.at - n);
-    d
+    let e = hello_entry::measure(TREES, area, i);
+    let r = hello_put::open(out, c, holder(TREES), e.size);
+    hello_entry::put_trees(area, i, e.count, out, r.at);
+    let d = r.after;
+    Walk {
+        cursor: d,
+        next: e.next,
+    }
 }
 
-fn put_mac_entry(area: &[u8], i: usize, c: Cursor, out: &mut [u8]) -> Cursor
+fn put_mac_entry(area: &[u8], i: usize, c: Cursor, out: &mut [u8]) -> Walk
     requires { ⌜ (reach (takeSub smartMacType) (numbersIn (now area)) i ≤ length (numbersIn (now area))) × ((c .start ≤ c .at) × (steppedBy c (subAt smartMacType (numbersIn (now area)) i) .at ≤ length (now out))) ⌝ }
-    ensures { λ r. ⌜ (r ≡ steppedBy c (subAt smartMacType (numbersIn (now (area .entry))) i)) × (now (out .exit) ≡ placed (now (out .entry)) c (subAt smartMacType (numbersIn (now (area .entry))) i)) ⌝ }
+    ensures { λ r. ⌜ ((r .cursor ≡ steppedBy c (subAt smartMacType (numbersIn (now (area .entry))) i)) × (r .next ≡ reach (takeSub smartMacType) (numbersIn (now (area .entry))) i)) × (now (out .exit) ≡ placed (now (out .entry)) c (subAt smartMacType (numbersIn (now (area .entry))) i)) ⌝ }
 {
-    let h = holder(SMART_MAC);
-    let n = hello_entry::size(SMART_MAC, area, i);
-    let d = hello_put::step(c, h, n);
-    hello_put::open(out, c, h, n);
-    hello_entry::put(SMART_MAC, area, i, out, d.at - n);
-    d
+    let e = hello_entry::measure(SMART_MAC, area, i);
+    let r = hello_put::open(out, c, holder(SMART_MAC), e.size);
+    hello_entry::put_smart_mac(area, i, e.count, out, r.at);
+    let d = r.after;
+    Walk {
+        cursor: d,
+        next: e.next,
+    }
 }
 
 // So many entries of a section.
-fn put_entries(kind: u8, area: &[u8], i: usize, m: usize, c: Cursor, out: &mut [u8]) -> Walk
-    requires { ⌜ ((hasSection kind ≡ true) × (reach (takeMany (takeSub kind) m) (numbersIn (now area)) i ≤ length (numbersIn (now area)))) × ((c .start ≤ c .at) × (steppedAll c (subsAt kind (numbersIn (now area)) i m) .at ≤ length (now out))) ⌝ }
-    ensures { λ r. ⌜ ((r .cursor ≡ steppedAll c (subsAt kind (numbersIn (now (area .entry))) i m)) × (r .next ≡ reach (takeMany (takeSub kind) m) (numbersIn (now (area .entry))) i)) × ((r .cursor .start ≤ r .cursor .at) × (now (out .exit) ≡ placedAll (now (out .entry)) c (subsAt kind (numbersIn (now (area .entry))) i m))) ⌝ }
+fn put_entries(area: &[u8], i: usize, m: usize, c: Cursor, out: &mut [u8]) -> Walk
+    requires { ⌜ (reach (takeMany (takeSub parametersType) m) (numbersIn (now area)) i ≤ length (numbersIn (now area))) × ((c .start ≤ c .at) × (steppedAll c (subsAt parametersType (numbersIn (now area)) i m) .at ≤ length (now out))) ⌝ }
+    ensures { λ r. ⌜ ((r .cursor ≡ steppedAll c (subsAt parametersType (numbersIn (now (area .entry))) i m)) × (r .next ≡ reach (takeMany (takeSub parametersType) m) (numbersIn (now (area .entry))) i)) × ((r .cursor .start ≤ r .cursor .at) × (now (out .exit) ≡ placedAll (now (out .entry)) c (subsAt parametersType (numbersIn (now (area .entry))) i m))) ⌝ }
 {
     let mut d = c;
     let mut at = i;
     let mut j = 0;
     while j < m {
-        d = put_entry(kind, area, at, d, out);
-        at = hello_entry::next(kind, area, at);
+        let w = put_entry(area, at, d, out);
+        let b = w.cursor;
+        d = b;
+        at = w.next;
         j += 1;
     }
     Walk {
@@ -350,12 +351,12 @@ fn put_entries(kind: u8, area: &[u8], i: usize, m: usize, c: Cursor, out: &mut [
 }
 
 // A section, behind its count.
-fn put_section(kind: u8, area: &[u8], w: Walk, out: &mut [u8]) -> Walk
-    requires { ⌜ ((hasSection kind ≡ true) × (sectionEnd kind (numbersIn (now area)) (w .next) ≤ length (numbersIn (now area)))) × ((w .cursor .start ≤ w .cursor .at) × (walked kind (numbersIn (now area)) w .cursor .at ≤ length (now out))) ⌝ }
-    ensures { λ r. ⌜ (r ≡ walked kind (numbersIn (now (area .entry))) w) × ((r .cursor .start ≤ r .cursor .at) × (now (out .exit) ≡ placedAll (now (out .entry)) (w .cursor) (sectionAt kind (numbersIn (now (area .entry))) (w .next)))) ⌝ }
+fn put_section(area: &[u8], w: Walk, out: &mut [u8]) -> Walk
+    requires { ⌜ (sectionEnd parametersType (numbersIn (now area)) (w .next) ≤ length (numbersIn (now area))) × ((w .cursor .start ≤ w .cursor .at) × (walked parametersType (numbersIn (now area)) w .cursor .at ≤ length (now out))) ⌝ }
+    ensures { λ r. ⌜ (r ≡ walked parametersType (numbersIn (now (area .entry))) w) × ((r .cursor .start ≤ r .cursor .at) × (now (out .exit) ≡ placedAll (now (out .entry)) (w .cursor) (sectionAt parametersType (numbersIn (now (area .entry))) (w .next)))) ⌝ }
 {
     let m = hello_ends::number(area, w.next) as usize;
-    put_entries(kind, area, w.next + 1, m, w.cursor, out)
+    put_entries(area, w.next + 1, m, w.cursor, out)
 }
 
 // The same for the other types.
@@ -367,8 +368,10 @@ fn put_nickname_entries(area: &[u8], i: usize, m: usize, c: Cursor, out: &mut [u
     let mut at = i;
     let mut j = 0;
     while j < m {
-        d = put_nickname_entry(area, at, d, out);
-        at = hello_entry::next(NICKNAME, area, at);
+        let w = put_nickname_entry(area, at, d, out);
+        let b = w.cursor;
+        d = b;
+        at = w.next;
         j += 1;
     }
     Walk {
@@ -393,8 +396,10 @@ fn put_tree_entries(area: &[u8], i: usize, m: usize, c: Cursor, out: &mut [u8]) 
     let mut at = i;
     let mut j = 0;
     while j < m {
-        d = put_tree_entry(area, at, d, out);
-        at = hello_entry::next(TREES, area, at);
+        let w = put_tree_entry(area, at, d, out);
+        let b = w.cursor;
+        d = b;
+        at = w.next;
         j += 1;
     }
     Walk {
@@ -411,8 +416,10 @@ fn put_mac_entries(area: &[u8], i: usize, m: usize, c: Cursor, out: &mut [u8]) -
     let mut at = i;
     let mut j = 0;
     while j < m {
-        d = put_mac_entry(area, at, d, out);
-        at = hello_entry::next(SMART_MAC, area, at);
+        let w = put_mac_entry(area, at, d, out);
+        let b = w.cursor;
+        d = b;
+        at = w.next;
         j += 1;
     }
     Walk {
@@ -442,7 +449,7 @@ fn put_front(area: &[u8], out: &mut [u8]) -> Walk
     requires { ⌜ (reach takeSubs (numbersIn (now area)) 0 ≤ length (numbersIn (now area))) × (steppedAll unopened (subsIn (numbersIn (now area))) .at ≤ length (now out)) ⌝ }
     ensures { λ r. ⌜ (r ≡ walked nicknameType (numbersIn (now (area .entry))) (walked parametersType (numbersIn (now (area .entry))) atFirst)) × ((r .cursor .start ≤ r .cursor .at) × (now (out .exit) ≡ placedAll (now (out .entry)) unopened (frontIn (numbersIn (now (area .entry)))))) ⌝ }
 {
-    let w = put_section(PARAMETERS, area, at_first(), out);
+    let w = put_section(area, at_first(), out);
     put_nickname_section(area, w, out)
 }
 

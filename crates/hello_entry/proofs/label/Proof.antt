@@ -1,6 +1,6 @@
 -- `hello_entry::label` meets its contract: the numbers are below their limits, so that nothing is lost.
 -- Assumes nothing.
-use Rattle.hello_entry.proofs.Writes.{number-fits, fine-fits, multihomed-fits, multihomed-behind, label-behind, label-below, label-is}
+use Rattle.hello_entry.proofs.Writes.{number-fits, fine-fits, multihomed-fits, multihomed-behind, label-behind, label-is}
 use borrow.Author.Needs.{needs}
 use Rattle.hello_entry.proofs.label.Statement.{statement}
 use Rattle.hello_entry.proofs.label.Tie as tie
@@ -24,7 +24,7 @@ add-result-2 : tie.Need-add-result-2
 add-result-2 c = search (label-behind, needs)
 
 returns : tie.Need-returns
-returns c = (search label-is, search label-below)
+returns c = search label-is
 
 pub label-spec : {M : Type 1} → statement M
 label-spec =

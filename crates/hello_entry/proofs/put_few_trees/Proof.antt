@@ -6,7 +6,7 @@ use lib.ListN.{length}
 use Rattle.frame_copy.specs.Areas.{pasted}
 use Rattle.hello_area.specs.Entries.{numbersIn}
 use Rattle.hello_entry.specs.Bytes.{numberAt, run}
-use Rattle.hello_entry.proofs.Writes.{Left, item-fits, numbers-none, trees-next, numbers-done}
+use Rattle.hello_entry.proofs.Writes.{Left, item-fits, numbers-none, numbers-next, numbers-done}
 use borrow.Author.Needs.{needs}
 use Rattle.hello_entry.proofs.put_few_trees.Statement.{statement}
 use Rattle.hello_entry.proofs.put_few_trees.Tie as tie
@@ -20,11 +20,11 @@ abbrev μ-loop : tie.MeasureT-loop
 loop-holds : tie.Need-loop-holds Inv-loop μ-loop
 loop-holds c = (search needs, (refl, search numbers-none))
 
-add-number : tie.Need-add-number Inv-loop μ-loop
-add-number c = search (item-fits, needs)
+add-put-low : tie.Need-add-put-low Inv-loop μ-loop
+add-put-low c = search (item-fits, needs)
 
 loop-again : tie.Need-loop-again Inv-loop μ-loop
-loop-again c = (search needs, (search needs, search trees-next))
+loop-again c = (search needs, (search needs, search numbers-next))
 
 returns : tie.Need-returns Inv-loop μ-loop
 returns c = search numbers-done
@@ -36,8 +36,7 @@ put-few-trees-spec =
     Inv-loop
     μ-loop
     loop-holds
-    add-number
-    (λ c κs. search needs)
+    add-put-low
     (λ c. search needs)
     (λ c. search needs)
     (λ c κs. search needs)

@@ -6,16 +6,16 @@ use lib.ListN.{length}
 use Rattle.frame_copy.specs.Areas.{pasted}
 use Rattle.hello_area.specs.Entries.{numbersIn}
 use Rattle.hello_entry.specs.Bytes.{numberAt, run}
-use Rattle.hello_entry.proofs.Writes.{Left, item-fits, numbers-empty, numbers-none, macs-past, macs-last}
+use Rattle.hello_entry.proofs.Writes.{Left, item-fits, last-fits, numbers-empty, numbers-none, macs-past, macs-last}
 use borrow.Author.Needs.{needs}
 use Rattle.hello_entry.proofs.put_macs.Statement.{statement}
 use Rattle.hello_entry.proofs.put_macs.Tie as tie
 
 abbrev Inv-loop : tie.InvT-loop
-Inv-loop area i m out₀ at j₀ out j = (j < m) × ((length out ≡ length out₀) × (Left (numberAt 6 (numbersIn area)) 1 6 i m out at j ≡ pasted out₀ at (run (numberAt 6 (numbersIn area)) 1 i m)))
+Inv-loop area i m out₀ at last j₀ out j = (j < m) × ((length out ≡ length out₀) × (Left (numberAt 6 (numbersIn area)) 1 6 i m out at j ≡ pasted out₀ at (run (numberAt 6 (numbersIn area)) 1 i m)))
 
 abbrev μ-loop : tie.MeasureT-loop
-μ-loop area i m out₀ at j₀ out j = m - j
+μ-loop area i m out₀ at last j₀ out j = m - j
 
 returns : tie.Need-returns Inv-loop μ-loop
 returns c = search numbers-empty
@@ -29,8 +29,8 @@ add-put-mac c = search (item-fits, needs)
 loop-again : tie.Need-loop-again Inv-loop μ-loop
 loop-again c = (search needs, (search needs, search macs-past))
 
-add-number : tie.Need-add-number Inv-loop μ-loop
-add-number c = search (item-fits, needs)
+add-put-low : tie.Need-add-put-low Inv-loop μ-loop
+add-put-low c = search (last-fits, needs)
 
 returns-2 : tie.Need-returns-2 Inv-loop μ-loop
 returns-2 c = search macs-last
@@ -42,8 +42,8 @@ put-macs-spec =
     Inv-loop
     μ-loop
     returns
-    loop-holds
     (λ c. search needs)
+    loop-holds
     add-put-mac
     (λ c. search needs)
     (λ c. search needs)
@@ -51,8 +51,7 @@ put-macs-spec =
     (λ c. search needs)
     (λ c. search needs)
     loop-again
-    add-number
-    (λ c κs. search needs)
+    add-put-low
     (λ c. search needs)
     (λ c. search needs)
     (λ c κs. search needs)

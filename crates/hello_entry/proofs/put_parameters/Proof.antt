@@ -1,21 +1,21 @@
--- `hello_entry::put_parameters` meets its contract: six bytes as one number.
+-- `hello_entry::put_parameters` meets its contract: type and length, and two numbers behind them.
 -- Assumes nothing.
-use Rattle.hello_entry.proofs.Writes.{number-fits, holding-fits, holding-behind, flags-behind, parameters-written}
+use Rattle.hello_entry.proofs.Writes.{number-fits, parameters-written}
 use borrow.Author.Needs.{needs}
 use Rattle.hello_entry.proofs.put_parameters.Statement.{statement}
 use Rattle.hello_entry.proofs.put_parameters.Tie as tie
 
-mul-v : tie.Need-mul-v
-mul-v c = search (holding-fits, needs)
+put-number-requires : tie.Need-put-number-requires
+put-number-requires c κs = search needs
 
-add-v : tie.Need-add-v
-add-v c = search (holding-behind, needs)
+put-low-requires : tie.Need-put-low-requires
+put-low-requires c κs = search needs
 
-add-number : tie.Need-add-number
-add-number c = search (number-fits, needs)
+add-put-low-2 : tie.Need-add-put-low-2
+add-put-low-2 c = search (number-fits, needs)
 
-add-v-2 : tie.Need-add-v-2
-add-v-2 c = search (flags-behind, needs)
+put-low-requires-2 : tie.Need-put-low-requires-2
+put-low-requires-2 c κs = search needs
 
 returns : tie.Need-returns
 returns c = search parameters-written
@@ -24,12 +24,11 @@ pub put-parameters-spec : {M : Type 1} → statement M
 put-parameters-spec =
     tie.close
     (tie.spec
-    (λ c κs. search needs)
-    mul-v
-    add-v
-    add-number
-    (λ c κs. search needs)
-    add-v-2
-    (λ c κs. search needs)
+    put-number-requires
+    (λ c. search needs)
+    put-low-requires
+    add-put-low-2
+    (λ c. search needs)
+    put-low-requires-2
     (λ c. search needs)
     returns)

@@ -5,11 +5,11 @@ use borrow.Author.Needs.{needs}
 use Rattle.hello_entry.proofs.put_record.Statement.{statement}
 use Rattle.hello_entry.proofs.put_record.Tie as tie
 
-add-number : tie.Need-add-number
-add-number c = search (number-fits, needs)
+add-put-low : tie.Need-add-put-low
+add-put-low c = search (number-fits, needs)
 
-add-number-2 : tie.Need-add-number-2
-add-number-2 c = search (number-fits, needs)
+add-put-low-3 : tie.Need-add-put-low-3
+add-put-low-3 c = search (number-fits, needs)
 
 returns : tie.Need-returns
 returns c = search record-put
@@ -19,13 +19,10 @@ put-record-spec =
     tie.close
     (tie.spec
     (λ c κs. search needs)
-    (λ c κs. search needs)
-    add-number
-    (λ c κs. search needs)
+    add-put-low
     (λ c. search needs)
     (λ c κs. search needs)
-    add-number-2
-    (λ c κs. search needs)
+    add-put-low-3
     (λ c. search needs)
     (λ c κs. search needs)
     (λ c. search needs)

@@ -1,4 +1,4 @@
--- `hello_entry::put_tree_nicknames` meets its contract. The invariant: the rest put behind what is there makes the whole.
+-- `hello_entry::put_tree_nicknames` meets its contract. The invariant: what is there are the first ones; the last four go over some of them.
 -- Assumes nothing.
 use Prim.Native.Nat.{_-_, _≤_}
 use mathlib.Core.Path.{_≡_, refl}
@@ -6,34 +6,31 @@ use lib.ListN.{length}
 use Rattle.frame_copy.specs.Areas.{pasted}
 use Rattle.hello_area.specs.Entries.{numbersIn}
 use Rattle.hello_entry.specs.Bytes.{numberAt, run}
-use Rattle.hello_entry.proofs.Writes.{Left, four-fit, rest-fits, numbers-none, trees-past, trees-rest}
+use Rattle.hello_entry.proofs.Writes.{rest-fits, last-fits, fours-none, fours-next, fours-last}
 use borrow.Author.Needs.{needs}
 use Rattle.hello_entry.proofs.put_tree_nicknames.Statement.{statement}
 use Rattle.hello_entry.proofs.put_tree_nicknames.Tie as tie
 
 abbrev Inv-loop : tie.InvT-loop
-Inv-loop area i m out₀ at j₀ out j = (j ≤ m) × ((length out ≡ length out₀) × (Left (numberAt 2 (numbersIn area)) 1 2 i m out at j ≡ pasted out₀ at (run (numberAt 2 (numbersIn area)) 1 i m)))
+Inv-loop area i m out₀ at last j₀ out j = (j ≤ m) × ((length out ≡ length out₀) × (out ≡ pasted out₀ at (run (numberAt 2 (numbersIn area)) 1 i j)))
 
 abbrev μ-loop : tie.MeasureT-loop
-μ-loop area i m out₀ at j₀ out j = m - j
+μ-loop area i m out₀ at last j₀ out j = m - j
 
 loop-holds : tie.Need-loop-holds Inv-loop μ-loop
-loop-holds c = (search needs, (refl, search numbers-none))
+loop-holds c = (search needs, (refl, search fours-none))
 
-add-loop : tie.Need-add-loop Inv-loop μ-loop
-add-loop c = search (four-fit, needs)
-
-add-put-tree : tie.Need-add-put-tree Inv-loop μ-loop
-add-put-tree c = search (rest-fits, needs)
+add-four-trees : tie.Need-add-four-trees Inv-loop μ-loop
+add-four-trees c = search (rest-fits, needs)
 
 loop-again : tie.Need-loop-again Inv-loop μ-loop
-loop-again c = (search needs, (search needs, search trees-past))
+loop-again c = (search needs, (search needs, search fours-next))
 
-add-put-few-trees : tie.Need-add-put-few-trees Inv-loop μ-loop
-add-put-few-trees c = search (rest-fits, needs)
+add-four-trees-2 : tie.Need-add-four-trees-2 Inv-loop μ-loop
+add-four-trees-2 c = search (last-fits, needs)
 
-returns : tie.Need-returns Inv-loop μ-loop
-returns c = search trees-rest
+returns-2 : tie.Need-returns-2 Inv-loop μ-loop
+returns-2 c = search fours-last
 
 pub put-tree-nicknames-spec : {M : Type 1} → statement M
 put-tree-nicknames-spec =
@@ -41,19 +38,22 @@ put-tree-nicknames-spec =
     (tie.spec
     Inv-loop
     μ-loop
+    (λ c κs. search needs)
+    (λ c. search needs)
+    (λ c. search needs)
     loop-holds
-    add-loop
-    add-put-tree
+    add-four-trees
+    (λ c κs. search needs)
     (λ c. search needs)
     (λ c. search needs)
     (λ c κs. search needs)
     (λ c. search needs)
     (λ c. search needs)
     loop-again
-    add-put-few-trees
-    (λ c. search needs)
+    add-four-trees-2
+    (λ c κs. search needs)
     (λ c. search needs)
     (λ c. search needs)
     (λ c κs. search needs)
     (λ c. search needs)
-    returns)
+    returns-2)

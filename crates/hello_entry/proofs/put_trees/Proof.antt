@@ -1,18 +1,27 @@
 -- `hello_entry::put_trees` meets its contract: type, length and first tree, and the nicknames behind them.
 -- Assumes nothing.
-use Rattle.hello_entry.proofs.Writes.{place-fits, start-behind, trees-written}
+use Rattle.hello_entry.proofs.Writes.{place-fits, trees-written}
 use borrow.Author.Needs.{needs}
 use Rattle.hello_entry.proofs.put_trees.Statement.{statement}
 use Rattle.hello_entry.proofs.put_trees.Tie as tie
 
-add-number : tie.Need-add-number
-add-number c = search (place-fits, needs)
+mul-put-number : tie.Need-mul-put-number
+mul-put-number c = search needs
 
-add-v-2 : tie.Need-add-v-2
-add-v-2 c = search (start-behind, needs)
+add-put-number : tie.Need-add-put-number
+add-put-number c = search needs
+
+put-number-requires : tie.Need-put-number-requires
+put-number-requires c κs = search needs
+
+put-low-requires : tie.Need-put-low-requires
+put-low-requires c κs = search needs
 
 add-put-tree-nicknames : tie.Need-add-put-tree-nicknames
 add-put-tree-nicknames c = search (place-fits, needs)
+
+put-tree-nicknames-requires : tie.Need-put-tree-nicknames-requires
+put-tree-nicknames-requires c κs = search needs
 
 returns : tie.Need-returns
 returns c = search trees-written
@@ -21,15 +30,13 @@ pub put-trees-spec : {M : Type 1} → statement M
 put-trees-spec =
     tie.close
     (tie.spec
-    add-number
-    (λ c κs. search needs)
+    mul-put-number
+    add-put-number
+    put-number-requires
     (λ c. search needs)
-    (λ c. search needs)
-    (λ c κs. search needs)
-    add-v-2
-    (λ c κs. search needs)
+    put-low-requires
     add-put-tree-nicknames
     (λ c. search needs)
-    (λ c κs. search needs)
+    put-tree-nicknames-requires
     (λ c. search needs)
     returns)

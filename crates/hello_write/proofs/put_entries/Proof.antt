@@ -13,19 +13,16 @@ use Rattle.hello_write.proofs.put_entries.Statement.{statement}
 use Rattle.hello_write.proofs.put_entries.Tie as tie
 
 abbrev Inv-loop : tie.InvT-loop
-Inv-loop kind area i m out₀ d₀ at₀ j₀ out d at j = ((j ≤ m) × (d .start ≤ d .at)) × ((reach (takeMany (takeSub kind) (m - j)) (numbersIn area) at ≡ reach (takeMany (takeSub kind) m) (numbersIn area) i) × ((steppedAll d (subsAt kind (numbersIn area) at (m - j)) ≡ steppedAll d₀ (subsAt kind (numbersIn area) i m)) × ((length out ≡ length out₀) × (placedAll out d (subsAt kind (numbersIn area) at (m - j)) ≡ placedAll out₀ d₀ (subsAt kind (numbersIn area) i m)))))
+Inv-loop area i m out₀ d₀ at₀ j₀ out d at j = ((j ≤ m) × (d .start ≤ d .at)) × ((reach (takeMany (takeSub 22) (m - j)) (numbersIn area) at ≡ reach (takeMany (takeSub 22) m) (numbersIn area) i) × ((steppedAll d (subsAt 22 (numbersIn area) at (m - j)) ≡ steppedAll d₀ (subsAt 22 (numbersIn area) i m)) × ((length out ≡ length out₀) × (placedAll out d (subsAt 22 (numbersIn area) at (m - j)) ≡ placedAll out₀ d₀ (subsAt 22 (numbersIn area) i m)))))
 
 abbrev μ-loop : tie.MeasureT-loop
-μ-loop kind area i m out₀ d₀ at₀ j₀ out d at j = m - j
+μ-loop area i m out₀ d₀ at₀ j₀ out d at j = m - j
 
 loop-holds : tie.Need-loop-holds Inv-loop μ-loop
 loop-holds c = ((search needs, search needs), (search (many-start, suffix-sub), (search entries-start, (refl, search puts-start))))
 
 put-entry-requires : tie.Need-put-entry-requires Inv-loop μ-loop
-put-entry-requires c κs = ((search needs, search entry-good), (search needs, search puts-room))
-
-next-requires : tie.Need-next-requires Inv-loop μ-loop
-next-requires c κs = search entry-good
+put-entry-requires c κs = (search entry-good, (search needs, search puts-room))
 
 loop-again : tie.Need-loop-again Inv-loop μ-loop
 loop-again c = ((search needs, search (entry-ordered, entry-good)), (search (many-next, suffix-sub), (search entries-next, (search needs, search puts-next))))
@@ -41,7 +38,6 @@ put-entries-spec =
     μ-loop
     loop-holds
     put-entry-requires
-    next-requires
     (λ c. search needs)
     (λ c. search needs)
     loop-again

@@ -1,12 +1,12 @@
 -- `hello_write::put_front` meets its contract: the second section starts where the first ends.
 -- Assumes nothing.
-use Rattle.hello_write.proofs.Walking.{kinds, first-ordered, at-22, at-6, room-22, room-6, front-walked, front-placed}
+use Rattle.hello_write.proofs.Walking.{first-ordered, at-22, at-6, room-22, room-6, front-walked, front-placed}
 use borrow.Author.Needs.{needs}
 use Rattle.hello_write.proofs.put_front.Statement.{statement}
 use Rattle.hello_write.proofs.put_front.Tie as tie
 
 put-section-requires : tie.Need-put-section-requires
-put-section-requires c κs = ((search kinds, search at-22), (search first-ordered, search room-22))
+put-section-requires c κs = (search at-22, (search first-ordered, search room-22))
 
 put-nickname-section-requires : tie.Need-put-nickname-section-requires
 put-nickname-section-requires c κs = (search at-6, (search needs, search room-6))

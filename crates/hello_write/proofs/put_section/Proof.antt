@@ -12,7 +12,7 @@ add-put-entries : tie.Need-add-put-entries
 add-put-entries c = search next-fits
 
 put-entries-requires : tie.Need-put-entries-requires
-put-entries-requires c κs = ((search needs, search section-entries), (search needs, search section-room))
+put-entries-requires c κs = (search section-entries, (search needs, search section-room))
 
 returns : tie.Need-returns
 returns c = (search section-walked, (search needs, search section-placed))

@@ -24,9 +24,6 @@ loop-holds c = ((search needs, search needs), (search (many-start, suffix-sub), 
 put-tree-entry-requires : tie.Need-put-tree-entry-requires Inv-loop μ-loop
 put-tree-entry-requires c κs = (search entry-good, (search needs, search puts-room))
 
-next-requires : tie.Need-next-requires Inv-loop μ-loop
-next-requires c κs = search entry-good
-
 loop-again : tie.Need-loop-again Inv-loop μ-loop
 loop-again c = ((search needs, search (entry-ordered, entry-good)), (search (many-next, suffix-sub), (search entries-next, (search needs, search puts-next))))
 
@@ -41,7 +38,6 @@ put-tree-entries-spec =
     μ-loop
     loop-holds
     put-tree-entry-requires
-    next-requires
     (λ c. search needs)
     (λ c. search needs)
     loop-again

@@ -1,13 +1,13 @@
 -- `hello_write::sections_size` meets its contract: each section starts where the one before it ends.
 -- Assumes nothing.
-use Rattle.hello_write.proofs.Walking.{kinds, first-ordered, first-most}
+use Rattle.hello_write.proofs.Walking.{first-ordered, first-most}
 use Rattle.hello_write.proofs.Sizing.{sections-end, sections-follow}
 use borrow.Author.Needs.{needs}
 use Rattle.hello_write.proofs.sections_size.Statement.{statement}
 use Rattle.hello_write.proofs.sections_size.Tie as tie
 
 section-size-requires : tie.Need-section-size-requires
-section-size-requires c κs = (search kinds, (search first-ordered, search first-most))
+section-size-requires c κs = (search first-ordered, search first-most)
 
 nickname-section-size-requires : tie.Need-nickname-section-size-requires
 nickname-section-size-requires c κs = (search needs, search needs)
