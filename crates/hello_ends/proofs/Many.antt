@@ -5,14 +5,14 @@ use mathlib.Core.Bool.{Bool, true, false, not}
 use mathlib.Core.List.{List}
 use mathlib.Core.Path.{_≡_, refl, sym, ap, _∙_}
 use native.Mathlib.Omega.{arith}
-use lib.Dec.{leb, ltb, eqb}
+use lib.Dec.{leb, ltb}
 use lib.ListN.{length, getD}
-use borrow.Author.Tests.{not-true, not-false, ne-eqb, leb-true, leb-false, ltb-true, ltb-false}
-use Rattle.numbers.specs.Tests.{pick, both}
+use borrow.Author.Tests.{not-true, not-false, leb-true, leb-false, ltb-true, ltb-false}
+use Rattle.numbers.specs.Tests.{both}
 use Rattle.numbers.proofs.Truth.{both-true}
 use Rattle.hello.specs.Area.{Taker, takeMany}
 use Rattle.hello.specs.Writing.{labelTop}
-use Rattle.hello_area.specs.Entries.{numbersIn, takeHead, takeItem, mostOf, reach}
+use Rattle.hello_area.specs.Entries.{numbersIn, takeHead, takeItem, reach}
 use Rattle.hello_area.proofs.Places.{Suffix, reach-over, reach-none, reach-next}
 use Rattle.hello_ends.specs.Below.{takeBelow}
 use Rattle.hello_ends.proofs.Numbers.{numbers-length, below-none, below-good, below-bad, suffix-below}

@@ -8,7 +8,7 @@ use lib.Dec.{leb, ltb, eqb}
 use lib.ListN.{length}
 use Rattle.numbers.specs.Tests.{both, either}
 use Rattle.numbers.specs.Result.{Result, refused, got}
-use Rattle.hello.specs.Area.{Taken, Taker, taken, takeOne, then}
+use Rattle.hello.specs.Area.{Taker, taken, takeOne, then}
 use Rattle.hello_area.specs.Entries.{via, takeSub, reach}
 
 unfoldable pub takeBelow : ℕ → Taker ℕ

@@ -1,12 +1,10 @@
 // Whether an entry of a contents area is good, and where it ends. Places are counted in numbers of 8 bytes.
-ghost use Prim.Native.Nat.{_+_, _*_, _^_, _<_, _≤_};
+ghost use Prim.Native.Nat.{_+_, _*_, _<_, _≤_};
 ghost use mathlib.Core.Bool.{true};
 ghost use mathlib.Core.Path.{_≡_};
 ghost use lib.Dec.{leb, ltb};
-ghost use lib.ListN.{length, take, drop, getD};
+ghost use lib.ListN.{length, getD};
 ghost use Rattle.numbers.specs.Tests.{both};
-ghost use Rattle.numbers.specs.Bytes.{num};
-ghost use Rattle.numbers.specs.Swapped.{swapped4};
 ghost use Rattle.hello.specs.Pieces.{parametersType, smartMacType, nicknameType, treesType};
 ghost use Rattle.hello.specs.Writing.{mostNicknames, mostTrees, labelTop};
 ghost use Rattle.hello.specs.Area.{takeMany};
@@ -83,23 +81,12 @@ fn records_end(area: &[u8], i: usize, m: usize) -> usize
     at
 }
 
-// Four bytes with the first one lowest, as the compiler makes one load of eight.
-fn low4(area: &[u8], k: usize) -> u64
-    requires { ⌜ k + 4 ≤ length (now area) ⌝ }
-    ensures { λ r. ⌜ (swapped4 r ≡ num (take 4 (drop k (now (area .entry))))) × (r < 2 ^ 32) ⌝ }
-{
-    numbers::wide(area[k])
-        + numbers::wide(area[k + 1]) * 0x100
-        + numbers::wide(area[k + 2]) * 0x1_0000
-        + numbers::wide(area[k + 3]) * 0x100_0000
-}
-
 // The bytes of a number that are over its field, of two bytes or of six, with the first one lowest: 0 where the number is below its limit.
 fn number_over(area: &[u8], i: usize, top: u64) -> u64
     requires { ⌜ (i < length (numbersIn (now area))) × (fieldTop top ≡ true) ⌝ }
     ensures { λ r. ⌜ Over top (getD (numbersIn (now (area .entry))) i 0) r ⌝ }
 {
-    let w = low4(area, 8 * i) + low4(area, 8 * i + 4) * 0x1_0000_0000;
+    let w = numbers::le4(area, 8 * i) + numbers::le4(area, 8 * i + 4) * 0x1_0000_0000;
     if top == 0x1_0000 {
         return w % 0x1_0000_0000_0000;
     }

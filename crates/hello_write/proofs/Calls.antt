@@ -1,34 +1,31 @@
 -- A contents area that passed its judgement: its payload, and each way out of the call.
 -- Assumes nothing.
-use Prim.Native.Nat.{ℕ, zero, suc, _+_, _-_, _%_, _<_, _≤_}
+use Prim.Native.Nat.{ℕ, _%_, _<_, _≤_}
 use mathlib.Core.Bool.{Bool, true, false}
-use mathlib.Core.List.{List, [], _∷_, _++_}
+use mathlib.Core.List.{List, _∷_, _++_}
 use mathlib.Core.Path.{_≡_, refl, sym, ap, _∙_}
 use native.Mathlib.Omega.{arith}
 use lib.Dec.{leb, eqb}
-use lib.ListN.{length, drop, getD}
+use lib.ListN.{length, getD}
 use borrow.Author.Tests.{le-leb, lt-leb, leb-true}
 use Rattle.numbers.specs.Tests.{pick, either}
 use Rattle.numbers.specs.Bytes.{laid}
 use Rattle.numbers.specs.Result.{Result, refused, got, check, andThen, settled}
 use Rattle.numbers.specs.Refusals.{area-short}
-use Rattle.numbers.specs.After.{OnArea, onArea}
+use Rattle.numbers.specs.After.{onArea}
 use Rattle.numbers.proofs.Answers.{got-got}
 use Rattle.convert.specs.Compaction.{written}
-use Rattle.frame_copy.specs.Areas.{pasted}
 use Rattle.frame_copy.proofs.Copying.{paste-laid}
 use Rattle.hello.specs.Pieces.{Sub}
 use Rattle.hello.specs.Writing.{tlvsOf}
-use Rattle.hello.specs.Area.{Taken, taken, takeMany}
+use Rattle.hello.specs.Area.{Taken, takeMany}
 use Rattle.hello.specs.Calls.{areaWritten, answered, writeCall}
-use Rattle.hello.specs.declared.HelloAnswer.{HelloAnswer}
 use Rattle.hello.specs.declared.HelloAnswer.the-variants.{Refused, Written}
-use Rattle.hello_area.specs.Entries.{numbersIn, holderFor, takeSub, takeSubs, entriesWritten, endIn, reach, subAt, subsAt}
+use Rattle.hello_area.specs.Entries.{numbersIn, takeSub, takeSubs, entriesWritten, endIn, reach, subAt, subsAt}
 use Rattle.hello_area.proofs.Places.{reach-in}
 use Rattle.hello_area.proofs.Whole.{entries-are}
 use Rattle.hello_ends.specs.Below.{refusalOf}
 use Rattle.hello_ends.proofs.Judged.{only-subs}
-use Rattle.hello_put.specs.declared.Cursor.{Cursor}
 use Rattle.hello_put.specs.Placing.{unopened, steppedAll, placedAll}
 use Rattle.hello_put.proofs.Placed.{size-is, bytes-are}
 use Rattle.hello_write.specs.Sections.{sectionAt, sectionEnd, subsIn}

@@ -1,8 +1,8 @@
 -- The walk that judges and sizes: where it is not past the end, its cursor is that of the fold.
 -- Assumes nothing.
-use Prim.Native.Nat.{ℕ, suc, _+_, _-_, _*_, _^_, _<_, _≤_}
+use Prim.Native.Nat.{ℕ, _+_, _-_, _*_, _^_, _<_, _≤_}
 use mathlib.Core.Bool.{Bool, true, false, not}
-use mathlib.Core.List.{List, _++_}
+use mathlib.Core.List.{List}
 use mathlib.Core.Path.{_≡_, refl, sym, ap, _∙_}
 use native.Mathlib.Omega.{arith}
 use lib.ListN.{length, getD}
@@ -22,7 +22,7 @@ use Rattle.hello_put.proofs.Laws.{step-ordered}
 use Rattle.hello_put.proofs.Placed.{stepped-append}
 use Rattle.hello_write.specs.declared.Walk.{Walk}
 use Rattle.hello_write.specs.Sections.{sectionAt, sectionEnd, subsIn, atFirst, Follows, SizeIs}
-use Rattle.hello_write.proofs.Taking.{within-22, within-6, within-8, within-23}
+use Rattle.hello_write.proofs.Taking.{within-22, within-6, within-8}
 use Rattle.hello_write.proofs.Walking.{entry-stepped, entry-most, entries-next, entries-done}
 
 pub past-follows : (ns : List ℕ) (n : ℕ) → n ≡ length ns → (c : Cursor) (ss : List Sub) (r : Walk) → r .next ≡ n + 1 → Follows ns c ss r

@@ -2,21 +2,21 @@
 -- Assumes nothing.
 use Prim.Native.Nat.{ℕ, zero, suc, _+_, _-_, _<_, _≤_}
 use mathlib.Core.Bool.{Bool, true, false}
-use mathlib.Core.List.{List, [], _∷_, _++_}
+use mathlib.Core.List.{List, [], _∷_}
 use mathlib.Core.Path.{_≡_, refl, sym, ap, _∙_}
 use native.Mathlib.Omega.{arith}
 use lib.Dec.{leb}
 use lib.ListN.{length, drop, getD, length-drop}
 use lib.Seq.{drop-drop}
 use borrow.Author.Tests.{leb-true, leb-false}
-use Rattle.numbers.specs.Result.{Result, refused, got, check, andThen}
+use Rattle.numbers.specs.Result.{andThen}
 use Rattle.hello.specs.Pieces.{Sub}
-use Rattle.hello.specs.Area.{Taken, Taker, taken, takeOne, then, takeMany, takeCounted}
+use Rattle.hello.specs.Area.{Taker, taken, takeOne, then, takeMany, takeCounted}
 use Rattle.hello_area.specs.Entries.{takeSub, takeBoth, takeSubs, reach, subIn, subAt, subsAt}
-use Rattle.hello_area.proofs.Places.{Suffix, reach-in, reach-none, reach-next}
+use Rattle.hello_area.proofs.Places.{Suffix, reach-none, reach-next}
 use Rattle.hello_ends.proofs.Numbers.{here}
 use Rattle.hello_ends.proofs.Shapes.{suffix-sub, section-none, section-on, subs-end}
-use Rattle.hello_entry.proofs.Plain.{Good, reach-got}
+use Rattle.hello_entry.proofs.Plain.{reach-got}
 use Rattle.hello_write.specs.Sections.{sectionAt, sectionEnd, subsIn}
 
 -- ---- one entry

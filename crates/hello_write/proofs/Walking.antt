@@ -1,13 +1,13 @@
 -- The walk over the entries of a section: the cursor is that of the fold, and no number brings more than nine bytes.
 -- Assumes nothing.
-use Prim.Native.Nat.{ℕ, zero, suc, _+_, _-_, _*_, _/_, _^_, _<_, _≤_}
+use Prim.Native.Nat.{ℕ, suc, _+_, _-_, _*_, _^_, _<_, _≤_}
 use mathlib.Core.Bool.{Bool, true, false}
-use mathlib.Core.List.{List, [], _∷_, _++_}
+use mathlib.Core.List.{List, _++_}
 use mathlib.Core.Path.{_≡_, refl, sym, ap, _∙_}
 use native.Mathlib.Omega.{arith}
-use lib.Dec.{leb, eqb}
+use lib.Dec.{eqb}
 use lib.ListN.{length, getD}
-use borrow.Author.Tests.{eq-eqb, ne-eqb, eqb-true, eqb-false}
+use borrow.Author.Tests.{ne-eqb, eqb-true, eqb-false}
 use Rattle.numbers.specs.Tests.{pick, either}
 use Rattle.frame_copy.specs.Areas.{pasted}
 use Rattle.hello.specs.Tlvs.{tlvBytes}
@@ -19,12 +19,12 @@ use Rattle.hello_area.proofs.Places.{reach-none}
 use Rattle.hello_ends.proofs.Numbers.{numbers-length}
 use Rattle.hello_ends.proofs.Shapes.{suffix-sub}
 use Rattle.hello_entry.specs.Kinds.{hasSection}
-use Rattle.hello_entry.proofs.Plain.{Good, reach-got}
-use Rattle.hello_entry.proofs.Shape.{Entry, entry-alone, entry-listed}
-use Rattle.hello_entry.proofs.Counts.{Counted, nicknames-counted, trees-counted, macs-counted, alone-ends, alone-long}
+use Rattle.hello_entry.proofs.Plain.{reach-got}
+use Rattle.hello_entry.proofs.Shape.{entry-alone, entry-listed}
+use Rattle.hello_entry.proofs.Counts.{nicknames-counted, trees-counted, macs-counted, alone-ends, alone-long}
 use Rattle.hello_put.specs.declared.Cursor.{Cursor}
 use Rattle.hello_put.specs.Placing.{unopened, stepped, opened, steppedBy, placed, steppedAll, placedAll}
-use Rattle.hello_put.proofs.Laws.{step-small, step-ordered, step-most}
+use Rattle.hello_put.proofs.Laws.{step-ordered, step-most}
 use Rattle.hello_put.proofs.Placed.{stepped-append, placed-append, steps-grow}
 use Rattle.hello_write.specs.declared.Walk.{Walk}
 use Rattle.hello_write.specs.Sections.{sectionAt, sectionEnd, subsIn, frontIn, atFirst, walked}

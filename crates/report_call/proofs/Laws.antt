@@ -13,7 +13,7 @@ use lib.ListN.{length, take, drop, length-append}
 use lib.Seq.{length-take-le, take-at}
 use borrow.Author.Tests.{eq-eqb, ne-eqb, eqb-false, leb-false, lt-ltb, le-ltb}
 use Rattle.numbers.specs.Tests.{pick}
-use Rattle.numbers.specs.After.{OnArea, onArea}
+use Rattle.numbers.specs.After.{OnArea}
 use Rattle.table.specs.Record.{unpacked, learnedThat, configuredThat, isFree, isSpoilt}
 use Rattle.table.specs.Slots.{mostSlots, tableGood, slotsOf, slotAt, countSlots}
 use Rattle.table.specs.Learning.{freeSlot}

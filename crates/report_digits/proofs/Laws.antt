@@ -1,16 +1,14 @@
 -- Laws of the text: digits in parts, one byte of an area.
 -- Assumes nothing.
-use Prim.Native.Nat.{ℕ, zero, suc, _+_, _-_, _*_, _/_, _%_, _^_, _<_, _≤_}
-use mathlib.Core.Bool.{Bool, true, false}
-use mathlib.Core.List.{List, [], _∷_, _++_, append-nil, append-assoc}
+use Prim.Native.Nat.{ℕ, zero, suc, _+_, _*_, _/_, _%_, _^_, _<_, _≤_}
+use mathlib.Core.List.{List, [], _∷_, _++_, append-assoc}
 use mathlib.Core.Path.{_≡_, refl, sym, ap, _∙_}
 use native.Mathlib.Nat.{zero-add, suc-add, mul-comm, mod-lt, div-div-eq-div-mul}
 use native.Mathlib.Decide.{decLt}
 use native.Mathlib.Numerals.{add-one}
 use native.Mathlib.Omega.{arith}
-use lib.Dec.{leb}
 use lib.Pow.{pow-add}
-use lib.ListN.{length, take, drop, getD, set, length-append}
+use lib.ListN.{length, take, drop, set}
 use lib.Seq.{set-split}
 use borrow.Author.Tests.{le-leb, lt-leb}
 use Rattle.numbers.specs.Tests.{pick}
@@ -18,7 +16,7 @@ use Rattle.numbers.specs.Bytes.{bytesOf}
 use Rattle.frame_copy.specs.Areas.{pasted}
 use Rattle.frame_copy.proofs.Copying.{paste-next}
 use Rattle.report.specs.Text.{sign, digitsOf, hexadecimal, widthOf, decimal}
-use Rattle.report.proofs.Digits.{length-digits, length-decimal}
+use Rattle.report.proofs.Digits.{length-digits}
 
 pub put-one : (o : List ℕ) (at v : ℕ) → at < length o → set o at v ≡ pasted o at (v ∷ [])
 unfolding pasted

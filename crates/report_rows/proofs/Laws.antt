@@ -1,16 +1,15 @@
 -- Laws of rows: the tallies of a nickname stand together, and the lines of those before it are done.
 -- Assumes nothing.
 use Prim.{tt}
-use Prim.Native.Nat.{ℕ, zero, suc, _+_, _-_, _*_, _/_, _%_, _^_, _<_, _≤_}
+use Prim.Native.Nat.{ℕ, zero, suc, _+_, _-_, _*_, _/_, _%_, _<_, _≤_}
 use mathlib.Core.Bool.{Bool, true, false, not, _||_}
-use mathlib.Core.List.{List, [], _∷_, _++_, append-nil}
+use mathlib.Core.List.{List, [], _∷_}
 use mathlib.Core.Path.{_≡_, refl, sym, ap, _∙_}
 use native.Mathlib.Decide.{ℕ-discrete, decLt}
-use native.Mathlib.Nat.{le-trans}
 use native.Mathlib.Numerals.{add-one}
 use native.Mathlib.Omega.{arith}
 use lib.Dec.{eqb, leb}
-use lib.ListN.{length, take, drop, getD, length-append, take-append-drop, length-drop, drop-of-length-le}
+use lib.ListN.{length, take, drop, getD, take-append-drop, length-drop, drop-of-length-le}
 use lib.Seq.{drop-cons, getD-drop, take-length}
 use borrow.Author.Tests.{eq-eqb, ne-eqb, eqb-true, eqb-false, leb-false, not-true}
 use Rattle.numbers.specs.Tests.{pick}
@@ -20,8 +19,7 @@ use Rattle.report.specs.Report.{nicknameEnd}
 use Rattle.report_keys.specs.Keys.{freeKey}
 use Rattle.report_tally.specs.Tallies.{tallyUnit, countedBy, tallied}
 use Rattle.report_tally.proofs.Laws.{tallied-append, tallied-last}
-use Rattle.report_rows.specs.declared.Row.{Row}
-use Rattle.report_rows.specs.Rows.{rowUnit, rowText, linesText, RowAt, DoneAt, singleRow}
+use Rattle.report_rows.specs.Rows.{rowUnit, RowAt, singleRow}
 
 -- ---- what a tally counts
 

@@ -1,26 +1,23 @@
 -- Laws of the text: lines grow one at a time; lengths; what is written.
 -- Assumes nothing.
-use Prim.Native.Nat.{ℕ, suc, _+_, _*_, _/_, _%_, _^_, _<_, _≤_}
-use mathlib.Core.Bool.{Bool, true, false}
-use mathlib.Core.List.{List, [], _∷_, _++_, append-nil, append-assoc}
+use Prim.Native.Nat.{ℕ, _+_, _/_, _<_, _≤_}
+use mathlib.Core.List.{List, [], _∷_, _++_, append-assoc}
 use mathlib.Core.Path.{_≡_, refl, sym, ap, _∙_}
 use native.Mathlib.Nat.{zero-add}
 use native.Mathlib.Omega.{arith}
-use lib.Dec.{leb}
-use lib.ListN.{length, take, drop, length-append, take-append-drop, getD}
+use lib.ListN.{length, drop, length-append, getD}
 use borrow.Author.Tests.{le-leb, lt-leb}
 use Rattle.numbers.specs.Tests.{pick}
 use Rattle.numbers.specs.Result.{check, settled}
 use Rattle.numbers.specs.After.{onArea}
-use Rattle.numbers.specs.Bytes.{laid, bytesOf}
-use Rattle.numbers.specs.Refusals.{table-length-bad}
+use Rattle.numbers.specs.Bytes.{bytesOf}
 use Rattle.numbers.proofs.Bytes.{length-bytesOf}
 use Rattle.frame_copy.specs.Areas.{pasted}
 use Rattle.frame_copy.proofs.Copying.{paste-laid}
-use Rattle.report.specs.Text.{space, lineFeed, hexadecimal, widthOf, decimal, digitsOf, lineText, freeText, spoiltText, refusedText}
+use Rattle.report.specs.Text.{lineFeed, widthOf, decimal, digitsOf, freeText, spoiltText, refusedText}
 use Rattle.report.specs.Report.{nicknameEnd, written}
 use Rattle.report.specs.declared.ReportAnswer.the-variants as report
-use Rattle.report.proofs.Digits.{length-digits, length-decimal, width-most, length-line, length-free, length-spoilt}
+use Rattle.report.proofs.Digits.{length-decimal, length-free, length-spoilt}
 use Rattle.report_digits.proofs.Laws.{then-pasted}
 use Rattle.flush_sort.specs.Sorting.{Sorted}
 use Rattle.report_rows.specs.declared.Row.{Row}

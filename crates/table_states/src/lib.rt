@@ -63,14 +63,6 @@ fn good_by_front(t: &[u8], at: usize, k: u64) -> bool
     nickname_good_at(t, at)
 }
 
-// Whether the entry of the record at an offset of the table is good.
-pub fn good_at(t: &[u8], at: usize) -> bool
-    requires { ⌜ at + recordBytes ≤ length (now t) ⌝ }
-    ensures { λ r. ⌜ r ≡ entryGood (entryOf (recordOf (drop at (now (t .entry))))) ⌝ }
-{
-    good_by_front(t, at, table_fields::front_at(t, at) % layout::FRONT_STATE)
-}
-
 // Whether the fields are those of a learned record. The test of the state excludes VLAN 0 as well.
 fn learned_fields_at(t: &[u8], at: usize) -> bool
     requires { ⌜ at + recordBytes ≤ length (now t) ⌝ }

@@ -6,24 +6,7 @@ use borrow.Author.Needs.{needs}
 use Rattle.hello_ends.proofs.label_good.Statement.{statement}
 use Rattle.hello_ends.proofs.label_good.Tie as tie
 
-add-number : tie.Need-add-number
-add-number c = search (place-fits, needs)
-
-add-number-2 : tie.Need-add-number-2
-add-number-2 c = search (place-fits, needs)
-
-returns : tie.Need-returns
-returns c = search label-test
-
 pub label-good-spec : {M : Type 1} → statement M
 label-good-spec =
-    tie.close
-    (tie.spec
-    (λ c κs. search needs)
-    add-number
-    (λ c κs. search needs)
-    add-number-2
-    (λ c κs. search needs)
-    (λ c κs. search needs)
-    (λ c κs. search needs)
-    returns)
+    tie.close (tie.spec (λ c κs. search needs) (λ c. search (place-fits, needs)) (λ c κs. search needs) (λ c. search (place-fits, needs))
+    (λ c κs. search needs) (λ c κs. search needs) (λ c κs. search needs) (λ c. search label-test))

@@ -5,25 +5,7 @@ use borrow.Author.Needs.{needs}
 use Rattle.hello_ends.proofs.nicknames_end.Statement.{statement}
 use Rattle.hello_ends.proofs.nicknames_end.Tie as tie
 
-returns : tie.Need-returns
-returns c = search nicknames-none
-
-returns-2 : tie.Need-returns-2
-returns-2 c = search nicknames-many
-
-returns-3 : tie.Need-returns-3
-returns-3 c = search nicknames-on
-
 pub nicknames-end-spec : {M : Type 1} → statement M
 nicknames-end-spec =
-    tie.close
-    (tie.spec
-    (λ c κs. search needs)
-    (λ c. search needs)
-    returns
-    (λ c κs. search needs)
-    (λ c. search needs)
-    returns-2
-    (λ c. search needs)
-    (λ c κs. search needs)
-    returns-3)
+    tie.close (tie.spec (λ c κs. search needs) (λ c. search needs) (λ c. search nicknames-none) (λ c κs. search needs) (λ c. search needs)
+    (λ c. search nicknames-many) (λ c. search needs) (λ c κs. search needs) (λ c. search nicknames-on))

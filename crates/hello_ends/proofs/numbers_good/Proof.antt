@@ -15,32 +15,8 @@ Inv-loop area i m top sum₀ j₀ sum j = (j ≤ m) × ((sum ≤ 0x1_0000_0000_0
 abbrev μ-loop : tie.MeasureT-loop
 μ-loop area i m top sum₀ j₀ sum j = m - j
 
-loop-holds : tie.Need-loop-holds Inv-loop μ-loop
-loop-holds c = (search needs, (search needs, search sums-start))
-
-add-number-over : tie.Need-add-number-over Inv-loop μ-loop
-add-number-over c = search (item-fits, needs)
-
-add-sum : tie.Need-add-sum Inv-loop μ-loop
-add-sum c = search (sum-fits, needs)
-
-loop-again : tie.Need-loop-again Inv-loop μ-loop
-loop-again c = (search needs, (search sum-next, search sums-next))
-
-returns : tie.Need-returns Inv-loop μ-loop
-returns c = search sums-test
-
 pub numbers-good-spec : {M : Type 1} → statement M
 numbers-good-spec =
-    tie.close
-    (tie.spec
-    Inv-loop
-    μ-loop
-    loop-holds
-    add-number-over
-    (λ c κs. search needs)
-    add-sum
-    (λ c. search needs)
-    (λ c. search needs)
-    loop-again
-    returns)
+    tie.close (tie.spec Inv-loop μ-loop (λ c. (search needs, (search needs, search sums-start))) (λ c. search (item-fits, needs))
+    (λ c κs. search needs) (λ c. search (sum-fits, needs)) (λ c. search needs) (λ c. search needs)
+    (λ c. (search needs, (search sum-next, search sums-next))) (λ c. search sums-test))

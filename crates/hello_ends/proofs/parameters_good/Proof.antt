@@ -5,24 +5,7 @@ use borrow.Author.Needs.{needs}
 use Rattle.hello_ends.proofs.parameters_good.Statement.{statement}
 use Rattle.hello_ends.proofs.parameters_good.Tie as tie
 
-returns : tie.Need-returns
-returns c = search parameters-short
-
-returns-2 : tie.Need-returns-2
-returns-2 c = search parameters-first
-
-returns-3 : tie.Need-returns-3
-returns-3 c = search parameters-second
-
 pub parameters-good-spec : {M : Type 1} → statement M
 parameters-good-spec =
-    tie.close
-    (tie.spec
-    (λ c κs. search needs)
-    (λ c. search needs)
-    returns
-    (λ c κs. search needs)
-    returns-2
-    (λ c. search needs)
-    (λ c κs. search needs)
-    returns-3)
+    tie.close (tie.spec (λ c κs. search needs) (λ c. search needs) (λ c. search parameters-short) (λ c κs. search needs)
+    (λ c. search parameters-first) (λ c. search needs) (λ c κs. search needs) (λ c. search parameters-second))

@@ -5,23 +5,7 @@ use borrow.Author.Needs.{needs}
 use Rattle.hello_ends.proofs.record_good.Statement.{statement}
 use Rattle.hello_ends.proofs.record_good.Tie as tie
 
-add-number : tie.Need-add-number
-add-number c = search (place-fits, needs)
-
-add-number-2 : tie.Need-add-number-2
-add-number-2 c = search (place-fits, needs)
-
-returns : tie.Need-returns
-returns c = search record-test
-
 pub record-good-spec : {M : Type 1} → statement M
 record-good-spec =
-    tie.close
-    (tie.spec
-    (λ c κs. search needs)
-    add-number
-    (λ c κs. search needs)
-    add-number-2
-    (λ c κs. search needs)
-    (λ c κs. search needs)
-    returns)
+    tie.close (tie.spec (λ c κs. search needs) (λ c. search (place-fits, needs)) (λ c κs. search needs) (λ c. search (place-fits, needs))
+    (λ c κs. search needs) (λ c κs. search needs) (λ c. search record-test))

@@ -16,38 +16,8 @@ Inv-loop area i m n at₀ j₀ at j = (j ≤ m) × ((at ≡ i + 3 * j) × (reach
 abbrev μ-loop : tie.MeasureT-loop
 μ-loop area i m n at₀ j₀ at j = m - j
 
-returns : tie.Need-returns Inv-loop μ-loop
-returns c = search records-short
-
-loop-holds : tie.Need-loop-holds Inv-loop μ-loop
-loop-holds c = (search needs, (search needs, search (many-start, suffix-item)))
-
-returns-2 : tie.Need-returns-2 Inv-loop μ-loop
-returns-2 c = search records-bad
-
-loop-again : tie.Need-loop-again Inv-loop μ-loop
-loop-again c = (search needs, (search needs, search records-next))
-
-returns-3 : tie.Need-returns-3 Inv-loop μ-loop
-returns-3 c = search records-done
-
 pub records-end-spec : {M : Type 1} → statement M
 records-end-spec =
-    tie.close
-    (tie.spec
-    Inv-loop
-    μ-loop
-    (λ c κs. search needs)
-    (λ c. search needs)
-    (λ c. search needs)
-    (λ c. search needs)
-    returns
-    loop-holds
-    (λ c κs. search needs)
-    (λ c. search needs)
-    returns-2
-    (λ c. search needs)
-    (λ c. search needs)
-    (λ c. search needs)
-    loop-again
-    returns-3)
+    tie.close (tie.spec Inv-loop μ-loop (λ c κs. search needs) (λ c. search needs) (λ c. search needs) (λ c. search needs) (λ c. search records-short)
+    (λ c. (search needs, (search needs, search (many-start, suffix-item)))) (λ c κs. search needs) (λ c. search needs) (λ c. search records-bad)
+    (λ c. search needs) (λ c. search needs) (λ c. search needs) (λ c. (search needs, (search needs, search records-next))) (λ c. search records-done))

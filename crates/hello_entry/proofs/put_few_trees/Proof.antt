@@ -17,31 +17,8 @@ Inv-loop area i m out₀ at j₀ out j = (j ≤ m) × ((length out ≡ length ou
 abbrev μ-loop : tie.MeasureT-loop
 μ-loop area i m out₀ at j₀ out j = m - j
 
-loop-holds : tie.Need-loop-holds Inv-loop μ-loop
-loop-holds c = (search needs, (refl, search numbers-none))
-
-add-put-low : tie.Need-add-put-low Inv-loop μ-loop
-add-put-low c = search (item-fits, needs)
-
-loop-again : tie.Need-loop-again Inv-loop μ-loop
-loop-again c = (search needs, (search needs, search numbers-next))
-
-returns : tie.Need-returns Inv-loop μ-loop
-returns c = search numbers-done
-
 pub put-few-trees-spec : {M : Type 1} → statement M
 put-few-trees-spec =
-    tie.close
-    (tie.spec
-    Inv-loop
-    μ-loop
-    loop-holds
-    add-put-low
-    (λ c. search needs)
-    (λ c. search needs)
-    (λ c κs. search needs)
-    (λ c. search needs)
-    (λ c. search needs)
-    loop-again
-    (λ c. search needs)
-    returns)
+    tie.close (tie.spec Inv-loop μ-loop (λ c. (search needs, (refl, search numbers-none))) (λ c. search (item-fits, needs)) (λ c. search needs)
+    (λ c. search needs) (λ c κs. search needs) (λ c. search needs) (λ c. search needs) (λ c. (search needs, (search needs, search numbers-next)))
+    (λ c. search needs) (λ c. search numbers-done))

@@ -6,19 +6,10 @@ use borrow.Author.Needs.{needs}
 use Rattle.hello_entry.proofs.put_low.Statement.{statement}
 use Rattle.hello_entry.proofs.put_low.Tie as tie
 
-mul-part : tie.Need-mul-part
-mul-part c = search (eight-fits, needs)
-
-add-part : tie.Need-add-part
-add-part c = search (low-fits, needs)
-
-part-requires : tie.Need-part-requires
-part-requires c κs = search low-inside
-
 returns : tie.Need-returns
 returns c = let bytes : AreBytes (c .before .before .before .before .before .before .before .args .area .now) = λ i. c .before .before .before .before .before .before .shared-slice-known .given i .fits in search (low-put, bytes)
 
 pub put-low-spec : {M : Type 1} → statement M
 put-low-spec =
-    tie.close
-    (tie.spec mul-part (λ c. search needs) add-part part-requires (λ c κs. search needs) (λ c. search needs) returns)
+    tie.close (tie.spec (λ c. search (eight-fits, needs)) (λ c. search needs) (λ c. search (low-fits, needs)) (λ c κs. search low-inside)
+    (λ c κs. search needs) (λ c. search needs) returns)

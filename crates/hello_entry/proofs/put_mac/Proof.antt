@@ -5,9 +5,6 @@ use borrow.Author.Needs.{needs}
 use Rattle.hello_entry.proofs.put_mac.Statement.{statement}
 use Rattle.hello_entry.proofs.put_mac.Tie as tie
 
-returns : tie.Need-returns
-returns c = search mac-put
-
 pub put-mac-spec : {M : Type 1} → statement M
 put-mac-spec =
-    tie.close (tie.spec (λ c κs. search needs) (λ c. search needs) (λ c κs. search needs) (λ c. search needs) returns)
+    tie.close (tie.spec (λ c κs. search needs) (λ c. search needs) (λ c κs. search needs) (λ c. search needs) (λ c. search mac-put))

@@ -17,43 +17,9 @@ Inv-loop area i m out₀ at last j₀ out j = (j < m) × ((length out ≡ length
 abbrev μ-loop : tie.MeasureT-loop
 μ-loop area i m out₀ at last j₀ out j = m - j
 
-returns : tie.Need-returns Inv-loop μ-loop
-returns c = search numbers-empty
-
-loop-holds : tie.Need-loop-holds Inv-loop μ-loop
-loop-holds c = (search needs, (refl, search numbers-none))
-
-add-put-mac : tie.Need-add-put-mac Inv-loop μ-loop
-add-put-mac c = search (item-fits, needs)
-
-loop-again : tie.Need-loop-again Inv-loop μ-loop
-loop-again c = (search needs, (search needs, search macs-past))
-
-add-put-low : tie.Need-add-put-low Inv-loop μ-loop
-add-put-low c = search (last-fits, needs)
-
-returns-2 : tie.Need-returns-2 Inv-loop μ-loop
-returns-2 c = search macs-last
-
 pub put-macs-spec : {M : Type 1} → statement M
 put-macs-spec =
-    tie.close
-    (tie.spec
-    Inv-loop
-    μ-loop
-    returns
-    (λ c. search needs)
-    loop-holds
-    add-put-mac
-    (λ c. search needs)
-    (λ c. search needs)
-    (λ c κs. search needs)
-    (λ c. search needs)
-    (λ c. search needs)
-    loop-again
-    add-put-low
-    (λ c. search needs)
-    (λ c. search needs)
-    (λ c κs. search needs)
-    (λ c. search needs)
-    returns-2)
+    tie.close (tie.spec Inv-loop μ-loop (λ c. search numbers-empty) (λ c. search needs) (λ c. (search needs, (refl, search numbers-none)))
+    (λ c. search (item-fits, needs)) (λ c. search needs) (λ c. search needs) (λ c κs. search needs) (λ c. search needs) (λ c. search needs)
+    (λ c. (search needs, (search needs, search macs-past))) (λ c. search (last-fits, needs)) (λ c. search needs) (λ c. search needs)
+    (λ c κs. search needs) (λ c. search needs) (λ c. search macs-last))

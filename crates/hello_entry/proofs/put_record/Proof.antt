@@ -5,25 +5,7 @@ use borrow.Author.Needs.{needs}
 use Rattle.hello_entry.proofs.put_record.Statement.{statement}
 use Rattle.hello_entry.proofs.put_record.Tie as tie
 
-add-put-low : tie.Need-add-put-low
-add-put-low c = search (number-fits, needs)
-
-add-put-low-3 : tie.Need-add-put-low-3
-add-put-low-3 c = search (number-fits, needs)
-
-returns : tie.Need-returns
-returns c = search record-put
-
 pub put-record-spec : {M : Type 1} → statement M
 put-record-spec =
-    tie.close
-    (tie.spec
-    (λ c κs. search needs)
-    add-put-low
-    (λ c. search needs)
-    (λ c κs. search needs)
-    add-put-low-3
-    (λ c. search needs)
-    (λ c κs. search needs)
-    (λ c. search needs)
-    returns)
+    tie.close (tie.spec (λ c κs. search needs) (λ c. search (number-fits, needs)) (λ c. search needs) (λ c κs. search needs)
+    (λ c. search (number-fits, needs)) (λ c. search needs) (λ c κs. search needs) (λ c. search needs) (λ c. search record-put))

@@ -17,35 +17,8 @@ Inv-loop area i m out₀ at j₀ out j = (j ≤ m) × ((length out ≡ length ou
 abbrev μ-loop : tie.MeasureT-loop
 μ-loop area i m out₀ at j₀ out j = m - j
 
-loop-holds : tie.Need-loop-holds Inv-loop μ-loop
-loop-holds c = (search needs, (refl, search records-none))
-
-mul-put-record : tie.Need-mul-put-record Inv-loop μ-loop
-mul-put-record c = search (triple-fits, needs)
-
-add-put-record : tie.Need-add-put-record Inv-loop μ-loop
-add-put-record c = search (record-fits, needs)
-
-loop-again : tie.Need-loop-again Inv-loop μ-loop
-loop-again c = (search needs, (search needs, search records-next))
-
-returns : tie.Need-returns Inv-loop μ-loop
-returns c = search records-done
-
 pub put-records-spec : {M : Type 1} → statement M
 put-records-spec =
-    tie.close
-    (tie.spec
-    Inv-loop
-    μ-loop
-    loop-holds
-    mul-put-record
-    add-put-record
-    (λ c. search needs)
-    (λ c. search needs)
-    (λ c κs. search needs)
-    (λ c. search needs)
-    (λ c. search needs)
-    loop-again
-    (λ c. search needs)
-    returns)
+    tie.close (tie.spec Inv-loop μ-loop (λ c. (search needs, (refl, search records-none))) (λ c. search (triple-fits, needs))
+    (λ c. search (record-fits, needs)) (λ c. search needs) (λ c. search needs) (λ c κs. search needs) (λ c. search needs) (λ c. search needs)
+    (λ c. (search needs, (search needs, search records-next))) (λ c. search needs) (λ c. search records-done))

@@ -5,42 +5,8 @@ use borrow.Author.Needs.{needs}
 use Rattle.hello_entry.proofs.put_smart_mac.Statement.{statement}
 use Rattle.hello_entry.proofs.put_smart_mac.Tie as tie
 
-mul-put-number : tie.Need-mul-put-number
-mul-put-number c = search needs
-
-add-put-number : tie.Need-add-put-number
-add-put-number c = search needs
-
-put-number-requires : tie.Need-put-number-requires
-put-number-requires c κs = search needs
-
-label-requires : tie.Need-label-requires
-label-requires c κs = search needs
-
-put-number-requires-2 : tie.Need-put-number-requires-2
-put-number-requires-2 c κs = search needs
-
-add-put-macs : tie.Need-add-put-macs
-add-put-macs c = search (place-fits, needs)
-
-put-macs-requires : tie.Need-put-macs-requires
-put-macs-requires c κs = search needs
-
-returns : tie.Need-returns
-returns c = search macs-written
-
 pub put-smart-mac-spec : {M : Type 1} → statement M
 put-smart-mac-spec =
-    tie.close
-    (tie.spec
-    mul-put-number
-    add-put-number
-    put-number-requires
-    label-requires
-    (λ c. search needs)
-    put-number-requires-2
-    add-put-macs
-    (λ c. search needs)
-    put-macs-requires
-    (λ c. search needs)
-    returns)
+    tie.close (tie.spec (λ c. search needs) (λ c. search needs) (λ c κs. search needs) (λ c κs. search needs) (λ c. search needs)
+    (λ c κs. search needs) (λ c. search (place-fits, needs)) (λ c. search needs) (λ c κs. search needs) (λ c. search needs)
+    (λ c. search macs-written))

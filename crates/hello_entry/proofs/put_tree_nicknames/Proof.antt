@@ -17,43 +17,10 @@ Inv-loop area i m out₀ at last j₀ out j = (j ≤ m) × ((length out ≡ leng
 abbrev μ-loop : tie.MeasureT-loop
 μ-loop area i m out₀ at last j₀ out j = m - j
 
-loop-holds : tie.Need-loop-holds Inv-loop μ-loop
-loop-holds c = (search needs, (refl, search fours-none))
-
-add-four-trees : tie.Need-add-four-trees Inv-loop μ-loop
-add-four-trees c = search (rest-fits, needs)
-
-loop-again : tie.Need-loop-again Inv-loop μ-loop
-loop-again c = (search needs, (search needs, search fours-next))
-
-add-four-trees-2 : tie.Need-add-four-trees-2 Inv-loop μ-loop
-add-four-trees-2 c = search (last-fits, needs)
-
-returns-2 : tie.Need-returns-2 Inv-loop μ-loop
-returns-2 c = search fours-last
-
 pub put-tree-nicknames-spec : {M : Type 1} → statement M
 put-tree-nicknames-spec =
-    tie.close
-    (tie.spec
-    Inv-loop
-    μ-loop
-    (λ c κs. search needs)
-    (λ c. search needs)
-    (λ c. search needs)
-    loop-holds
-    add-four-trees
-    (λ c κs. search needs)
-    (λ c. search needs)
-    (λ c. search needs)
-    (λ c κs. search needs)
-    (λ c. search needs)
-    (λ c. search needs)
-    loop-again
-    add-four-trees-2
-    (λ c κs. search needs)
-    (λ c. search needs)
-    (λ c. search needs)
-    (λ c κs. search needs)
-    (λ c. search needs)
-    returns-2)
+    tie.close (tie.spec Inv-loop μ-loop (λ c κs. search needs) (λ c. search needs) (λ c. search needs)
+    (λ c. (search needs, (refl, search fours-none))) (λ c. search (rest-fits, needs)) (λ c κs. search needs) (λ c. search needs) (λ c. search needs)
+    (λ c κs. search needs) (λ c. search needs) (λ c. search needs) (λ c. (search needs, (search needs, search fours-next)))
+    (λ c. search (last-fits, needs)) (λ c κs. search needs) (λ c. search needs) (λ c. search needs) (λ c κs. search needs) (λ c. search needs)
+    (λ c. search fours-last))

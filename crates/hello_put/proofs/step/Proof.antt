@@ -5,13 +5,7 @@ use borrow.Author.Needs.{needs}
 use Rattle.hello_put.proofs.step.Statement.{statement}
 use Rattle.hello_put.proofs.step.Tie as tie
 
-returns : tie.Need-returns
-returns c = search step-taken
-
-returns-2 : tie.Need-returns-2
-returns-2 c = search step-new
-
 pub step-spec : {M : Type 1} → statement M
 step-spec =
-    tie.close
-    (tie.spec (λ c κs. search needs) (λ c. search needs) returns (λ c κs. search needs) (λ c. search needs) (λ c. search needs) (λ c. search needs) returns-2)
+    tie.close (tie.spec (λ c κs. search needs) (λ c. search needs) (λ c. search step-taken) (λ c κs. search needs) (λ c. search needs)
+    (λ c. search needs) (λ c. search needs) (λ c. search step-new))

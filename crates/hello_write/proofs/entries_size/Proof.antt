@@ -25,12 +25,6 @@ loop-holds c = ((search needs, (search needs, (search needs, search needs))), (s
 returns : tie.Need-returns Inv-loop μ-loop
 returns c = ((search (entry-bad, bad-past), search past-follows), (search needs, search needs))
 
-measure-requires : tie.Need-measure-requires Inv-loop μ-loop
-measure-requires c κs = (search kinds, search good-within)
-
-step-requires : tie.Need-step-requires Inv-loop μ-loop
-step-requires c κs = (search needs, (search walk-small, search needs))
-
 loop-again : tie.Need-loop-again Inv-loop μ-loop
 loop-again c = ((search needs, (search (next-within, good-within), (search sized-ordered, search (sized-most, good-within)))), (search (many-next, suffix-sub), search (sized-next, good-within)))
 
@@ -39,19 +33,6 @@ returns-2 c = ((search walk-done, search walk-follows), (search needs, search ne
 
 pub entries-size-spec : {M : Type 1} → statement M
 entries-size-spec =
-    tie.close
-    (tie.spec
-    Inv-loop
-    μ-loop
-    (λ c κs. search needs)
-    loop-holds
-    (λ c κs. search needs)
-    (λ c κs. search needs)
-    returns
-    measure-requires
-    (λ c κs. search needs)
-    step-requires
-    (λ c. search needs)
-    (λ c. search needs)
-    loop-again
-    returns-2)
+    tie.close (tie.spec Inv-loop μ-loop (λ c κs. search needs) loop-holds (λ c κs. search needs) (λ c κs. search needs) returns
+    (λ c κs. (search kinds, search good-within)) (λ c κs. search needs) (λ c κs. (search needs, (search walk-small, search needs)))
+    (λ c. search needs) (λ c. search needs) loop-again returns-2)

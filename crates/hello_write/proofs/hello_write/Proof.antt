@@ -20,5 +20,4 @@ returns-3 c = search (written-way, size-known)
 
 pub hello-write-spec : {M : Type 1} → statement M
 hello-write-spec =
-    tie.close
-    (tie.spec (λ c κs. search needs) returns returns-2 put-payload-requires (λ c. search needs) returns-3)
+    tie.close (tie.spec (λ c κs. search needs) returns returns-2 put-payload-requires (λ c. search needs) returns-3)

@@ -5,16 +5,7 @@ use borrow.Author.Needs.{needs}
 use Rattle.hello_write.proofs.put_front.Statement.{statement}
 use Rattle.hello_write.proofs.put_front.Tie as tie
 
-put-section-requires : tie.Need-put-section-requires
-put-section-requires c κs = (search at-22, (search first-ordered, search room-22))
-
-put-nickname-section-requires : tie.Need-put-nickname-section-requires
-put-nickname-section-requires c κs = (search at-6, (search needs, search room-6))
-
-returns : tie.Need-returns
-returns c = (search front-walked, (search needs, search front-placed))
-
 pub put-front-spec : {M : Type 1} → statement M
 put-front-spec =
-    tie.close
-    (tie.spec (λ c κs. search needs) put-section-requires put-nickname-section-requires (λ c. search needs) returns)
+    tie.close (tie.spec (λ c κs. search needs) (λ c κs. (search at-22, (search first-ordered, search room-22)))
+    (λ c κs. (search at-6, (search needs, search room-6))) (λ c. search needs) (λ c. (search front-walked, (search needs, search front-placed))))

@@ -5,16 +5,7 @@ use borrow.Author.Needs.{needs}
 use Rattle.hello_write.proofs.put_payload.Statement.{statement}
 use Rattle.hello_write.proofs.put_payload.Tie as tie
 
-put-tree-section-requires : tie.Need-put-tree-section-requires
-put-tree-section-requires c κs = (search back-8, (search needs, search room-8))
-
-put-mac-section-requires : tie.Need-put-mac-section-requires
-put-mac-section-requires c κs = (search back-23, (search needs, search room-23))
-
-returns : tie.Need-returns
-returns c = search all-placed
-
 pub put-payload-spec : {M : Type 1} → statement M
 put-payload-spec =
-    tie.close
-    (tie.spec (λ c κs. search needs) put-tree-section-requires put-mac-section-requires (λ c. search needs) returns)
+    tie.close (tie.spec (λ c κs. search needs) (λ c κs. (search back-8, (search needs, search room-8)))
+    (λ c κs. (search back-23, (search needs, search room-23))) (λ c. search needs) (λ c. search all-placed))

@@ -28,13 +28,5 @@ returns-2 c =
 
 pub tally-spec : {M : Type 1} → statement M
 tally-spec =
-    tie.close
-    (tie.spec
-    (λ c κs. search needs)
-    (λ c. search needs)
-    slice-aggregate-order
-    order-requires
-    (λ c. search needs)
-    returns
-    (λ c. search needs)
-    returns-2)
+    tie.close (tie.spec (λ c κs. search needs) (λ c. search needs) slice-aggregate-order order-requires (λ c. search needs) returns
+    (λ c. search needs) returns-2)

@@ -1,7 +1,6 @@
 -- `report_call::write_report` meets its contract: the line of a bad length, or the report.
 -- Assumes nothing.
 use mathlib.Core.Path.{sym, _∙_}
-use native.Mathlib.Omega.{arith}
 use borrow.Author.Tests.{not-true, not-false}
 use Rattle.report_call.proofs.Laws.{report-bad, report-good}
 use borrow.Author.Needs.{needs}
@@ -23,13 +22,5 @@ returns-2 c =
 
 pub write-report-spec : {M : Type 1} → statement M
 write-report-spec =
-    tie.close
-    (tie.spec
-    (λ c κs. search needs)
-    (λ c κs. search needs)
-    (λ c. search needs)
-    returns
-    (λ c. search needs)
-    write-table-requires
-    (λ c. search needs)
-    returns-2)
+    tie.close (tie.spec (λ c κs. search needs) (λ c κs. search needs) (λ c. search needs) returns (λ c. search needs) write-table-requires
+    (λ c. search needs) returns-2)

@@ -41,12 +41,5 @@ returns c =
 
 pub write-table-spec : {M : Type 1} → statement M
 write-table-spec =
-    tie.close
-    (tie.spec
-    tally-requires
-    slice-reshare-prefix-write-tallies
-    slice-aggregate-write-tallies
-    write-tallies-requires
-    (λ c. search needs)
-    (λ c. search needs)
-    returns)
+    tie.close (tie.spec tally-requires slice-reshare-prefix-write-tallies slice-aggregate-write-tallies write-tallies-requires (λ c. search needs)
+    (λ c. search needs) returns)

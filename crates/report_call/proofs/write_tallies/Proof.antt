@@ -28,10 +28,4 @@ returns c =
 
 pub write-tallies-spec : {M : Type 1} → statement M
 write-tallies-spec =
-    tie.close
-    (tie.spec
-    (λ c κs. search needs)
-    (λ c κs. search needs)
-    write-requires
-    (λ c. search needs)
-    returns)
+    tie.close (tie.spec (λ c κs. search needs) (λ c κs. search needs) write-requires (λ c. search needs) returns)

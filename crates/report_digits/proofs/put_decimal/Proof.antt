@@ -52,21 +52,6 @@ returns-4 c =
 
 pub put-decimal-spec : {M : Type 1} → statement M
 put-decimal-spec =
-    tie.close
-    (tie.spec
-    put-decimal-digit-requires
-    (λ c. search needs)
-    (λ c. search needs)
-    returns
-    put-decimal-two-requires
-    (λ c. search needs)
-    (λ c. search needs)
-    returns-2
-    put-decimal-three-requires
-    (λ c. search needs)
-    (λ c. search needs)
-    returns-3
-    put-decimal-four-requires
-    (λ c. search needs)
-    (λ c. search needs)
-    returns-4)
+    tie.close (tie.spec put-decimal-digit-requires (λ c. search needs) (λ c. search needs) returns put-decimal-two-requires (λ c. search needs)
+    (λ c. search needs) returns-2 put-decimal-three-requires (λ c. search needs) (λ c. search needs) returns-3 put-decimal-four-requires
+    (λ c. search needs) (λ c. search needs) returns-4)

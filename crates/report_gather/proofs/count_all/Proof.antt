@@ -42,12 +42,6 @@ loop-again c =
     let more = add .ensures .0 in
     (search needs, (omega arith, ((search needs, (search needs, search needs)), slot-counted (a .table .now) (take (at .n) (at .tallies) ++ setTallies 0 (at .s)) _ (at .i) (key .result) (at .inv .1 .1 .1) (key .ensures .0) (add .ensures .1))))
 
-same-length : tie.Need-same-length Inv-loop μ-loop
-same-length c = c .before .loop .inv .1 .1 .0 .1 .0
-
-same-length-2 : tie.Need-same-length-2 Inv-loop μ-loop
-same-length-2 c = c .before .loop .inv .1 .1 .0 .0
-
 returns : tie.Need-returns Inv-loop μ-loop
 returns c =
     let a = c .before .before .before .before .before .args in
@@ -57,18 +51,5 @@ returns c =
 
 pub count-all-spec : {M : Type 1} → statement M
 count-all-spec =
-    tie.close
-    (tie.spec
-    Inv-loop
-    μ-loop
-    loop-holds
-    (λ c. search needs)
-    (λ c κs. search needs)
-    (λ c. search needs)
-    add-requires
-    (λ c. search needs)
-    (λ c. search needs)
-    loop-again
-    same-length
-    same-length-2
-    returns)
+    tie.close (tie.spec Inv-loop μ-loop loop-holds (λ c. search needs) (λ c κs. search needs) (λ c. search needs) add-requires (λ c. search needs)
+    (λ c. search needs) loop-again (λ c. c .before .loop .inv .1 .1 .0 .1 .0) (λ c. c .before .loop .inv .1 .1 .0 .0) returns)

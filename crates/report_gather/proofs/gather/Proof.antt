@@ -21,11 +21,4 @@ returns c =
 
 pub gather-spec : {M : Type 1} → statement M
 gather-spec =
-    tie.close
-    (tie.spec
-    (λ c. search needs)
-    count-all-requires
-    (λ c. search needs)
-    (λ c κs. search needs)
-    (λ c. search needs)
-    returns)
+    tie.close (tie.spec (λ c. search needs) count-all-requires (λ c. search needs) (λ c κs. search needs) (λ c. search needs) returns)

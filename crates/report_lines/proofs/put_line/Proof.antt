@@ -42,15 +42,5 @@ returns-4 c =
 
 pub put-line-spec : {M : Type 1} → statement M
 put-line-spec =
-    tie.close
-    (tie.spec
-    returns
-    put-long-requires
-    (λ c. search needs)
-    returns-2
-    put-long-requires-2
-    (λ c. search needs)
-    returns-3
-    put-short-requires
-    (λ c. search needs)
-    returns-4)
+    tie.close (tie.spec returns put-long-requires (λ c. search needs) returns-2 put-long-requires-2 (λ c. search needs) returns-3 put-short-requires
+    (λ c. search needs) returns-4)

@@ -47,13 +47,5 @@ returns c =
 
 pub put-long-spec : {M : Type 1} → statement M
 put-long-spec =
-    tie.close
-    (tie.spec
-    put-hexadecimal-requires
-    (λ c. search needs)
-    put-after-requires
-    put-after-requires-2
-    put-requires
-    add-result
-    (λ c. search needs)
-    returns)
+    tie.close (tie.spec put-hexadecimal-requires (λ c. search needs) put-after-requires put-after-requires-2 put-requires add-result
+    (λ c. search needs) returns)

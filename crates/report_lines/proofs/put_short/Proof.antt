@@ -38,17 +38,5 @@ returns c =
 
 pub put-short-spec : {M : Type 1} → statement M
 put-short-spec =
-    tie.close
-    (tie.spec
-    (λ c κs. search needs)
-    (λ c. search needs)
-    (λ c. search needs)
-    (λ c. search needs)
-    (λ c. search needs)
-    (λ c. search needs)
-    put-word-requires
-    add-put
-    put-requires
-    add-result
-    (λ c. search needs)
-    returns)
+    tie.close (tie.spec (λ c κs. search needs) (λ c. search needs) (λ c. search needs) (λ c. search needs) (λ c. search needs) (λ c. search needs)
+    put-word-requires add-put put-requires add-result (λ c. search needs) returns)

@@ -17,9 +17,6 @@ Inv-loop s out₀ n c₀ i₀ out c i = (i ≤ length s) × ((c + length (setTal
 abbrev μ-loop : tie.MeasureT-loop
 μ-loop s out₀ n c₀ i₀ out c i = length s - i
 
-loop-holds : tie.Need-loop-holds Inv-loop μ-loop
-loop-holds c = (search needs, (refl, (refl, refl)))
-
 list-word-requires : tie.Need-list-word-requires Inv-loop μ-loop
 list-word-requires c κs =
     let a = c .before .before .before .before .before .before .args in
@@ -36,9 +33,6 @@ loop-again c =
     let count = listed .ensures .0 in
     (search needs, (omega arith, (search needs, word-listed (a .s .now) (at .i) (omega arith) (take (at .c) (at .out)) _ (listed .ensures .1) ∙ at .inv .1 .1 .1)))
 
-same-length : tie.Need-same-length Inv-loop μ-loop
-same-length c = c .before .loop .inv .1 .1 .0
-
 returns : tie.Need-returns Inv-loop μ-loop
 returns c =
     let a = c .before .before .before .before .args in
@@ -48,17 +42,5 @@ returns c =
 
 pub list-spec : {M : Type 1} → statement M
 list-spec =
-    tie.close
-    (tie.spec
-    Inv-loop
-    μ-loop
-    loop-holds
-    (λ c. search needs)
-    (λ c. search needs)
-    (λ c. search needs)
-    list-word-requires
-    (λ c. search needs)
-    (λ c. search needs)
-    loop-again
-    same-length
-    returns)
+    tie.close (tie.spec Inv-loop μ-loop (λ c. (search needs, (refl, (refl, refl)))) (λ c. search needs) (λ c. search needs) (λ c. search needs)
+    list-word-requires (λ c. search needs) (λ c. search needs) loop-again (λ c. c .before .loop .inv .1 .1 .0) returns)

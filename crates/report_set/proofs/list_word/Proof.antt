@@ -18,9 +18,6 @@ Inv-loop w x out₀ n left₀ c₀ out left c = (left < 2 ^ 64) × ((c + length 
 abbrev μ-loop : tie.MeasureT-loop
 μ-loop w x out₀ n left₀ c₀ out left c = left
 
-loop-holds : tie.Need-loop-holds Inv-loop μ-loop
-loop-holds c = (search needs, (refl, (refl, refl)))
-
 tally-of-requires : tie.Need-tally-of-requires Inv-loop μ-loop
 tally-of-requires c κs =
     let small = trail-small 64 (c .before .before .loop .left) (omega arith) (omega arith) in
@@ -61,19 +58,5 @@ returns c =
 
 pub list-word-spec : {M : Type 1} → statement M
 list-word-spec =
-    tie.close
-    (tie.spec
-    Inv-loop
-    μ-loop
-    loop-holds
-    (λ c κs. search needs)
-    (λ c. search needs)
-    tally-of-requires
-    (λ c. search needs)
-    slice-write-out
-    add-c
-    (λ c. search needs)
-    loop-less
-    loop-again
-    (λ c. search needs)
-    returns)
+    tie.close (tie.spec Inv-loop μ-loop (λ c. (search needs, (refl, (refl, refl)))) (λ c κs. search needs) (λ c. search needs) tally-of-requires
+    (λ c. search needs) slice-write-out add-c (λ c. search needs) loop-less loop-again (λ c. search needs) returns)

@@ -46,19 +46,5 @@ returns-3 c =
 
 pub count-on-spec : {M : Type 1} → statement M
 count-on-spec =
-    tie.close
-    (tie.spec
-    returns
-    (λ c. search needs)
-    (λ c. search needs)
-    (λ c κs. search needs)
-    (λ c κs. search needs)
-    (λ c. search needs)
-    returns-2
-    (λ c. search needs)
-    slice-read-tallies
-    add-tallies
-    (λ c. search needs)
-    slice-write-tallies
-    (λ c. search needs)
-    returns-3)
+    tie.close (tie.spec returns (λ c. search needs) (λ c. search needs) (λ c κs. search needs) (λ c κs. search needs) (λ c. search needs) returns-2
+    (λ c. search needs) slice-read-tallies add-tallies (λ c. search needs) slice-write-tallies (λ c. search needs) returns-3)

@@ -60,15 +60,4 @@ returns-2 c =
 
 pub lines-length-spec : {M : Type 1} → statement M
 lines-length-spec =
-    tie.close
-    (tie.spec
-    Inv-loop
-    μ-loop
-    loop-holds
-    row-at-requires
-    returns
-    (λ c κs. search needs)
-    add-n
-    loop-less
-    loop-again
-    returns-2)
+    tie.close (tie.spec Inv-loop μ-loop loop-holds row-at-requires returns (λ c κs. search needs) add-n loop-less loop-again returns-2)

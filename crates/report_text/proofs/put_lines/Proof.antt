@@ -22,9 +22,6 @@ loop-holds c =
     let a = c .before .before .args in
     (search needs, (refl, put-none (a .out .now) (a .v .now)))
 
-single-at-requires : tie.Need-single-at-requires Inv-loop μ-loop
-single-at-requires c κs = (omega arith, c .before .before .before .before .pre .0 .0)
-
 put-single-requires : tie.Need-put-single-requires Inv-loop μ-loop
 put-single-requires c κs =
     let start = c .before .before .before .before .before .before .before .before .before in
@@ -91,24 +88,6 @@ returns-2 c =
 
 pub put-lines-spec : {M : Type 1} → statement M
 put-lines-spec =
-    tie.close
-    (tie.spec
-    Inv-loop
-    μ-loop
-    loop-holds
-    single-at-requires
-    (λ c. search needs)
-    (λ c. search needs)
-    (λ c κs. search needs)
-    put-single-requires
-    (λ c. search needs)
-    (λ c. search needs)
-    loop-again
-    row-at-requires
-    (λ c. search needs)
-    returns
-    put-line-requires
-    loop-less-2
-    loop-again-2
-    (λ c. search needs)
-    returns-2)
+    tie.close (tie.spec Inv-loop μ-loop loop-holds (λ c κs. (omega arith, c .before .before .before .before .pre .0 .0)) (λ c. search needs)
+    (λ c. search needs) (λ c κs. search needs) put-single-requires (λ c. search needs) (λ c. search needs) loop-again row-at-requires
+    (λ c. search needs) returns put-line-requires loop-less-2 loop-again-2 (λ c. search needs) returns-2)

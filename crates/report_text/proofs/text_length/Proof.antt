@@ -38,12 +38,4 @@ returns c =
 
 pub text-length-spec : {M : Type 1} → statement M
 text-length-spec =
-    tie.close
-    (tie.spec
-    lines-length-requires
-    add-result
-    (λ c κs. search needs)
-    add-result-2
-    (λ c κs. search needs)
-    add-result-3
-    returns)
+    tie.close (tie.spec lines-length-requires add-result (λ c κs. search needs) add-result-2 (λ c κs. search needs) add-result-3 returns)

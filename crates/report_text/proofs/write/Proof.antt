@@ -51,12 +51,4 @@ returns-2 c =
 
 pub write-spec : {M : Type 1} → statement M
 write-spec =
-    tie.close
-    (tie.spec
-    (λ c κs. search needs)
-    returns
-    put-lines-requires
-    put-end-requires
-    cast-t13
-    (λ c. search needs)
-    returns-2)
+    tie.close (tie.spec (λ c κs. search needs) returns put-lines-requires put-end-requires cast-t13 (λ c. search needs) returns-2)

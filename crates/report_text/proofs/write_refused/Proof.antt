@@ -26,5 +26,5 @@ returns-2 c =
 
 pub write-refused-spec : {M : Type 1} → statement M
 write-refused-spec =
-    tie.close
-    (tie.spec (λ c. search needs) returns (λ c. search needs) put-last-requires (λ c. search needs) (λ c. search needs) (λ c. search needs) returns-2)
+    tie.close (tie.spec (λ c. search needs) returns (λ c. search needs) put-last-requires (λ c. search needs) (λ c. search needs) (λ c. search needs)
+    returns-2)
