@@ -139,6 +139,55 @@ fn the_definitions_that_the_trace_names_are_there() {
     assert!(missing.is_empty(), "not defined: {missing:?}");
 }
 
+/// The wrong programs of a crate, each with the functions that it changes where its edit names them: an edit has one program, its own
+/// name, or several, each with a line `wrong: PROGRAM FUNCTION..`.
+fn wrong_programs(name: &str) -> Vec<(String, Vec<String>)> {
+    let Ok(folder) = fs::read_dir(root().join(format!("crates/{name}/must-fail"))) else {
+        return Vec::new();
+    };
+    let mut programs = Vec::new();
+    for path in folder.map(|entry| entry.expect("an entry").path()) {
+        let text = fs::read_to_string(&path).expect("an edit");
+        let lines = text.lines().filter_map(|line| line.strip_prefix("wrong: "));
+        let mut words = lines.map(|line| line.split(' ').map(str::to_string));
+        let before = programs.len();
+        programs.extend(words.by_ref().map(|mut words| {
+            let program = words.next().expect("a program");
+            (program, words.collect())
+        }));
+        if programs.len() == before {
+            let edit = path.file_stem().and_then(|stem| stem.to_str());
+            programs.push((edit.expect("a name").to_string(), Vec::new()));
+        }
+    }
+    programs
+}
+
+#[test]
+fn every_wrong_program_has_a_name_and_functions_of_its_own() {
+    for name in crates() {
+        let programs = wrong_programs(&name);
+        let names: BTreeSet<_> = programs.iter().map(|(program, _)| program).collect();
+        assert_eq!(
+            names.len(),
+            programs.len(),
+            "{name}: a name stands twice: {programs:?}"
+        );
+        let code = code(&name);
+        for (program, functions) in &programs {
+            for function in functions {
+                let function = function.rsplit("::").next().expect("a function");
+                assert!(
+                    ["(", "<"]
+                        .iter()
+                        .any(|next| code.contains(&format!("fn {function}{next}"))),
+                    "{name}/{program}: no function {function}"
+                );
+            }
+        }
+    }
+}
+
 #[test]
 fn the_wrong_programs_that_the_trace_names_are_there() {
     let document = read("docs/TRACE.md");
@@ -149,12 +198,13 @@ fn the_wrong_programs_that_the_trace_names_are_there() {
         let words = plain.split([',', ' ', ';', '(', ')']);
         let edits = words.filter_map(|word| word.split_once('/'));
         let edits = edits.filter(|(name, _)| crates.contains(*name));
-        named.extend(edits.map(|(name, edit)| format!("crates/{name}/must-fail/{edit}.edit")));
+        named.extend(edits.map(|(name, program)| (name.to_string(), program.to_string())));
     }
     assert!(named.len() > 100, "{}", named.len());
-    let missing: Vec<_> = named
-        .iter()
-        .filter(|path| !root().join(path).is_file())
-        .collect();
+    let there = |(name, program): &&(String, String)| {
+        let programs = wrong_programs(name);
+        programs.iter().any(|(there, _)| there == program)
+    };
+    let missing: Vec<_> = named.iter().filter(|named| !there(named)).collect();
     assert!(missing.is_empty(), "no wrong programs: {missing:?}");
 }
