@@ -21,7 +21,7 @@ use Rattle.hello.specs.Tlvs.{tlvBytes}
 use Rattle.hello.specs.Writing.{nicknameBytes, labelTop}
 use Rattle.hello_area.specs.Entries.{numbersIn, labelGood, labelBytes, parametersBytes}
 use Rattle.hello_ends.proofs.Numbers.{numbers-length, number-is}
-use Rattle.hello_entry.specs.Bytes.{parametersAt, nicknameAt, labelAt, recordAt, numberAt, run}
+use Rattle.hello_entry.specs.Bytes.{parametersAt, nicknameAt, labelAt, recordAt, numberAt, run, withMac, fourMacs}
 use Rattle.hello_entry.proofs.Plain.{length-run}
 use Rattle.hello_entry.proofs.Shape.{number-long, record-long}
 
@@ -59,6 +59,9 @@ first-fits area i h big = let l = numbers-length area in omega arith
 
 pub last-fits : (area : List ℕ) (i m n : ℕ) → i + m ≤ length (numbersIn area) → length area < 2 ^ 64 → i + (m - n) < 2 ^ 64
 last-fits area i m n h big = let l = numbers-length area in omega arith
+
+pub near-fits : (area : List ℕ) (i n : ℕ) → i + 4 ≤ length (numbersIn area) → n ≤ 4 → length area < 2 ^ 64 → i + n < 2 ^ 64
+near-fits area i n h few big = let l = numbers-length area in omega arith
 
 module _ (area : List ℕ) (i m j : ℕ) (more : j < m) where
   pub item-fits : i + m ≤ length (numbersIn area) → length area < 2 ^ 64 → i + j < 2 ^ 64
@@ -106,11 +109,24 @@ paste-long o x a h =
     let k = length-append (take a o ++ x) (drop (a + length x) o) in
     omega arith
 
+paste-same : (o x : List ℕ) (a : ℕ) → a + length x ≤ length o → length (pasted o a x) ≡ length o
+unfolding pasted
+paste-same o x a h =
+    let t = length-take-le a o (omega arith) in
+    let d = length-drop (a + length x) o in
+    let l = length-append (take a o) x in
+    let k = length-append (take a o ++ x) (drop (a + length x) o) in
+    omega arith
+
 -- bytes behind others, over those that were too many
 paste-past : (o x g y : List ℕ) (a k : ℕ) → a ≤ length o → a + length x ≡ k → length g ≤ length y → pasted (pasted o a (x ++ g)) k y ≡ pasted o a (x ++ y)
 paste-past o x g y a k h e few =
     let l = paste-long o x a h in
     rw (← paste-next o x g a k h e) (paste-over (pasted o a x) g y k (omega arith) few ∙ paste-next o x y a k h e)
+
+pub four-put : (ns : List ℕ) (i : ℕ) (o : List ℕ) (at : ℕ) (u v w z : List ℕ) → u ≡ withMac ns i o at → v ≡ withMac ns (i + 1) u (at + 6) → w ≡ withMac ns (i + 2) v (at + 12) → z ≡ withMac ns (i + 3) w (at + 18) → z ≡ fourMacs ns i o at
+unfolding fourMacs
+four-put ns i o at u v w z p q r s = s ∙ rw (r, q, p)
 
 -- ---- a list
 
@@ -225,6 +241,30 @@ module _ (ns : List ℕ) (i m : ℕ) (out : List ℕ) (at : ℕ) where
         let z : m - 1 ≡ j = omega arith in
         let n = numbers-next 6 o j same room inv more u (e ∙ ap (λ (x : ℕ). pasted o (at + 6 * x) (numberAt 6 ns (i + x))) z) in
         sym (left-done (numberAt 6 ns) 1 6 (number-long 6 ns) i m at u (j + 1) (omega arith)) ∙ n
+
+  -- four of them, one behind the other
+  mac-step : (o : List ℕ) (j k a x : ℕ) → j + 1 ≡ k → a ≡ at + 6 * j → x ≡ i + j → length o ≡ length out → at + 6 * m ≤ length out → Left (numberAt 6 ns) 1 6 i m o at j ≡ pasted out at (run (numberAt 6 ns) 1 i m) → k ≤ m - 1 → (u : List ℕ) → u ≡ withMac ns x o a → (length u ≡ length out) × (Left (numberAt 6 ns) 1 6 i m u at k ≡ pasted out at (run (numberAt 6 ns) 1 i m))
+  mac-step o j k a x e ea ex same room inv far u p =
+      let q : u ≡ withMac ns (i + j) o (at + 6 * j) = p ∙ rw (ea, ex) in
+      let l = number-long 6 ns (i + j) in
+      let z = length-bytesOf 2 0 in
+      let b = length-append (numberAt 6 ns (i + j)) (bytesOf 2 0) in
+      (ap length q ∙ paste-same o (numberAt 6 ns (i + j) ++ bytesOf 2 0) (at + 6 * j) (omega arith) ∙ same, rw (← e) (macs-past o j same room inv (omega arith) u q))
+
+  pub macs-four : (o : List ℕ) (j : ℕ) → length o ≡ length out → at + 6 * m ≤ length out → Left (numberAt 6 ns) 1 6 i m o at j ≡ pasted out at (run (numberAt 6 ns) 1 i m) → j + 4 < m → (u : List ℕ) → u ≡ fourMacs ns (i + j) o (at + 6 * j) → Left (numberAt 6 ns) 1 6 i m u at (j + 4) ≡ pasted out at (run (numberAt 6 ns) 1 i m)
+  unfolding fourMacs
+  macs-four o j same room inv far u e =
+      let p = withMac ns (i + j) o (at + 6 * j) in
+      let q = withMac ns (i + j + 1) p (at + 6 * j + 6) in
+      let r = withMac ns (i + j + 2) q (at + 6 * j + 12) in
+      let a = mac-step o j (j + 1) (at + 6 * j) (i + j) refl refl refl same room inv (omega arith) p refl in
+      let b = mac-step p (j + 1) (j + 2) (at + 6 * j + 6) (i + j + 1) (omega arith) (omega arith) (omega arith) (a .0) room (a .1) (omega arith) q refl in
+      let c = mac-step q (j + 2) (j + 3) (at + 6 * j + 12) (i + j + 2) (omega arith) (omega arith) (omega arith) (b .0) room (b .1) (omega arith) r refl in
+      mac-step r (j + 3) (j + 4) (at + 6 * j + 18) (i + j + 3) (omega arith) (omega arith) (omega arith) (c .0) room (c .1) (omega arith) u e .1
+
+  pub macs-few : (o : List ℕ) (j : ℕ) → Left (numberAt 6 ns) 1 6 i m o at j ≡ pasted out at (run (numberAt 6 ns) 1 i m) → (u : List ℕ) → u ≡ pasted o (at + 6 * j) (run (numberAt 6 ns) 1 (i + j) (m - j)) → u ≡ pasted out at (run (numberAt 6 ns) 1 i m)
+  unfolding Left
+  macs-few o j inv u e = let p : i + j ≡ i + 1 * j = omega arith in e ∙ rw p inv
 
   -- records
   pub records-none : Left (recordAt ns) 3 5 i m out at 0 ≡ pasted out at (run (recordAt ns) 3 i m)
