@@ -1,4 +1,6 @@
 // Compaction: a General frame as a Compact one.
+#![tactic(auto)]
+
 ghost use Rattle.std.specs.Prelude.{◌≤◌, ◌≡◌, length};
 ghost use Rattle.numbers.specs.After.{on_area};
 ghost use Rattle.numbers.specs.Bytes.{laid};

@@ -1,4 +1,6 @@
 // Expansion: a Compact frame as a General one.
+#![tactic(auto)]
+
 ghost use Rattle.std.specs.Prelude.{◌+◌, ◌≤◌, ◌≡◌, length};
 ghost use Rattle.numbers.specs.After.{on_area};
 ghost use Rattle.frame.specs.Front.{addresses_bytes};
@@ -20,7 +22,7 @@ use frame_parse::{Parsed, Parts};
 use numbers::refusals::{AREA_SHORT, FRAME_LENGTH_BAD, NOT_COMPACT, NOT_FOR_PORT, SETTINGS_BAD};
 
 // The outer part that the caller gives, as it arrives: the outer source; whether there is a tag, whose number is `tag`.
-#[derive(Drop)]
+#[derive(Clone, Copy)]
 pub struct Outer {
     pub source: u64,
     pub tagged: u32,

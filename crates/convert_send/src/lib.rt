@@ -1,4 +1,6 @@
 // Sending: compacting where it may, and the choice between the working area and the received frame.
+#![tactic(auto)]
+
 ghost use Rattle.std.specs.Prelude.{not, ◌≡◌, take};
 ghost use Rattle.numbers.specs.Tests.{both};
 ghost use Rattle.numbers.specs.After.{on_area};

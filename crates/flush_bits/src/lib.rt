@@ -1,4 +1,6 @@
 // Sets of numbers as bits: number x is bit x % 8 of byte x / 8, the high bit first.
+#![tactic(auto)]
+
 ghost use Rattle.std.specs.Prelude.{ℕ, ◌+◌, ◌-◌, ◌*◌, ◌/◌, ◌^◌, ◌<◌, ◌≤◌, true, false, ◌≡◌, length, get_or, set};
 ghost use Rattle.std.specs.Int.Bits.{bit_or};
 ghost use Rattle.numbers.specs.Tests.{pick};

@@ -1,5 +1,7 @@
 // Filter bits: a bit for each bucket of 256 numbers, counted round. A number whose bit is not set is none of those that were added; most
 // numbers that are tested end there.
+#![tactic(auto)]
+
 ghost use Rattle.std.specs.Prelude.{ℕ, suc, ◌+◌, ◌%◌, ◌^◌, ◌≤◌, ◌<◌, true, false, ◌≡◌, leb, length};
 ghost use Rattle.numbers.specs.Tests.{both};
 ghost use Rattle.numbers.specs.Numberings.{bit_at};

@@ -1,5 +1,7 @@
 // An Address Flush over the table: the payload is judged whole, then the slots that it means are marked, filter by filter, and then
 // cleared.
+#![tactic(auto)]
+
 ghost use Rattle.std.specs.Prelude.{◌*◌, ◌≤◌, ◌≡◌, length};
 ghost use Rattle.numbers.specs.After.{on_table};
 ghost use Rattle.table.specs.Slots.{most_slots, slots_of};
@@ -114,7 +116,7 @@ fn clear_range(
 }
 
 // What clearing in a range came to: a refusal number, or what the sweep did.
-#[derive(Drop)]
+#[derive(Clone, Copy)]
 pub enum Swept {
     Refused(u8),
     Done(Sweep),
@@ -151,7 +153,7 @@ pub fn clear_portion(
 }
 
 // What clearing came to: a refusal number, or how many records were cleared.
-#[derive(Drop)]
+#[derive(Clone, Copy)]
 pub enum Cleared {
     Refused(u8),
     Count(usize),

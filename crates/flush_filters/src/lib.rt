@@ -1,6 +1,8 @@
 // The filters by fine-grained label and by MAC: of the marked slots those stay marked whose number the message names. The marked slots are
 // listed, those whose number has no bit in the filter bits of the message are left out, the others are sorted by number, and each block,
 // number and bit map of the message is looked up among them.
+#![tactic(auto)]
+
 ghost use Rattle.std.specs.Prelude.{◌<◌, ◌≤◌, true, false, ◌≡◌, length};
 ghost use Rattle.numbers.specs.Tests.{any_of};
 ghost use Rattle.table.specs.Slots.{most_slots, slots_of};

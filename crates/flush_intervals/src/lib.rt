@@ -1,5 +1,7 @@
 // What the TLVs of a message name, found among the numbers of records: these are sorted once, and each block, number and bit map of the
 // message finds its place in them, by a place that was noted for its bucket or by a search.
+#![tactic(auto)]
+
 ghost use Rattle.std.specs.Prelude.{◌≡◌, true, false, suc, ◌+◌, ◌*◌, ◌^◌, ◌≤◌, ◌<◌, leb, length, take};
 ghost use Rattle.numbers.specs.Tests.{pick, both};
 ghost use Rattle.numbers.specs.Numberings.{in_map};

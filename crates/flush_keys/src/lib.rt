@@ -1,4 +1,6 @@
 // The number of a record that a filter tests, a fine-grained label or a MAC, and keys: such a number, times `KEY_SLOTS`, and the slot that holds it.
+#![tactic(auto)]
+
 ghost use Rattle.std.specs.Prelude.{ℕ, ◌+◌, ◌*◌, ◌^◌, ◌<◌, ◌≤◌, Bool, true, not, ◌≡◌, length, take, drop};
 ghost use Rattle.table.specs.Record.{record_bytes};
 ghost use Rattle.table.specs.Slots.{slot_at};
@@ -10,7 +12,7 @@ use flush_buckets::KEY_SLOTS;
 use table::SLOT_BYTES;
 
 // What a filter tests.
-#[derive(Drop)]
+#[derive(Clone, Copy)]
 pub enum Field {
     Fine,
     Mac,

@@ -1,4 +1,6 @@
 // Marks: one bit for each slot of a table. They are looked through and listed, and the marked slots are cleared and counted.
+#![tactic(auto)]
+
 ghost use Rattle.std.specs.Prelude.{◌+◌, ◌/◌, ◌^◌, ◌<◌, ◌≤◌, true, false, ◌≡◌, length};
 ghost use Rattle.std.specs.Int.Count.{count_leading_zeros};
 ghost use Rattle.numbers.specs.Tests.{pick};
@@ -12,7 +14,7 @@ use table::{Place, SLOT_BYTES};
 pub const MARK_BYTES: usize = 512;
 
 // What clearing in a range of slots comes to: how many records were cleared, and how many slots examined.
-#[derive(Drop)]
+#[derive(Clone, Copy)]
 pub struct Sweep {
     pub cleared: usize,
     pub examined: usize,
@@ -164,7 +166,7 @@ pub fn clear_marked(table: &mut [u8], marks: &[u8]) -> usize
 }
 
 // How many slots were listed, or that they found no room.
-#[derive(Drop)]
+#[derive(Clone, Copy)]
 pub enum Room {
     Held(usize),
     Full,

@@ -1,4 +1,6 @@
 // Filter bits of what a message names: made once for a message, before a number of a record is tested exactly.
+#![tactic(auto)]
+
 ghost use Rattle.std.specs.Prelude.{true, false, ◌≡◌, length};
 ghost use Rattle.numbers.specs.Numberings.{in_map};
 ghost use Rattle.flush.specs.Payload.{tlv, tlvs};

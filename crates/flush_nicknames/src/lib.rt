@@ -1,5 +1,7 @@
 // The first pass of a flush over the slots of a range: those are marked that are learned, whose nickname is meant, and whose label is a
 // VLAN that is meant, or a fine-grained label that may be: it has a bit in the filter bits of the message.
+#![tactic(auto)]
+
 ghost use Rattle.std.specs.Prelude.{ℕ, ◌+◌, ◌-◌, ◌*◌, ◌/◌, ◌^◌, ◌<◌, ◌≤◌, true, false, [], ◌≡◌, eqb, length, drop};
 ghost use Rattle.numbers.specs.Numberings.{bit_at};
 ghost use Rattle.table.specs.Record.{record_bytes, record_of, nickname_of};
@@ -27,7 +29,7 @@ const NAME_BYTES: usize = 8192;
 const FEW_SLOTS: usize = 64;
 
 // The nicknames that a flush means: one alone, or those of a list.
-#[derive(Drop)]
+#[derive(Clone, Copy)]
 pub enum Nicknames {
     One(u64),
     Several,

@@ -1,4 +1,6 @@
 // What the TLVs of a message name, part by part: a block or a number alone is an interval, a bit map lies in one.
+#![tactic(auto)]
+
 ghost use Rattle.std.specs.Prelude.{true, ◌≡◌, ℕ, ◌+◌, ◌^◌, ◌≤◌, ◌<◌, length, drop};
 ghost use Rattle.numbers.specs.Numberings.{in_map};
 ghost use Rattle.flush_parts.specs.Named.{fine_naming};
@@ -7,7 +9,7 @@ ghost use Rattle.flush_parts.specs.Parts.{Narrow, span_for, low_for, past_for};
 use numbers::Numbering;
 
 // How TLVs name numbers: a type of blocks, a type of single numbers, where there is one a type of bit maps, and the numbering of all.
-#[derive(Drop)]
+#[derive(Clone, Copy)]
 pub struct Naming {
     pub blocks: u8,
     pub singles: u8,

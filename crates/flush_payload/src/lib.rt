@@ -1,4 +1,6 @@
 // The payload of an Address Flush: judging it whole, and membership in the three sets that it means.
+#![tactic(auto)]
+
 ghost use Rattle.std.specs.Prelude.{◌+◌, ◌*◌, ◌<◌, ◌≤◌, ◌≡◌, length, drop};
 ghost use Rattle.numbers.specs.Tests.{any_of};
 ghost use Rattle.table.specs.Record.{label_from};
@@ -12,7 +14,7 @@ use flush::Model;
 const LAST_TYPE: u8 = 8;
 
 // What a good payload has: how many VLAN blocks (K-VLBs), or which kinds of TLVs.
-#[derive(Drop)]
+#[derive(Clone, Copy)]
 pub struct Kinds {
     pub blocks: usize,
     pub every: bool,
@@ -23,7 +25,7 @@ pub struct Kinds {
 }
 
 // What judging a payload found.
-#[derive(Drop)]
+#[derive(Clone, Copy)]
 pub enum Judged {
     Corrupt,
     Good(Kinds),

@@ -1,4 +1,6 @@
 // The TLVs of a flush payload: what one of them says, and whether some of them says it.
+#![tactic(auto)]
+
 ghost use Rattle.std.specs.Prelude.{◌+◌, ◌<◌, ◌≡◌, length, drop};
 ghost use Rattle.numbers.specs.Tests.{any_of};
 ghost use Rattle.table.specs.Record.{label_from};

@@ -1,4 +1,6 @@
 // The VLANs that a flush message means, as a set of bits: made once for a message, tested for each record.
+#![tactic(auto)]
+
 ghost use Rattle.std.specs.Prelude.{◌*◌, ◌≤◌, ◌≡◌, length};
 ghost use Rattle.flush.specs.Payload.{tlv, tlvs, block_bytes, pieces_of};
 ghost use Rattle.flush_sets.specs.Gains.{Gains, None};

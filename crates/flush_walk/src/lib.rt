@@ -1,5 +1,7 @@
 // Clearing by a walk: each slot of a range is judged by the message itself, with nothing prepared. For few slots this costs less than
 // making sets of what the message means.
+#![tactic(auto)]
+
 ghost use Rattle.std.specs.Prelude.{◌+◌, ◌*◌, ◌≤◌, ◌≡◌, length, drop};
 ghost use Rattle.numbers.specs.After.{on_table};
 ghost use Rattle.table.specs.Record.{record_bytes, record_of, kind_of, label_of, mac_of};

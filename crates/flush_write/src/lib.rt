@@ -1,9 +1,11 @@
 // Writing an Address Flush. The definitions are in specs/.
+#![tactic(auto)]
+
 ghost use Rattle.flush_write.specs.Cases.{WriterCases};
 ghost use Rattle.flush_write.specs.Claims.{WriterExact, WriterClears, WriterLength, WriterCalls};
 
 // The answer of writing: a refusal number, or how many bytes were written.
-#[derive(Drop)]
+#[derive(Clone, Copy)]
 pub enum WriteAnswer {
     Refused(u8),
     Written(u16),

@@ -1,4 +1,6 @@
 // The call that writes a flush: the lists are judged, then the room, and then the message is written.
+#![tactic(auto)]
+
 ghost use Rattle.std.specs.Prelude.{◌+◌, ◌<◌, ◌≤◌, ◌≡◌, length};
 ghost use Rattle.numbers.specs.After.{on_area};
 ghost use Rattle.numbers.specs.Bytes.{laid};

@@ -1,5 +1,7 @@
 // Lists of blocks: whether one can be written, and writing one, as it is or in TLVs. A list has numbers of k bytes, the message the
 // `size` low ones of each.
+#![tactic(auto)]
+
 ghost use Rattle.std.specs.Prelude.{◌+◌, ◌*◌, ◌<◌, ◌≤◌, ◌≡◌, length, take, drop};
 ghost use Rattle.numbers.specs.Bytes.{num, bytes_of};
 ghost use Rattle.numbers.specs.Numberings.{at_most};
@@ -18,7 +20,7 @@ const MAC_SIZE: usize = 6;
 const TWO_BYTES: u64 = 0x1_0000;
 
 // A block's two numbers.
-#[derive(Drop)]
+#[derive(Clone, Copy)]
 pub struct Ends {
     pub start: u64,
     pub end: u64,

@@ -1,9 +1,11 @@
 // Frames of both formats: settings, the destination in front, header, label, fields. The definitions are in specs/.
+#![tactic(auto)]
+
 ghost use Rattle.frame.specs.Claims.{HeaderLocal, LabelLocal, LabelsGood};
 
 // The eight numbers of a port's settings, as they arrive: the six of document 01, then that of two homes, and that of Smart Endnodes,
 // which is 0 until its request lands.
-#[derive(Drop)]
+#[derive(Clone, Copy)]
 pub struct Settings {
     pub port: u64,
     pub inner: u64,

@@ -1,4 +1,6 @@
 // Copying bytes into an area, and parts of a slice.
+#![tactic(auto)]
+
 ghost use Rattle.std.specs.Prelude.{◌+◌, ◌≤◌, ◌≡◌, length, take, drop};
 ghost use Rattle.numbers.specs.Bytes.{bytes_of};
 ghost use Rattle.frame.specs.Formats.{longest_frame};

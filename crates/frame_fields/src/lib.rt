@@ -1,5 +1,7 @@
 // The fields of a frame, one by one: the destination in front, Ethertypes, the header's fields, and how many bytes a header, a
 // label and the outer part take.
+#![tactic(auto)]
+
 ghost use Rattle.std.specs.Prelude.{◌+◌, ◌-◌, ◌/◌, ◌%◌, ◌^◌, ◌<◌, ◌≤◌, ◌≡◌, length, drop};
 ghost use Rattle.numbers.specs.Bytes.{starts_with};
 ghost use Rattle.numbers.specs.Ranges.{vlan_good};
@@ -19,7 +21,7 @@ use numbers::refusals::{CUT_SHORT, LABEL_BAD, MULTICAST_DISAGREES, NOT_TRILL, VE
 
 // What the destination in front means: a General frame to this port or to all RBridges, an address that is refused, or the inner
 // destination of a Compact frame.
-#[derive(Drop)]
+#[derive(Clone, Copy)]
 pub enum Front {
     Unicast,
     Multicast,
@@ -28,7 +30,7 @@ pub enum Front {
 }
 
 // How many bytes a part takes, or the refusal number.
-#[derive(Drop)]
+#[derive(Clone, Copy)]
 pub enum Length {
     Refused(u8),
     Bytes(usize),

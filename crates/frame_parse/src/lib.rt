@@ -1,5 +1,7 @@
 // Reading a frame of either format into one set of fields, from left to right with the refusals in their order. From `Parts` on
 // nothing shows which format arrived.
+#![tactic(auto)]
+
 ghost use Rattle.std.specs.Prelude.{◌≤◌, ◌≡◌, length, drop};
 ghost use Rattle.numbers.specs.Result.{got};
 ghost use Rattle.frame.specs.Front.{addresses_bytes};
@@ -16,7 +18,7 @@ use frame_fields::{Front, Length};
 use numbers::refusals::{CUT_SHORT, FRAME_LENGTH_BAD, NOT_FOR_PORT, NOT_TRILL};
 
 // Where the parts of a frame are, as offsets and lengths. The inner source follows the inner destination, and the label follows both.
-#[derive(Drop)]
+#[derive(Clone, Copy)]
 pub struct Parts {
     pub dst_offset: usize,
     pub label_length: usize,
@@ -25,7 +27,7 @@ pub struct Parts {
     pub content_offset: usize,
 }
 
-#[derive(Drop)]
+#[derive(Clone, Copy)]
 pub enum Parsed {
     Refused(u8),
     Fields(Parts),

@@ -1,4 +1,6 @@
 // Whether settings are good, and which group addresses are TRILL's or a bridge's control addresses.
+#![tactic(auto)]
+
 ghost use Rattle.std.specs.Prelude.{◌≡◌};
 ghost use Rattle.frame.specs.Front.{trill_group, control_address, reserved_group};
 ghost use Rattle.frame.specs.Settings.{addresses_good, seconds_good, numbers_good, later_good, settings_good};

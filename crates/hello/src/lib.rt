@@ -1,10 +1,12 @@
 // Smart-Hellos: payloads and their contents. The definitions are in specs/.
+#![tactic(auto)]
+
 ghost use Rattle.hello.specs.Cases.{CasesHold};
 ghost use Rattle.hello.specs.Claims.{WrittenHelloReads, ReadIsWritable, ReadHelloWrites, WrittenAreBytes, WrittenIsPlain, AreaIs};
 ghost use Rattle.hello.specs.Calls.{CallsUndo, HelloRefusal};
 
 // The answer of reading and of writing: a refusal number, or how many bytes were written.
-#[derive(Drop)]
+#[derive(Clone, Copy)]
 pub enum HelloAnswer {
     Refused(u8),
     Written(usize),

@@ -1,4 +1,6 @@
 // How many numbers a sub-TLV of a Smart-Hello brings to the contents area, and where the sub-TLVs of a TLV start.
+#![tactic(auto)]
+
 ghost use Rattle.std.specs.Prelude.{◌+◌, ◌≤◌, ◌≡◌, length};
 ghost use Rattle.hello.specs.Tlvs.{tlv};
 ghost use Rattle.hello.specs.Pieces.{parameters_type, smart_mac_type, nickname_type, trees_type};

@@ -1,4 +1,6 @@
 // Whether an entry of a contents area is good, and where it ends. Places are counted in numbers of 8 bytes.
+#![tactic(auto)]
+
 ghost use Rattle.std.specs.Prelude.{◌+◌, ◌*◌, ◌<◌, ◌≤◌, true, ◌≡◌, leb, ltb, length, get_or};
 ghost use Rattle.numbers.specs.Tests.{both};
 ghost use Rattle.hello.specs.Pieces.{parameters_type, smart_mac_type, nickname_type, trees_type};

@@ -1,5 +1,7 @@
 // One entry of a contents area that is good: its count, its size as a sub-TLV, where the next one starts, and the sub-TLV's bytes. Places are
 // counted in numbers of 8 bytes.
+#![tactic(auto)]
+
 ghost use Rattle.std.specs.Prelude.{◌+◌, ◌*◌, ◌<◌, ◌≤◌, true, ◌++◌, ◌≡◌, length};
 ghost use Rattle.numbers.specs.Bytes.{bytes_of};
 ghost use Rattle.frame_copy.specs.Areas.{pasted};
@@ -48,7 +50,7 @@ const TREES_FRONT: u64 = 0x802;
 const SMART_MAC_FRONT: u64 = 0x1704;
 
 // How many elements the list of an entry has, its bytes as a sub-TLV, and where the next entry starts.
-#[derive(Drop)]
+#[derive(Clone, Copy)]
 pub struct Measures {
     pub count: usize,
     pub size: usize,

@@ -1,5 +1,7 @@
 // The sections of a contents area written from a payload. The two types that a TLV holds are written in one pass, each at a pen of its
 // own: a loop over the TLVs, and one over the sub-TLVs of each.
+#![tactic(auto)]
+
 ghost use Rattle.std.specs.Prelude.{◌+◌, ◌≤◌, ◌≡◌, eqb, length};
 ghost use mathlib.Core.List.{flat_map};
 ghost use Rattle.numbers.specs.Tests.{both};
@@ -13,7 +15,7 @@ ghost use Rattle.hello_fill.specs.Filling.{sub_words, tlv_words, section_words, 
 use hello_judge::{CAPABILITY, GENINFO, NICKNAME, PARAMETERS, SMART_MAC, TREES};
 
 // Where the next sub-TLV of each of two types goes.
-#[derive(Drop)]
+#[derive(Clone, Copy)]
 pub struct Pens {
     pub first: usize,
     pub second: usize,

@@ -1,4 +1,6 @@
 // The cursor of a Smart-Hello that is written: the TLV that is open, and the place of the next sub-TLV.
+#![tactic(auto)]
+
 ghost use Rattle.std.specs.Prelude.{◌+◌, ◌-◌, ◌*◌, ◌^◌, ◌<◌, ◌≤◌, ◌≡◌, length, set};
 ghost use Rattle.frame_copy.specs.Areas.{pasted};
 ghost use Rattle.hello.specs.Writing.{head_of};
@@ -18,7 +20,7 @@ const LONGEST_VALUE: usize = 255;
 
 // The type of the TLV that is open (0: none), where it starts, and where the next sub-TLV goes if it takes it. The type is a whole word, so that
 // a cursor is copied without the bytes between its fields.
-#[derive(Drop)]
+#[derive(Clone, Copy)]
 pub struct Cursor {
     pub holder: u64,
     pub start: usize,
@@ -26,7 +28,7 @@ pub struct Cursor {
 }
 
 // Where a sub-TLV goes, and the cursor after it.
-#[derive(Drop)]
+#[derive(Clone, Copy)]
 pub struct Room {
     pub at: usize,
     pub after: Cursor,

@@ -1,5 +1,7 @@
 // The call that reads a Smart-Hello: one pass judges the payload and counts, then the room is judged, and then the contents are written,
 // a section for each type of sub-TLV.
+#![tactic(auto)]
+
 ghost use Rattle.std.specs.Prelude.{◌+◌, ◌≤◌, ◌≡◌, leb, length};
 ghost use Rattle.numbers.specs.After.{on_area};
 ghost use Rattle.numbers.specs.Bytes.{laid};

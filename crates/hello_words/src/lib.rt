@@ -1,4 +1,6 @@
 // The numbers of a sub-TLV written into a contents area, 8 bytes each.
+#![tactic(auto)]
+
 ghost use Rattle.std.specs.Prelude.{◌+◌, ◌-◌, ◌*◌, ◌/◌, ◌%◌, ◌≤◌, ◌≡◌, length, take, drop};
 ghost use mathlib.Core.List.{map, flat_map};
 ghost use Rattle.numbers.specs.Bytes.{num, bytes_of, parts};

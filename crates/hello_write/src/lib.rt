@@ -1,4 +1,6 @@
 // The call that writes a Smart-Hello: the contents area is judged, then the room, and then the payload is written, section by section.
+#![tactic(auto)]
+
 ghost use Rattle.std.specs.Prelude.{◌+◌, ◌*◌, ◌^◌, ◌<◌, ◌≤◌, ◌≡◌, length};
 ghost use Rattle.numbers.specs.After.{on_area};
 ghost use Rattle.hello.specs.Pieces.{parameters_type, smart_mac_type, nickname_type, trees_type};
@@ -28,14 +30,14 @@ const CAPABILITY: u64 = 242;
 const GENINFO: u64 = 251;
 
 // The cursor of what is written, and the number of the contents area that comes next.
-#[derive(Drop)]
+#[derive(Clone, Copy)]
 pub struct Walk {
     pub cursor: Cursor,
     pub next: usize,
 }
 
 // What a contents area is refused with, or 0, and the size of its payload.
-#[derive(Drop)]
+#[derive(Clone, Copy)]
 pub struct Judgement {
     pub refusal: u8,
     pub size: usize,

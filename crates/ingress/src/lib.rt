@@ -1,9 +1,11 @@
 // Inbound through a port's map (2026-01). The definitions are in specs/.
+#![tactic(auto)]
+
 ghost use Rattle.ingress.specs.Cases.{MapCases};
 ghost use Rattle.ingress.specs.Claims.{IngressRefusal, MapRoundTrip};
 
 // What the caller gives of the General frame, as it arrives: the outer addresses, M, hop count and nicknames.
-#[derive(Drop)]
+#[derive(Clone, Copy)]
 pub struct Given {
     pub destination: u64,
     pub source: u64,

@@ -1,4 +1,6 @@
 // Inbound: a native frame is judged to a verdict by value, the port's map is searched by the VLAN in it, and the General frame is written.
+#![tactic(auto)]
+
 ghost use Rattle.std.specs.Prelude.{◌+◌, ◌^◌, ◌≤◌, ◌<◌, ◌≡◌, length};
 ghost use Rattle.numbers.specs.After.{on_area};
 ghost use Rattle.frame.specs.Formats.{tagged_addresses, longest_frame};
@@ -24,7 +26,7 @@ use port_map::{CampusLabel, MAP_BAD, NO_PAIR, PRIORITY_BIT, PortVlan};
 use port_map_search::LabelFound;
 
 // What a native frame is judged: refused, or tagged with this VLAN and priority.
-#[derive(Drop)]
+#[derive(Clone, Copy)]
 pub enum Judged {
     Refused(u8),
     Tagged { vlan: PortVlan, priority: u64 },

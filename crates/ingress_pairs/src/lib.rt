@@ -1,5 +1,7 @@
 // Inbound through a port's map that is lent as a slice of pairs: the slice is judged and searched once, for the VLAN of the frame's tag,
 // and what was found is the map with which the frame is taken in.
+#![tactic(auto)]
+
 ghost use Rattle.std.specs.Prelude.{List, ◌≡◌};
 ghost use Rattle.numbers.specs.After.{on_area};
 ghost use Rattle.ingress.specs.Ingress.{ingressed};

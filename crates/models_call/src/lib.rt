@@ -1,5 +1,7 @@
 // The flush of the small model: the same judging and the same marks as those of the full one, at the types that it implements. It names no
 // fine-grained label and no MAC, so that the first pass decides.
+#![tactic(auto)]
+
 ghost use Rattle.std.specs.Prelude.{◌*◌, ◌≤◌, ◌≡◌, length};
 ghost use Rattle.numbers.specs.After.{on_table};
 ghost use Rattle.table.specs.Slots.{most_slots, slots_of};

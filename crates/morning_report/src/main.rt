@@ -1,4 +1,6 @@
 // The morning report: reads a table from standard input, and writes its report to standard output.
+#![tactic(auto)]
+
 use table::MOST_BYTES;
 
 // One byte more than the largest table has: a longer input is a bad length.

@@ -1,11 +1,13 @@
 // A port's map between its VLANs and the campus's fine-grained labels (2026-01). The definitions are in specs/.
+#![tactic(auto)]
+
 ghost use Rattle.port_map.specs.Claims.{SearchInverse};
 
 // A VLAN number as a port numbers them, and a fine-grained label as the campus does: two numberings, which no function mixes.
-#[derive(Drop)]
+#[derive(Clone, Copy)]
 pub struct PortVlan(pub u16);
 
-#[derive(Drop)]
+#[derive(Clone, Copy)]
 pub struct CampusLabel(pub u32);
 
 // A pair: the VLAN, and the label from this offset on.

@@ -1,5 +1,7 @@
 // Judging a port's map, which is done at every call. In short maps each pair is compared with those after it. In longer ones VLANs go by a bit
 // for each, and labels by bits too, so that only labels whose bits are set are compared; where a long map has many of these, by sorted keys.
+#![tactic(auto)]
+
 ghost use Rattle.std.specs.Prelude.{ℕ, ◌+◌, ◌*◌, ◌%◌, ◌≤◌, ◌<◌, true, false, List, ◌≡◌, eqb, length, drop};
 ghost use Rattle.numbers.specs.Tests.{any_of};
 ghost use Rattle.numbers.specs.Numberings.{bit_at};

@@ -1,5 +1,7 @@
 // A map of at most one pair, as bytes: what a call that searches a map for one label or one VLAN does with it, it does with the slice of
 // pairs that was searched.
+#![tactic(auto)]
+
 ghost use Rattle.std.specs.Prelude.{◌≤◌, ◌≡◌};
 ghost use Rattle.port_map_pairs.specs.Pairs.{pair_bytes_of};
 ghost use Rattle.port_map_one.specs.One.{other_label, other_vlan, pair_for_label, pair_for_vlan, lent_bytes};

@@ -1,5 +1,7 @@
 // A port's map as a lent slice of two-field structs: the two searches and the judge. Each function that is lent the slice is thin, and its
 // proof a walk by hand; what is asked of a pair, and what follows, are functions on the pair by value.
+#![tactic(auto)]
+
 ghost use Rattle.std.specs.Prelude.{◌≡◌, ◌<◌, ltb, length, drop};
 ghost use Rattle.numbers.specs.Tests.{both};
 ghost use Rattle.port_map.specs.Maps.{pairs_good, label_for, vlan_for};
@@ -12,14 +14,14 @@ use port_map::{CampusLabel, PortVlan};
 use port_map_search::{LabelFound, VlanFound};
 
 // A pair of a port's map.
-#[derive(Drop)]
+#[derive(Clone, Copy)]
 pub struct MapPair {
     pub vlan: PortVlan,
     pub label: CampusLabel,
 }
 
 // What is asked of the pairs one after the other: the VLAN of a label, the label of a VLAN, a pair with the VLAN or the label of this one.
-#[derive(Drop)]
+#[derive(Clone, Copy)]
 pub enum Question {
     VlanOf(CampusLabel),
     LabelOf(PortVlan),
@@ -27,7 +29,7 @@ pub enum Question {
 }
 
 // What is found.
-#[derive(Drop)]
+#[derive(Clone, Copy)]
 pub enum Found {
     Nothing,
     Vlan(PortVlan),

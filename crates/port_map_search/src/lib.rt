@@ -1,4 +1,6 @@
 // A port's map: the pair at an offset, and the two searches.
+#![tactic(auto)]
+
 ghost use Rattle.std.specs.Prelude.{◌+◌, ◌≤◌, ◌≡◌, length};
 ghost use Rattle.port_map.specs.Maps.{pair_bytes, pairs_in, label_for, vlan_for};
 ghost use Rattle.port_map_search.specs.Meaning.{pair_at, label_as, vlan_as};
@@ -6,13 +8,13 @@ ghost use Rattle.port_map_search.specs.Meaning.{pair_at, label_as, vlan_as};
 use port_map::{CampusLabel, LABEL_OFFSET, PAIR_BYTES, PortVlan};
 
 // What a search finds: the label of a VLAN, and the VLAN of a label.
-#[derive(Drop)]
+#[derive(Clone, Copy)]
 pub enum LabelFound {
     Missing,
     Label(CampusLabel),
 }
 
-#[derive(Drop)]
+#[derive(Clone, Copy)]
 pub enum VlanFound {
     Missing,
     Vlan(PortVlan),

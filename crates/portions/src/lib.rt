@@ -1,4 +1,6 @@
 // Flush in portions: at most k slots per call. The definitions are in specs/.
+#![tactic(auto)]
+
 ghost use Rattle.portions.specs.Claims.{PortionExact, PortionRefusal, PortionsWhole, PortionsReach, PortionsEnd, PortionKeepsApart, PortionLeavesAlone};
 ghost use Rattle.portions.specs.Between.{Later, Passed};
 
@@ -6,7 +8,7 @@ ghost use Rattle.portions.specs.Between.{Later, Passed};
 pub const PORTION_BAD: u8 = 24;
 
 // What a portion did: records cleared, the slot to go on from, slots examined.
-#[derive(Drop)]
+#[derive(Clone, Copy)]
 pub struct Portion {
     pub cleared: u16,
     pub next: u16,
@@ -14,7 +16,7 @@ pub struct Portion {
 }
 
 // The answer of a portion: a refusal number, or what it did.
-#[derive(Drop)]
+#[derive(Clone, Copy)]
 pub enum PortionAnswer {
     Refused(u8),
     Portioned(Portion),

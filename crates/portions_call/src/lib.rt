@@ -1,4 +1,6 @@
 // The portion call: the flush's own clearing over at most k slots from a slot on.
+#![tactic(auto)]
+
 ghost use Rattle.std.specs.Prelude.{◌≤◌, ◌≡◌};
 ghost use Rattle.numbers.specs.After.{on_table};
 ghost use Rattle.portions.specs.Portion.{portion_steps, portioned};

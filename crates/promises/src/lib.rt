@@ -1,5 +1,7 @@
 // What is promised of the definitions as a whole. The one function here has no code: its contract names every theorem of every crate,
 // and its proof is theirs.
+#![tactic(auto)]
+
 ghost use Rattle.numbers.specs.Claims.{Blocks, Maps};
 ghost use Rattle.table.specs.Claims.{UnpackPacked, PackUnpacked, LearningKeepsApart, AgeingKeepsApart, KeptWritesNothing, AgeingRefusal, WideningRefusal, LearningLeavesAlone, AgeingLeavesAlone, WidenedSame, UnmarkedAsBefore};
 ghost use Rattle.table.specs.Examples.{HomesExamples};

@@ -1,4 +1,6 @@
 // Reading a frame. The definitions are in specs/.
+#![tactic(auto)]
+
 ghost use Rattle.receive.specs.Claims.{ReadRefusal, ReadingKeepsApart, ReadsParsed, ReadingLeavesAlone, ReadFlushExact, PaddedRead, NoMapNoChange, SmartPort};
 ghost use Rattle.receive.specs.Order.{ReadsExactly};
 
@@ -6,7 +8,7 @@ use table::{Label, Learning};
 
 // The answer of reading. Onward is document 01's own term: the frame is for another switch. What was learned and the length come first,
 // so that they lie where a refusal's number and a count do: the compiler then keeps the answer in registers.
-#[derive(Drop)]
+#[derive(Clone, Copy)]
 pub enum ReadAnswer {
     Refused(u8),
     Onward,

@@ -1,5 +1,7 @@
 // Reading a frame: the order of the refusals, and what the fields lead to. The frame is judged to a verdict by value, the port's map is
 // searched by the label in it, and the outcome is carried out: only the search and the judge of a map are lent one.
+#![tactic(auto)]
+
 ghost use Rattle.std.specs.Prelude.{◌≤◌, true, [], length, ◌≡◌};
 ghost use Rattle.numbers.specs.Result.{settled};
 ghost use Rattle.numbers.specs.After.{on_both};

@@ -1,4 +1,6 @@
 // A channel frame for this switch: 6, 14, another protocol, 15, or the flush that it carries.
+#![tactic(auto)]
+
 ghost use Rattle.std.specs.Prelude.{ℕ, ◌≤◌, true, List, ◌≡◌, length};
 ghost use Rattle.numbers.specs.Result.{settled};
 ghost use Rattle.numbers.specs.After.{on_both};

@@ -1,4 +1,6 @@
 // What the fields of a frame lead to, alike for both formats: 8, 9, 11; onward; a channel frame, or one to deliver.
+#![tactic(auto)]
+
 ghost use Rattle.std.specs.Prelude.{◌≡◌};
 ghost use Rattle.numbers.specs.Result.{Result};
 ghost use Rattle.numbers.specs.After.{OnBoth};
@@ -13,7 +15,7 @@ use frame_parse::Parts;
 use numbers::refusals::{HOPS_SPENT, NICKNAME_BAD, SOURCE_GROUP};
 
 // The values of a frame's fields, each read once: of the header M, hop count and nicknames, and the inner addresses.
-#[derive(Drop)]
+#[derive(Clone, Copy)]
 pub struct FieldValues {
     pub multicast: u64,
     pub hops: u64,
@@ -23,7 +25,7 @@ pub struct FieldValues {
     pub src: u64,
 }
 
-#[derive(Drop)]
+#[derive(Clone, Copy)]
 pub enum Step {
     Refused(u8),
     Onward,

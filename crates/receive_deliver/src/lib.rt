@@ -1,5 +1,7 @@
 // Delivering a frame: 13, 22, 16; the native frame is written, with its tag where it gets one, and its source learned. What a map says
 // of it comes as a tag: nothing here takes a map.
+#![tactic(auto)]
+
 ghost use Rattle.std.specs.Prelude.{◌+◌, ◌^◌, ◌<◌, ◌≤◌, true, ◌≡◌, length};
 ghost use Rattle.numbers.specs.Result.{settled};
 ghost use Rattle.numbers.specs.After.{on_both};
@@ -43,7 +45,7 @@ fn label_of(f: &[u8], p: Parts) -> Label
 }
 
 // What the label of a frame asks of a map: nothing, or the VLAN of a fine-grained label, whose second part is these two bytes.
-#[derive(Drop)]
+#[derive(Clone, Copy)]
 pub enum Wanted {
     Nothing,
     Vlan { label: CampusLabel, second: u16 },
@@ -66,7 +68,7 @@ pub fn label_asks(f: &[u8], p: Parts) -> Wanted
 }
 
 // The tag that a native frame gets: none, one with this number in its two bytes, or no VLAN was found for it.
-#[derive(Drop)]
+#[derive(Clone, Copy)]
 pub enum Tag {
     Untagged,
     Number(u64),

@@ -1,5 +1,7 @@
 // Reading with a port's map that is lent as a slice of pairs: the slice is judged and searched once, for the label that the frame asks for,
 // and what was found is the map with which the frame is read.
+#![tactic(auto)]
+
 ghost use Rattle.std.specs.Prelude.{List, ◌≡◌};
 ghost use Rattle.numbers.specs.After.{on_both};
 ghost use Rattle.receive.specs.Receive.{port_received};

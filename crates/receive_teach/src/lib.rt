@@ -1,5 +1,7 @@
 // What a delivered frame teaches: its source with its label, its ingress nickname, the seconds of the settings and the mark of the R bit; a
 // frame from our own nickname teaches nothing.
+#![tactic(auto)]
+
 ghost use Rattle.std.specs.Prelude.{◌^◌, ◌<◌, true, ◌≡◌, eqb};
 ghost use Rattle.numbers.specs.Tests.{pick};
 ghost use Rattle.numbers.specs.After.{on_table};

@@ -1,4 +1,6 @@
 // For the program `replay`: a map of whole pairs out of bytes, as an array, and reading and ingress with its first pairs as a slice.
+#![tactic(auto)]
+
 ghost use Rattle.std.specs.Prelude.{◌+◌, ◌≤◌, ◌≡◌, length, take};
 ghost use Rattle.numbers.specs.After.{on_area, on_both};
 ghost use Rattle.port_map_pairs.specs.Pairs.{map_bytes_of};

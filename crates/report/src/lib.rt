@@ -1,8 +1,10 @@
 // The morning report of a table. The definitions are in specs/.
+#![tactic(auto)]
+
 ghost use Rattle.report.specs.Claims.{ReportAddsUp, ReportRising, ReportCase, DigitsReadBack, ReportFits};
 
 // The answer of a report: a refusal number, or the length of its text.
-#[derive(Drop)]
+#[derive(Clone, Copy)]
 pub enum ReportAnswer {
     Refused(u8),
     Written(u16),

@@ -1,4 +1,6 @@
 // The report of a table: tallies of its keys, put in order, and their text.
+#![tactic(auto)]
+
 ghost use Rattle.std.specs.Prelude.{◌+◌, ◌*◌, ◌≤◌, true, ◌≡◌, length, take};
 ghost use Rattle.numbers.specs.After.{on_area};
 ghost use Rattle.table.specs.Slots.{most_slots, table_good, slots_of};

@@ -1,4 +1,6 @@
 // Digits written to an area: hexadecimal for a nickname, decimal for a count.
+#![tactic(auto)]
+
 ghost use Rattle.std.specs.Prelude.{◌+◌, ◌^◌, ◌<◌, ◌≤◌, [], ◌∷◌, ◌≡◌, length};
 ghost use Rattle.numbers.specs.Bytes.{bytes_of};
 ghost use Rattle.frame_copy.specs.Areas.{pasted};

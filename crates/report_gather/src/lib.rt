@@ -1,5 +1,7 @@
 // The keys of a table's slots, counted in one pass. The first learned record of a nickname is noted in a set; what is met again is counted
 // in tallies, and so are configured records and slots without one. Where nothing was tallied, the set alone lists all in order.
+#![tactic(auto)]
+
 ghost use Rattle.std.specs.Prelude.{◌+◌, ◌^◌, ◌<◌, ◌≤◌, true, false, [], ◌++◌, ◌≡◌, length, take};
 ghost use Rattle.table.specs.Slots.{most_slots, slots_of};
 ghost use Rattle.flush_sort.specs.Sorting.{Sorted};
@@ -13,7 +15,7 @@ use report_tally::PLACES;
 use table::SLOT_BYTES;
 
 // How many tallies there are, and how many of them came from no set.
-#[derive(Drop)]
+#[derive(Clone, Copy)]
 pub struct Gathered {
     pub all: usize,
     pub unsorted: usize,

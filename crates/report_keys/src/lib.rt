@@ -1,4 +1,6 @@
 // The keys of a table's slots: what a report counts of each.
+#![tactic(auto)]
+
 ghost use Rattle.std.specs.Prelude.{ℕ, ◌+◌, ◌*◌, ◌/◌, ◌%◌, ◌^◌, ◌<◌, ◌≤◌, ◌≡◌, length, drop};
 ghost use Rattle.numbers.specs.Tests.{pick};
 ghost use Rattle.table.specs.Record.{record_of, mark_of, nickname_of, entry_of, entry_good, unpacked};

@@ -1,4 +1,6 @@
 // One line of a report: a nickname and its two counts.
+#![tactic(auto)]
+
 ghost use Rattle.std.specs.Prelude.{ℕ, ◌+◌, ◌≤◌, ◌∷◌, ◌≡◌, length};
 ghost use Rattle.numbers.specs.Bytes.{bytes_of};
 ghost use Rattle.frame_copy.specs.Areas.{pasted};

@@ -1,4 +1,6 @@
 // The rows of a report, from tallies that are sorted: the two counts of a nickname, and how often a key past all nicknames was met.
+#![tactic(auto)]
+
 ghost use Rattle.std.specs.Prelude.{◌+◌, ◌*◌, ◌/◌, ◌%◌, ◌^◌, ◌<◌, ◌≤◌, true, ◌≡◌, length, get_or};
 ghost use Rattle.numbers.specs.Tests.{pick};
 ghost use Rattle.table.specs.Slots.{most_slots};
@@ -12,7 +14,7 @@ use report_keys::FREE_KEY;
 use report_tally::TALLY_UNIT;
 
 // A nickname, its counts, and the place after its tallies.
-#[derive(Drop)]
+#[derive(Clone, Copy)]
 pub struct Row {
     pub nickname: u64,
     pub learned: u64,

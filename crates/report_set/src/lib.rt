@@ -1,5 +1,7 @@
 // A set of nicknames, a bit for each: those of which one learned record was met. Its nicknames are listed in rising order, so they need not
 // be sorted.
+#![tactic(auto)]
+
 ghost use Rattle.std.specs.Prelude.{◌+◌, ◌*◌, ◌^◌, ◌<◌, ◌≤◌, true, false, ◌++◌, ◌≡◌, length, take};
 ghost use Rattle.std.specs.Int.Count.{count_trailing_zeros};
 ghost use Rattle.report_set.specs.Set.{word_bits, set_words, one_tally, word_tallies, set_tallies, Noted};

@@ -1,5 +1,7 @@
 // Keys counted in tallies. Where a key was last counted is noted by its low bits: a key that has lost its place to another is counted in a
 // new tally, and no search is needed.
+#![tactic(auto)]
+
 ghost use Rattle.std.specs.Prelude.{◌+◌, ◌/◌, ◌^◌, ◌<◌, ◌≤◌, true, false, ◌≡◌, length, take, get_or};
 ghost use Rattle.table.specs.Slots.{most_slots};
 ghost use Rattle.report_tally.specs.Tallies.{tally_unit, tallied, OneMore, places_noted};

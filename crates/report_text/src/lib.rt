@@ -1,4 +1,6 @@
 // The text of a report: all lines, and the whole.
+#![tactic(auto)]
+
 ghost use Rattle.std.specs.Prelude.{◌+◌, ◌<◌, ◌≤◌, true, false, [], ◌∷◌, ◌++◌, ◌≡◌, length};
 ghost use Rattle.numbers.specs.After.{on_area};
 ghost use Rattle.numbers.specs.Bytes.{bytes_of};

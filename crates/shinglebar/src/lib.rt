@@ -1,5 +1,7 @@
 // The C boundary: each public call over plain numbers and byte areas, with its answer packed into one word. A refusal is its number
 // alone; otherwise the low byte is the kind, and the other bits are the values.
+#![tactic(auto)]
+
 ghost use Rattle.std.specs.Prelude.{◌^◌, ◌<◌, ◌≤◌, ◌≡◌};
 ghost use Rattle.numbers.specs.After.{on_table, table_as, on_area, area_as, on_both, both_as};
 ghost use Rattle.table.specs.FreeSlot.{free_answered};

@@ -12,7 +12,7 @@ ghost use Rattle.shinglebar.specs.Arguments.{settings_of};
 use watch::{Watch, WatchAnswer};
 
 // The word of an answer, with the watch after the call.
-#[derive(Drop)]
+#[derive(Clone, Copy)]
 pub struct Held {
     pub word: u64,
     pub left: u32,

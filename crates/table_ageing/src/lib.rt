@@ -1,4 +1,6 @@
 // Ageing: learned records lose seconds, and those with none left become free.
+#![tactic(auto)]
+
 ghost use Rattle.std.specs.Prelude.{◌/◌, ◌%◌, ◌≤◌, ◌≡◌, true, length};
 ghost use Rattle.numbers.specs.After.{on_table};
 ghost use Rattle.table.specs.Record.{unpacked, is_learned, learned_state};

@@ -1,5 +1,7 @@
 // The search for the lowest free slot of a table, with the number of records unpacked. It tests first the bits of a slot that exclude most,
 // many slots in a round.
+#![tactic(auto)]
+
 ghost use Rattle.std.specs.Prelude.{◌+◌, ◌≤◌, ◌≡◌, length, drop};
 ghost use Rattle.numbers.specs.Tests.{pick};
 ghost use Rattle.table.specs.FreeSlot.{state_free, free_search, free_answered};
@@ -10,7 +12,7 @@ use numbers::refusals::TABLE_LENGTH_BAD;
 use table::{FREE_STATE, FreeAnswer, FreeSearch, Place, SLOT_BYTES};
 
 // What the search for a free slot learns of one slot.
-#[derive(Drop)]
+#[derive(Clone, Copy)]
 pub struct FreeStep {
     pub free: bool,
     pub unpacked: usize,

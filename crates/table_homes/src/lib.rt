@@ -1,4 +1,6 @@
 // One pass over the table for learning: what is to be known of the records with an entry's label and address, collected by value.
+#![tactic(auto)]
+
 ghost use Rattle.std.specs.Prelude.{◌+◌, ◌*◌, ◌≤◌, ◌≡◌, true, length, drop};
 ghost use Rattle.numbers.specs.Tests.{pick};
 ghost use Rattle.table.specs.Record.{unpacked, entry_matches, slot_that};
@@ -12,7 +14,7 @@ use table::{Entry, Place, SLOT_BYTES, Slot};
 
 // What the pass sees of a pair's records: a configured one; the lowest learned one without the mark; the lowest learned one with the mark
 // and the nickname of the entry; the lowest of all; how many there are.
-#[derive(Drop)]
+#[derive(Clone, Copy)]
 pub struct Homes {
     pub configured: bool,
     pub unmarked: Place,

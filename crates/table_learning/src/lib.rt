@@ -1,5 +1,7 @@
 // Learning: the frame is judged against one record of the same label and address, or fills a free slot; an unmarked frame that overwrites
 // clears the others. A configured record of them in any slot keeps everything.
+#![tactic(auto)]
+
 ghost use Rattle.std.specs.Prelude.{◌+◌, ◌*◌, ◌≤◌, ◌≡◌, ◌||◌, leb, length};
 ghost use Rattle.numbers.specs.Tests.{pick};
 ghost use Rattle.numbers.specs.After.{on_table};

@@ -1,4 +1,6 @@
 // Whether a record holds a label and an address: by the byte in which most addresses differ, then by its first eight bytes.
+#![tactic(auto)]
+
 ghost use Rattle.std.specs.Prelude.{◌+◌, ◌^◌, ◌<◌, ◌≤◌, ◌≡◌, length, drop};
 ghost use Rattle.table.specs.Record.{record_bytes, record_of, mac_of, label_from, slot_of, slot_matches};
 ghost use Rattle.table.specs.Slots.{slot_bytes};

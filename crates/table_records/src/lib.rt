@@ -1,4 +1,6 @@
 // A record whole: reading what it holds, writing an entry, freeing a slot.
+#![tactic(auto)]
+
 ghost use Rattle.std.specs.Prelude.{◌+◌, ◌≤◌, ◌≡◌, true, false, length, drop};
 ghost use Rattle.table.specs.Record.{record_bytes, record_of, with_mark, marked_slot, mark_number, state_of, learned_state, entry_of, entry_good, slot_of, unpacked, kind_number, label_number, packed, record_number, is_free};
 ghost use Rattle.table.specs.Slots.{slot_bytes, freed, table_good};
@@ -18,7 +20,7 @@ use table_fields::layout;
 const MULTIHOMED_MARK: u8 = 0x80;
 
 // A record's number in two parts: that of its first eight bytes and that of its last six.
-#[derive(Drop)]
+#[derive(Clone, Copy)]
 pub struct RecordBits {
     pub high: u64,
     pub low: u64,

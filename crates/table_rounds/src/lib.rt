@@ -1,4 +1,6 @@
 // Rounds over several slots: passing by those that a few of their bits exclude.
+#![tactic(auto)]
+
 ghost use Rattle.std.specs.Prelude.{◌+◌, ◌≤◌, ◌≡◌, true, length};
 ghost use Rattle.table.specs.Record.{free_state};
 ghost use Rattle.table.specs.Slots.{slots_of};

@@ -1,5 +1,7 @@
 // Searches over the slots of a table: for a label and an address, for a spoilt slot. Each tests first the bits of a slot
 // that exclude most, many slots in a round.
+#![tactic(auto)]
+
 ghost use Rattle.std.specs.Prelude.{◌^◌, ◌<◌, ◌≤◌, ◌≡◌};
 ghost use Rattle.table.specs.Record.{label_from};
 ghost use Rattle.table.specs.Slots.{slots_of, first_slot, lowest};

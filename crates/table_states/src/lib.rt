@@ -1,4 +1,6 @@
 // Whether a record is good, learned, spoilt or free: by its first four bytes, and by as few others as decide it.
+#![tactic(auto)]
+
 ghost use Rattle.std.specs.Prelude.{◌+◌, ◌/◌, ◌%◌, ◌^◌, ◌≤◌, ◌≡◌, length, drop};
 ghost use Rattle.numbers.specs.Ranges.{nickname_good};
 ghost use Rattle.table.specs.Learning.{free_slot};

@@ -1,4 +1,6 @@
 // Widening a table of document 01: each record is copied, and a zero byte follows it.
+#![tactic(auto)]
+
 ghost use Rattle.std.specs.Prelude.{◌+◌, ◌*◌, ◌≤◌, ◌≡◌, [], ◌∷◌, ◌++◌, length, take, drop};
 ghost use Rattle.numbers.specs.After.{on_area};
 ghost use Rattle.numbers.specs.Bytes.{bytes_of, laid};

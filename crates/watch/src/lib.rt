@@ -1,16 +1,18 @@
 // The watch of a sending port: when the link looks shared, compaction stops for a time (2026-06). The definitions are in specs/.
+#![tactic(auto)]
+
 ghost use Rattle.watch.specs.Claims.{StopNeverShortened, StopRunsOut, SendingWhileStopped, RefusedWatchStays, WatchCases};
 
 // "seconds left and the last clock reading", changed where it lies.
 #[repr(C)]
-#[derive(Drop)]
+#[derive(Clone, Copy)]
 pub struct Watch {
     pub left: u32,
     pub reading: u32,
 }
 
 // The answer of a reset, a tick and an event: a refusal number, or the seconds left.
-#[derive(Drop)]
+#[derive(Clone, Copy)]
 pub enum WatchAnswer {
     Refused(u8),
     Left(u32),

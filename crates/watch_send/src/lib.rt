@@ -1,4 +1,6 @@
 // Sending with a watch, by value: compacting where it may and no stop is left.
+#![tactic(auto)]
+
 ghost use Rattle.std.specs.Prelude.{◌≡◌};
 ghost use Rattle.numbers.specs.After.{on_area};
 ghost use Rattle.convert_send.specs.Meaning.{sent_where};
@@ -11,7 +13,7 @@ use frame_parse::Parsed;
 use numbers::refusals::{AREA_SHORT, SETTINGS_BAD};
 
 // What sending answers, with the watch after it.
-#[derive(Drop)]
+#[derive(Clone, Copy)]
 pub struct SentBy {
     pub answer: SendAnswer,
     pub left: u32,

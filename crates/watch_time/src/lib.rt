@@ -1,4 +1,6 @@
 // The watch's arithmetic, by value: the time passed, a reading, the stop of an event, an event.
+#![tactic(auto)]
+
 ghost use Rattle.std.specs.Prelude.{◌≡◌, ◌-◌};
 ghost use Rattle.numbers.specs.Numberings.{at_least};
 ghost use Rattle.watch.specs.Time.{watch_of, passed, ticked};
@@ -10,7 +12,7 @@ use watch::{
 };
 
 // What a call on a watch answers, with the watch after it.
-#[derive(Drop)]
+#[derive(Clone, Copy)]
 pub struct Kept {
     pub answer: WatchAnswer,
     pub left: u32,

@@ -1,30 +1,32 @@
 // Why a flush clears a slot or leaves it. The definitions are in specs/.
+#![tactic(auto)]
+
 ghost use Rattle.why.specs.Claims.{WhyExact, WhyFirst, WhyPlaces, WhyRefusals};
 ghost use Rattle.why.specs.Cases.{WhyCases};
 
 // What brought the nickname: no list, so that the sender is meant; or the listed nickname at a place.
-#[derive(Drop)]
+#[derive(Clone, Copy)]
 pub enum NicknameMatch {
     Sender,
     Listed(u8),
 }
 
 // What brought the label: the VLAN block at a place, or the TLV at a place.
-#[derive(Drop)]
+#[derive(Clone, Copy)]
 pub enum LabelMatch {
     Block(usize),
     Tlv(usize),
 }
 
 // What brought the MAC: none was gathered, so that every MAC is meant; or the TLV at a place.
-#[derive(Drop)]
+#[derive(Clone, Copy)]
 pub enum MacMatch {
     Every,
     Tlv(usize),
 }
 
 // What brought a record into each of the three sets.
-#[derive(Drop)]
+#[derive(Clone, Copy)]
 pub struct Places {
     pub nickname: NicknameMatch,
     pub label: LabelMatch,
@@ -32,7 +34,7 @@ pub struct Places {
 }
 
 // The reasons in the order in which they are judged.
-#[derive(Drop)]
+#[derive(Clone, Copy)]
 pub enum Reason {
     Free,
     Spoilt,
@@ -44,7 +46,7 @@ pub enum Reason {
 }
 
 // The answer: a refusal number, or the reason.
-#[derive(Drop)]
+#[derive(Clone, Copy)]
 pub enum WhyAnswer {
     Refused(u8),
     Because(Reason),

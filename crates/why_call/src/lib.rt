@@ -1,5 +1,7 @@
 // Why a flush clears a slot or leaves it: the table, the slot and the whole payload are judged as the flush judges them, and then the record
 // in the slot, set by set.
+#![tactic(auto)]
+
 ghost use Rattle.std.specs.Prelude.{◌+◌, ◌<◌, ◌≤◌, ◌≡◌, length, drop};
 ghost use Rattle.table.specs.Record.{record_bytes, record_of, entry_of, unpacked};
 ghost use Rattle.table.specs.Slots.{slot_bytes};

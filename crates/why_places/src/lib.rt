@@ -1,5 +1,7 @@
 // What brought a nickname, a label and a MAC into the three sets of a flush: walks that answer the place of the first that brings it, and
 // that it is meant is that there is such a place.
+#![tactic(auto)]
+
 ghost use Rattle.std.specs.Prelude.{◌+◌, ◌*◌, ◌<◌, ◌≤◌, true, false, ◌≡◌, eqb, length, drop};
 ghost use Rattle.numbers.specs.Tests.{any_of};
 ghost use Rattle.numbers.specs.Ranges.{first_vlan, last_vlan};
@@ -33,19 +35,19 @@ const FIRST_TYPE: u8 = 1;
 const LAST_TYPE: u8 = 8;
 
 // Whether a nickname is meant, and what brought it; the same of a label and of a MAC.
-#[derive(Drop)]
+#[derive(Clone, Copy)]
 pub enum NicknameFound {
     By(NicknameMatch),
     NotMeant,
 }
 
-#[derive(Drop)]
+#[derive(Clone, Copy)]
 pub enum LabelFound {
     By(LabelMatch),
     NotMeant,
 }
 
-#[derive(Drop)]
+#[derive(Clone, Copy)]
 pub enum MacFound {
     By(MacMatch),
     NotMeant,

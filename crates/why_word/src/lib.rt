@@ -1,4 +1,6 @@
 // The reason as the word of the C boundary.
+#![tactic(auto)]
+
 ghost use Rattle.std.specs.Prelude.{◌^◌, ◌<◌, ◌≤◌, ◌≡◌};
 ghost use Rattle.why.specs.Words.{most_shown, shown, nickname_bits, label_bits, mac_bits, why_word};
 ghost use Rattle.why.specs.declared.Reason.TheVariants.{Cleared};
