@@ -1,0 +1,26 @@
+-- `convert_send::send_where` meets its contract: each way out is an outcome of the definition.
+use Rattle.frame_parse.proofs.Located.{parts_of, dst_room}
+use Rattle.convert_send.proofs.Laws.{parts_short, send_settings, send_short, send_refused, send_itself, send_put}
+use borrow.Author.Rules.{rules}
+use Rattle.convert_send.proofs.send_where.Goals as goal
+
+pub returns-then-not-settings_good : goal.returns-then-not-settings_good
+returns-then-not-settings_good c = search send_settings
+
+pub returns-then-work-lt-COMPACT_ROOM : goal.returns-then-work-lt-COMPACT_ROOM
+returns-then-work-lt-COMPACT_ROOM c = search send_short
+
+pub be6-requires : goal.be6-requires
+be6-requires c = search dst_room
+
+pub returns-then-not-may_compact : goal.returns-then-not-may_compact
+returns-then-not-may_compact c = search send_itself
+
+pub fill_compact-requires : goal.fill_compact-requires
+fill_compact-requires c = (search parts_of, search (parts_short, parts_of), search rules)
+
+pub returns-in-Refused : goal.returns-in-Refused
+returns-in-Refused c = search send_refused
+
+pub returns-else-not-may_compact : goal.returns-else-not-may_compact
+returns-else-not-may_compact c = search send_put

@@ -1,0 +1,12 @@
+-- `flush_call::clear_meant` meets its contract: the range of all slots.
+use Rattle.flush_call.proofs.Calls.{whole_within, whole_refused, whole_done}
+use Rattle.flush_call.proofs.clear_meant.Goals as goal
+
+pub clear_portion-requires : goal.clear_portion-requires
+clear_portion-requires c = whole_within _ c.requires
+
+pub returns-in-Refused : goal.returns-in-Refused
+returns-in-Refused c = whole_refused _ _ _ _ _ c.clear_portion.ensures _ c.r-1.given.1
+
+pub returns-in-Done : goal.returns-in-Done
+returns-in-Done c = whole_done _ _ _ _ _ c.clear_portion.ensures _ c.s-1.given.1

@@ -1,0 +1,18 @@
+-- `flush_intervals::hit_blocks` meets its contract. The invariant: what is hit and what is left make up the whole.
+use Prim.Native.Nat.{◌-◌}
+use Rattle.flush_intervals.proofs.Hits.{still_searched}
+use Rattle.flush_intervals.proofs.Walks.{hit_start, hit_next, hit_done}
+use borrow.Author.Rules.{rules}
+use Rattle.flush_intervals.proofs.hit_blocks.Goals as goal
+
+pub loop-at-init : goal.loop-at-init
+loop-at-init c = search hit_start
+
+pub hit_range-requires : goal.hit_range-requires
+hit_range-requires c = (search still_searched, (search rules, search rules))
+
+pub loop-at-preserved : goal.loop-at-preserved
+loop-at-preserved c = search hit_next
+
+pub returns : goal.returns
+returns c = search hit_done

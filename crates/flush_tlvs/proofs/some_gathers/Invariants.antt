@@ -1,0 +1,13 @@
+use Prim.Native.Nat.{◌-◌, ◌≤◌}
+use mathlib.Core.Path.{◌≡◌}
+use lib.ListN.{length, drop}
+use Rattle.numbers.specs.Tests.{any_of}
+use Rattle.flush.specs.Payload.{every_type, tlvs}
+use Rattle.flush.specs.Meaning.{gathers_mac}
+use Rattle.flush_tlvs.proofs.some_gathers.Given as goal
+
+abbrev pub invariant-loop-at : goal.invariant-loop-at
+invariant-loop-at l = (l.at ≤ length l.l) × (any_of (gathers_mac every_type) (tlvs l.l) ≡ any_of (gathers_mac every_type) (tlvs (drop l.at l.l)))
+
+abbrev pub decreases-loop-at : goal.decreases-loop-at
+decreases-loop-at l = length l.l - l.at

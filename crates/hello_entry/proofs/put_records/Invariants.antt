@@ -1,0 +1,14 @@
+use Prim.Native.Nat.{◌-◌, ◌≤◌}
+use mathlib.Core.Path.{◌≡◌}
+use lib.ListN.{length}
+use Rattle.frame_copy.specs.Areas.{pasted}
+use Rattle.hello_area.specs.Entries.{numbers_in}
+use Rattle.hello_entry.specs.Bytes.{record_at, run}
+use Rattle.hello_entry.proofs.Writes.{Left}
+use Rattle.hello_entry.proofs.put_records.Given as goal
+
+abbrev pub invariant-loop-j : goal.invariant-loop-j
+invariant-loop-j l = (l.j ≤ l.m) × ((length l.out ≡ length l.initial.out) × (Left (record_at (numbers_in l.area)) 3 5 l.i l.m l.out l.at l.j ≡ pasted l.initial.out l.at (run (record_at (numbers_in l.area)) 3 l.i l.m)))
+
+abbrev pub decreases-loop-j : goal.decreases-loop-j
+decreases-loop-j l = l.m - l.j

@@ -1,0 +1,15 @@
+-- `hello_words::put_macs` meets its contract. The invariant: the rest written behind what is there makes the whole.
+use Prim.Native.Nat.{◌-◌}
+use mathlib.Core.Path.{refl}
+use Rattle.hello_words.proofs.Parts.{macs_none, macs_next, macs_done}
+use borrow.Author.Rules.{rules}
+use Rattle.hello_words.proofs.put_macs.Goals as goal
+
+pub loop-i-init : goal.loop-i-init
+loop-i-init c = (search rules, (search rules, (refl, search macs_none)))
+
+pub loop-i-preserved : goal.loop-i-preserved
+loop-i-preserved c = (search rules, (search rules, (search rules, search macs_next)))
+
+pub returns : goal.returns
+returns c = search macs_done

@@ -1,0 +1,16 @@
+-- `hello_write::put_tree_section` meets its contract: the entries behind the count are those of the section.
+use Rattle.hello_write.proofs.Walking.{count-there, next_fits, section_entries, section-walked, section_room, section-placed}
+use borrow.Author.Rules.{rules}
+use Rattle.hello_write.proofs.put_tree_section.Goals as goal
+
+pub number-m-requires : goal.number-m-requires
+number-m-requires c = search count-there
+
+pub overflow_add-w : goal.overflow_add-w
+overflow_add-w c = search next_fits
+
+pub put_tree_entries-requires : goal.put_tree_entries-requires
+put_tree_entries-requires c = (search section_entries, (search rules, search section_room))
+
+pub returns : goal.returns
+returns c = (search section-walked, (search rules, search section-placed))

@@ -1,0 +1,28 @@
+-- `receive_call::receive_port` meets its contract: 1, 2, 21, what parsing refuses, or what the fields lead to.
+use Rattle.receive_call.proofs.Laws.{settings_out, table_out, map_out, parse_out, holds, acted_out}
+use Rattle.frame_parse.proofs.Located.{parts_of}
+use Rattle.receive_call.proofs.receive_port.Goals as goal
+
+pub returns-then-not-settings_good : goal.returns-then-not-settings_good
+returns-then-not-settings_good c = let a = c.args in
+    settings_out a.s a.map.now a.f.now a.table.now a.out.now _ c.settings_good.ensures c.if-not-settings_good.true
+
+pub returns-then-not-table_good : goal.returns-then-not-table_good
+returns-then-not-table_good c = let a = c.args in
+    table_out a.s a.map.now a.f.now a.table.now a.out.now _ c.settings_good.ensures c.if-not-settings_good.false _ c.table_good.ensures c.if-not-table_good.true
+
+pub returns-then-not-map_good_for_reading : goal.returns-then-not-map_good_for_reading
+returns-then-not-map_good_for_reading c = let a = c.args in
+    map_out a.s a.map.now a.f.now a.table.now a.out.now _ c.settings_good.ensures c.if-not-settings_good.false _ c.table_good.ensures c.if-not-table_good.false _ c.map_good_for_reading.ensures c.if-not-map_good_for_reading.true
+
+pub act-requires : goal.act-requires
+act-requires c =
+    (holds _ _ c.settings_good.ensures c.if-not-settings_good.false, (holds _ _ c.table_good.ensures c.if-not-table_good.false, parts_of _ _ _ c.parse_mapped.ensures.parts c.p-1.given.1))
+
+pub returns-in-Refused : goal.returns-in-Refused
+returns-in-Refused c = let a = c.args in
+    parse_out a.s a.map.now a.f.now a.table.now a.out.now _ c.settings_good.ensures c.if-not-settings_good.false _ c.table_good.ensures c.if-not-table_good.false _ c.map_good_for_reading.ensures c.if-not-map_good_for_reading.false _ c.parse_mapped.ensures _ c.n-1.given.1
+
+pub returns-in-Fields : goal.returns-in-Fields
+returns-in-Fields c = let a = c.args in
+    acted_out a.s a.map.now a.f.now a.table.now a.out.now _ c.settings_good.ensures c.if-not-settings_good.false _ c.table_good.ensures c.if-not-table_good.false _ c.map_good_for_reading.ensures c.if-not-map_good_for_reading.false _ c.parse_mapped.ensures _ c.p-1.given.1 _ c.act.ensures

@@ -1,0 +1,18 @@
+-- `receive_pairs::label_asked` meets its contract: a frame that is refused, a VLAN label, a fine-grained one.
+use Rattle.receive_pairs.proofs.Laws.{asked_refused, asked-nothing, asked_label}
+use Rattle.frame_parse.proofs.Located.{parts_of}
+use Rattle.receive_pairs.proofs.label_asked.Goals as goal
+
+pub label_asks-requires : goal.label_asks-requires
+label_asks-requires c = parts_of _ _ _ c.parse.ensures.parts c.p-1.given.1
+
+pub returns-in-Refused : goal.returns-in-Refused
+returns-in-Refused c = asked_refused _ _ _ c.parse.ensures c.enum_told-1.given.0.0 c.enum_told-1.given.1 _
+
+pub returns-in-Nothing : goal.returns-in-Nothing
+returns-in-Nothing c =
+    asked-nothing _ _ _ c.parse.ensures _ c.p-1.given.1 _ c.label_asks.ensures c.enum_told-in-Nothing-1.given.1 _
+
+pub returns-in-Vlan : goal.returns-in-Vlan
+returns-in-Vlan c =
+    asked_label _ _ _ c.parse.ensures _ c.p-1.given.1 _ c.label_asks.ensures _ _ c.label-1.given.1

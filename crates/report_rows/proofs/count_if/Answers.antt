@@ -1,0 +1,12 @@
+-- `report_rows::count_if` meets its contract.
+use mathlib.Core.Path.{refl}
+use native.Mathlib.Omega.{arith}
+use Rattle.numbers.proofs.Steps.{pick_first, pick_second}
+use borrow.Author.Rules.{rules}
+use Rattle.report_rows.proofs.count_if.Goals as goal
+
+pub returns-then-b : goal.returns-then-b
+returns-then-b c = (pick_first _ _ _ _ c.if-b.true refl, omega arith)
+
+pub returns-else-b : goal.returns-else-b
+returns-else-b c = (pick_second _ _ _ _ c.if-b.false refl, search rules)

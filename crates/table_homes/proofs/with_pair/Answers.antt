@@ -1,0 +1,15 @@
+-- `table_homes::with_pair` meets its contract: what the record is decides which test it passes.
+use Rattle.table_homes.proofs.Laws.{with_free, with_spoilt, with_learned, with_configured}
+use Rattle.table_homes.proofs.with_pair.Goals as goal
+
+pub returns-in-Free : goal.returns-in-Free
+returns-in-Free c = with_free _ _ _ _ c.enum_told-1.given.1
+
+pub returns-in-Spoilt : goal.returns-in-Spoilt
+returns-in-Spoilt c = with_spoilt _ _ _ _ c.enum_told-in-Spoilt-1.given.1
+
+pub returns-in-Learned : goal.returns-in-Learned
+returns-in-Learned c = with_learned _ _ _ _ c.requires.1 _ _ c.s-1.given.1 c.with_home.ensures
+
+pub returns-in-Configured : goal.returns-in-Configured
+returns-in-Configured c = with_configured _ _ _ _ c.requires.1 _ _ c.enum_told-in-Configured-1.given.1 c.with_home-in-Configured.ensures

@@ -1,0 +1,23 @@
+-- `table_learning::learn` meets its contract.
+use Rattle.table_learning.proofs.Laws.{learn_kept, learn_judges, learn_judged, learn_free}
+use Rattle.table_learning.proofs.learn.Goals as goal
+
+pub returns-then-h : goal.returns-then-h
+returns-then-h c =
+    let a = c.args in
+    learn_kept a.e a.table.now _ c.homes_of-h.ensures c.if-h.true
+
+pub judge-requires : goal.judge-requires
+judge-requires c =
+    let a = c.args in
+    (c.requires, learn_judges a.e a.table.now _ c.homes_of-h.ensures _ c.rival-p.ensures _ c.p-1.given.1)
+
+pub returns-in-At : goal.returns-in-At
+returns-in-At c =
+    let a = c.args in
+    learn_judged a.e a.table.now _ c.homes_of-h.ensures c.if-h.false _ c.rival-p.ensures _ _ _ c.p-1.given.1 c.judge.ensures
+
+pub returns-in-Nowhere : goal.returns-in-Nowhere
+returns-in-Nowhere c =
+    let a = c.args in
+    learn_free a.e a.table.now _ c.homes_of-h.ensures c.if-h.false _ c.rival-p.ensures _ _ c.enum_told-1.given.1 c.into_free.ensures

@@ -1,0 +1,27 @@
+-- `why_places::label_place` meets its contract. The invariant: the first TLV that brings the label is the first from `at` on, which are counted on
+-- from `i`; a TLV has two bytes or more, so that `i` is not past `at`.
+use Prim.Native.Nat.{◌-◌}
+use mathlib.Core.Path.{refl}
+use Rattle.flush.specs.Meaning.{brings_label}
+use Rattle.why_places.proofs.Laws.{empty_room, walk_unlabelled, walk_done, walk_cut, walk_hit, walk_next}
+use borrow.Author.Rules.{rules}
+use Rattle.why_places.proofs.label_place.Goals as goal
+
+pub loop-at-init : goal.loop-at-init
+loop-at-init c = (search rules, (search rules, refl))
+
+pub loop-at-preserved-then-empty_at : goal.loop-at-preserved-then-empty_at
+loop-at-preserved-then-empty_at c = (search empty_room, (search rules, search walk_unlabelled))
+
+pub returns-then-l-e : goal.returns-then-l-e
+unfolding brings_label
+returns-then-l-e c = search walk_cut
+
+pub returns-then-brings_label : goal.returns-then-brings_label
+returns-then-brings_label c = search walk_hit
+
+pub loop-at-preserved : goal.loop-at-preserved
+loop-at-preserved c = (search rules, (search rules, search walk_next))
+
+pub returns : goal.returns
+returns c = search walk_done

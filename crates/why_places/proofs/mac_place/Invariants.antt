@@ -1,0 +1,13 @@
+use Prim.Native.Nat.{◌-◌, ◌≤◌}
+use mathlib.Core.Path.{◌≡◌}
+use lib.ListN.{length, drop}
+use Rattle.flush.specs.Payload.{every_type, tlvs}
+use Rattle.flush.specs.Meaning.{brings_mac}
+use Rattle.why_places.specs.Found.{first_from}
+use Rattle.why_places.proofs.mac_place.Given as goal
+
+abbrev pub invariant-loop-at : goal.invariant-loop-at
+invariant-loop-at l = (l.at ≤ length l.l) × ((l.k ≤ l.at) × (first_from (brings_mac every_type l.m) 0 (tlvs l.l) ≡ first_from (brings_mac every_type l.m) l.k (tlvs (drop l.at l.l))))
+
+abbrev pub decreases-loop-at : goal.decreases-loop-at
+decreases-loop-at l = length l.l - l.at

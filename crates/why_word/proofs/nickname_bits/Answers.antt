@@ -1,0 +1,6 @@
+-- `why_word::nickname_bits` meets its contract: each case has its bits.
+use native.Mathlib.Omega.{arith}
+use Rattle.why_word.proofs.nickname_bits.Goals as goal
+
+pub returns-in-Listed : goal.returns-in-Listed
+returns-in-Listed c = (rw c.m-1.given.1, omega arith)

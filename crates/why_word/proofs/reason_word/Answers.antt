@@ -1,0 +1,27 @@
+-- `why_word::reason_word` meets its contract: each reason has its word.
+use mathlib.Core.Path.{sym, ap, ◌∙◌}
+use Rattle.why.specs.Words.{why_word}
+use Rattle.why.specs.declared.Reason.{Reason}
+use Rattle.why.specs.declared.WhyAnswer.TheVariants.{Because}
+use Rattle.why_word.proofs.reason_word.Goals as goal
+
+pub returns-in-Free : goal.returns-in-Free
+returns-in-Free c = rw c.enum_told-1.given.1
+
+pub returns-in-Spoilt : goal.returns-in-Spoilt
+returns-in-Spoilt c = rw c.enum_told-in-Spoilt-1.given.1
+
+pub returns-in-Configured : goal.returns-in-Configured
+returns-in-Configured c = rw c.enum_told-in-Configured-1.given.1
+
+pub returns-in-NicknameNotMeant : goal.returns-in-NicknameNotMeant
+returns-in-NicknameNotMeant c = rw c.enum_told-in-NicknameNotMeant-1.given.1
+
+pub returns-in-LabelNotMeant : goal.returns-in-LabelNotMeant
+returns-in-LabelNotMeant c = rw c.enum_told-in-LabelNotMeant-1.given.1
+
+pub returns-in-MacNotMeant : goal.returns-in-MacNotMeant
+returns-in-MacNotMeant c = rw c.enum_told-in-MacNotMeant-1.given.1
+
+pub returns-in-Cleared : goal.returns-in-Cleared
+returns-in-Cleared c = c.places_word.ensures ∙ ap (λ (q : Reason). why_word (Because q)) (sym c.r-1.given.1)

@@ -1,0 +1,7 @@
+-- `why_word::why_word` meets its contract: a refusal is its number.
+use mathlib.Core.Path.{sym, ap, ◌∙◌}
+use Rattle.why.specs.Words.{why_word}
+use Rattle.why_word.proofs.why_word.Goals as goal
+
+pub returns-in-Because : goal.returns-in-Because
+returns-in-Because c = c.reason_word.ensures ∙ ap why_word (sym c.a-in-Because-1.given.1)
