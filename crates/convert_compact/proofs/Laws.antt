@@ -80,7 +80,7 @@ module _ (s : Settings) (f : List ℕ) (g : Bool) (eg : g ≡ settings_good s) w
   bad_settings h = rw (← eg, not-true g h)
 
   pub good_settings : not g ≡ false → fields_at s.port f ≡ general_fields s f
-  unfolding general_fields fields_at front_at spec.frontOf check
+  unfolding general_fields fields_at front_at spec.front_of check
   good_settings h = rw (← eg, not-false g h)
 
 -- ---- what is written

@@ -70,7 +70,7 @@ module _ (s : Settings) (u : spec.Outer) (f : List ℕ) (g : Bool) (eg : g ≡ o
   unfolding compact_fields check
   bad_outer h = rw (← eg, not-true g h)
 
-  module _ (ok : not g ≡ false) (more : ℕ) (em : more ≡ spec.outerBytes u) (z : Bool) (ez : z ≡ lengths_good (length f) more) where
+  module _ (ok : not g ≡ false) (more : ℕ) (em : more ≡ spec.outer_bytes u) (z : Bool) (ez : z ≡ lengths_good (length f) more) where
     pub bad_lengths : not z ≡ true → refused 3 ≡ compact_fields s u f
     unfolding compact_fields check
     bad_lengths h = rw (← eg, not-false g ok, ← em, ← ez, not-true z h)
@@ -87,19 +87,19 @@ module _ (s : Settings) (u : spec.Outer) (f : List ℕ) (g : Bool) (eg : g ≡ o
 
       module _ (a : ℕ) (ea : a ≡ num (take 6 f)) (r : Front) (er : front_as r ≡ front_at s.port a) where
         pub to_port : r ≡ front.Unicast → refused 18 ≡ compact_fields s u f
-        unfolding compact_fields spec.compactOnly check
+        unfolding compact_fields spec.compact_only check
         to_port p = rw (← eg, not-false g ok, ← em, ← ez, not-false z fit, ← ea, ← front_at_lem s a, ← er, p)
 
         pub to_all : r ≡ front.Multicast → refused 18 ≡ compact_fields s u f
-        unfolding compact_fields spec.compactOnly check
+        unfolding compact_fields spec.compact_only check
         to_all p = rw (← eg, not-false g ok, ← em, ← ez, not-false z fit, ← ea, ← front_at_lem s a, ← er, p)
 
         pub not_here : r ≡ front.Refused → refused 5 ≡ compact_fields s u f
-        unfolding compact_fields spec.compactOnly check
+        unfolding compact_fields spec.compact_only check
         not_here p = rw (← eg, not-false g ok, ← em, ← ez, not-false z fit, ← ea, ← front_at_lem s a, ← er, p)
 
         pub compact_front : r ≡ front.Inner → compact f ≡ compact_fields s u f
-        unfolding compact_fields spec.compactOnly check
+        unfolding compact_fields spec.compact_only check
         compact_front p = rw (← eg, not-false g ok, ← em, ← ez, not-false z fit, ← ea, ← front_at_lem s a, ← er, p)
 
 -- ---- the outer destination
@@ -129,12 +129,12 @@ check-then true n r k = refl
 check-then false n r k = refl
 
 module _ (s : Settings) (u : spec.Outer) (f : List ℕ) where
-  expanding_is : spec.expanding s u f ≡ (and_then (compact_fields s u f) λ p. got (spec.generalBytes s u p))
+  expanding_is : spec.expanding s u f ≡ (and_then (compact_fields s u f) λ p. got (spec.general_bytes s u p))
   unfolding spec.expanding compact_fields outer_good lengths_good
   expanding_is = simp (check_both, check-then)
 
-  bytes_are : (p : Fields) → general_to (destination_of s p) u p ≡ spec.generalBytes s u p
-  unfolding general_to outer_front spec.generalBytes spec.outerDestination
+  bytes_are : (p : Fields) → general_to (destination_of s p) u p ≡ spec.general_bytes s u p
+  unfolding general_to outer_front spec.general_bytes spec.outer_destination
   bytes_are p = simp append_assoc
 
   module _ (area : List ℕ) (x : Parsed) (ex : Reads f (compact_fields s u f) x) where
@@ -151,13 +151,13 @@ module _ (s : Settings) (u : spec.Outer) (f : List ℕ) where
       call_put d ed r o q = q ∙ rw (expanding_is, fields_got, ed, bytes_are (fields_in f p))
 
       -- an accepted frame's result is not too long, and its parts are all of it
-      pub result_short : length f + spec.outerBytes u ≤ longest_frame
+      pub result_short : length f + spec.outer_bytes u ≤ longest_frame
       unfolding compact_fields
-      result_short = (lengths_are (length f) (spec.outerBytes u) (check_got _ _ _ _ (check_got _ _ _ _ fields_got).1).0).1
+      result_short = (lengths_are (length f) (spec.outer_bytes u) (check_got _ _ _ _ (check_got _ _ _ _ fields_got).1).0).1
 
       compact_got : compact f ≡ got (fields_in f p)
       unfolding compact_fields
-      compact_got = (fronts.compact-front _ f (fields_in f p) (check_got _ _ _ _ (check_got _ _ _ _ fields_got).1).1).1
+      compact_got = (fronts.compact_front _ f (fields_in f p) (check_got _ _ _ _ (check_got _ _ _ _ fields_got).1).1).1
 
       pub parts_all : compact_length (length f) p ≡ length f
       unfolding compact_bytes

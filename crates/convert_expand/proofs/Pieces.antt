@@ -30,11 +30,11 @@ unfolding bytes_of
 tag_type_lem = refl
 
 module _ (u : spec.Outer) where
-  pub none_bytes : u.tagged ≡ 0 → 12 ≡ spec.outerBytes u
+  pub none_bytes : u.tagged ≡ 0 → 12 ≡ spec.outer_bytes u
   unfolding pick
   none_bytes h = rw (eq-eqb u.tagged 0 h)
 
-  pub tag_bytes_lem : (u.tagged ≡ 0 → ⊥) → 16 ≡ spec.outerBytes u
+  pub tag_bytes_lem : (u.tagged ≡ 0 → ⊥) → 16 ≡ spec.outer_bytes u
   unfolding pick
   tag_bytes_lem h = rw (ne_eqb u.tagged 0 h)
 
@@ -44,30 +44,30 @@ module _ (u : spec.Outer) where
   front_cases false = let l = length-bytes_of 2 u.tag in omega arith
 
   -- the tag is what the outer part has beside the addresses
-  tag_long : 12 + length (spec.outerTag u) ≡ spec.outerBytes u
-  unfolding spec.outerTag
+  tag_long : 12 + length (spec.outer_tag u) ≡ spec.outer_bytes u
+  unfolding spec.outer_tag
   tag_long = front_cases (eqb u.tagged 0)
 
-  pub outer_room : (n : ℕ) → spec.outerBytes u ≤ n → 12 ≤ n
+  pub outer_room : (n : ℕ) → spec.outer_bytes u ≤ n → 12 ≤ n
   outer_room n h = let l = tag_long in omega arith
 
   module _ (o : List ℕ) where
-    pub tag_none : u.tagged ≡ 0 → o ≡ pasted o 12 (spec.outerTag u)
-    unfolding spec.outerTag pick pasted
+    pub tag_none : u.tagged ≡ 0 → o ≡ pasted o 12 (spec.outer_tag u)
+    unfolding spec.outer_tag pick pasted
     tag_none h = rw (eq-eqb u.tagged 0 h) (sym (simp append-nil (take-append-drop 12 o)))
 
-    module _ (some : u.tagged ≡ 0 → ⊥) (room : spec.outerBytes u ≤ length o) where
+    module _ (some : u.tagged ≡ 0 → ⊥) (room : spec.outer_bytes u ≤ length o) where
       pub tag_room : 16 ≤ length o
       tag_room = let b = tag_bytes_lem some in omega arith
 
-      pub tag_written : (o₁ o₂ : List ℕ) → o₁ ≡ pasted o 12 (bytes_of 2 0x8100) → o₂ ≡ pasted o₁ 14 (bytes_of 2 u.tag) → o₂ ≡ pasted o 12 (spec.outerTag u)
-      unfolding spec.outerTag pick
+      pub tag_written : (o₁ o₂ : List ℕ) → o₁ ≡ pasted o 12 (bytes_of 2 0x8100) → o₂ ≡ pasted o₁ 14 (bytes_of 2 u.tag) → o₂ ≡ pasted o 12 (spec.outer_tag u)
+      unfolding spec.outer_tag pick
       tag_written o₁ o₂ w₁ w₂ =
           let r = tag_room in
           rw (ne_eqb u.tagged 0 some, w₂, w₁, tag_type_lem) (paste_next o tag_type (bytes_of 2 u.tag) 12 14 (omega arith) refl)
 
   module _ (dst : ℕ) where
-    pub outer_written : (o o₁ o₂ o₃ : List ℕ) → o₁ ≡ pasted o 0 (bytes_of 6 dst) → o₂ ≡ pasted o₁ 6 (bytes_of 6 u.source) → o₃ ≡ pasted o₂ 12 (spec.outerTag u) → o₃ ≡ pasted o 0 (outer_front dst u)
+    pub outer_written : (o o₁ o₂ o₃ : List ℕ) → o₁ ≡ pasted o 0 (bytes_of 6 dst) → o₂ ≡ pasted o₁ 6 (bytes_of 6 u.source) → o₃ ≡ pasted o₂ 12 (spec.outer_tag u) → o₃ ≡ pasted o 0 (outer_front dst u)
     unfolding outer_front
     outer_written o o₁ o₂ o₃ w₁ w₂ w₃ =
         let a : List ℕ = bytes_of 6 dst in
@@ -75,9 +75,9 @@ module _ (u : spec.Outer) where
         let la : length a ≡ 6 = length-bytes_of 6 dst in
         let lb : length b ≡ 6 = length-bytes_of 6 u.source in
         let lab : length (a ++ b) ≡ 12 = rw (length-append, la, lb) (omega arith) in
-        rw (w₃, w₂, w₁, paste_after o a b 6 la, paste_after o (a ++ b) (spec.outerTag u) 12 lab) (ap (pasted o 0) (append_assoc a b (spec.outerTag u)))
+        rw (w₃, w₂, w₁, paste_after o a b 6 la, paste_after o (a ++ b) (spec.outer_tag u) 12 lab) (ap (pasted o 0) (append_assoc a b (spec.outer_tag u)))
 
-    outer_long : length (outer_front dst u) ≡ spec.outerBytes u
+    outer_long : length (outer_front dst u) ≡ spec.outer_bytes u
     unfolding outer_front
     outer_long =
         let la : length (bytes_of 6 dst) ≡ 6 = length-bytes_of 6 dst in
@@ -94,13 +94,13 @@ module _ (f : List ℕ) (p : Parts) (w : PartsOf f p) where
   tail-pieces : List ℕ
   tail-pieces = ((trill_type ++ take p.header_length (drop p.header_offset f)) ++ take (12 + p.label_length) (drop p.dst_offset f)) ++ drop p.content_offset f
 
-  tail_is : tail-pieces ≡ spec.generalTail (fields_in f p)
-  unfolding tail-pieces spec.generalTail
+  tail_is : tail-pieces ≡ spec.general_tail (fields_in f p)
+  unfolding tail-pieces spec.general_tail
   tail_is =
       let q : Fields = fields_in f p in
       rw (inner_piece f p) (joined trill_type q.header q.dst q.src q.label q.content)
 
-  tail_long : length (spec.generalTail (fields_in f p)) ≡ compact_length (length f) p
+  tail_long : length (spec.general_tail (fields_in f p)) ≡ compact_length (length f) p
   unfolding tail-pieces
   tail_long =
       rw (← tail_is)
@@ -113,7 +113,7 @@ module _ (f : List ℕ) (p : Parts) (w : PartsOf f p) where
       → o₃ ≡ pasted o₂ (at + 2 + p.header_length) (take (12 + p.label_length) (drop p.dst_offset f))
       → c ≡ drop p.content_offset f
       → o₄ ≡ pasted o₃ (at + 2 + p.header_length + (12 + p.label_length)) c
-      → o₄ ≡ pasted out at (spec.generalTail (fields_in f p))
+      → o₄ ≡ pasted out at (spec.general_tail (fields_in f p))
   unfolding tail-pieces
   tail_written out c o₁ o₂ o₃ o₄ at room w₁ w₂ w₃ e w₄ =
       let n : ℕ = 12 + p.label_length in
@@ -130,7 +130,7 @@ module _ (f : List ℕ) (p : Parts) (w : PartsOf f p) where
       simp (w₄, w₃, w₂, w₁, e, trill_bytes, paste_next out trill_type h at (at + 2) start l₁, paste_next out x₂ i at (at + 2 + p.header_length) start l₂, paste_next out x₃ (drop p.content_offset f) at (at + 2 + p.header_length + n) start l₃)
       (ap (pasted out at) tail_is)
 
-  module _ (dst : ℕ) (u : spec.Outer) (k : ℕ) (ek : k ≡ spec.outerBytes u) where
+  module _ (dst : ℕ) (u : spec.Outer) (k : ℕ) (ek : k ≡ spec.outer_bytes u) where
     pub general_long : compact_length (length f) p ≡ length f → length (general_to dst u (fields_in f p)) ≡ length f + k
     unfolding general_to
     general_long e =
@@ -138,8 +138,8 @@ module _ (f : List ℕ) (p : Parts) (w : PartsOf f p) where
         let b = tail_long in
         rw length-append (omega arith)
 
-    pub general-written : (o o₁ o₂ : List ℕ) → o₁ ≡ pasted o 0 (outer_front dst u) → o₂ ≡ pasted o₁ k (spec.generalTail (fields_in f p)) → o₂ ≡ laid (general_to dst u (fields_in f p)) o
+    pub general-written : (o o₁ o₂ : List ℕ) → o₁ ≡ pasted o 0 (outer_front dst u) → o₂ ≡ pasted o₁ k (spec.general_tail (fields_in f p)) → o₂ ≡ laid (general_to dst u (fields_in f p)) o
     unfolding general_to
     general-written o o₁ o₂ w₁ w₂ =
         let l = outer_long u dst in
-        rw (w₂, w₁, paste_after o (outer_front dst u) (spec.generalTail (fields_in f p)) k (omega arith)) (paste_laid o (outer_front dst u ++ spec.generalTail (fields_in f p)))
+        rw (w₂, w₁, paste_after o (outer_front dst u) (spec.general_tail (fields_in f p)) k (omega arith)) (paste_laid o (outer_front dst u ++ spec.general_tail (fields_in f p)))

@@ -21,7 +21,7 @@ outer_as u = record { source = u.source; tagged = u.tagged; tag = u.tag }
 
 -- all tests with refusal 1, and both with refusal 3
 unfoldable pub outer_good : Settings → spec.Outer → Bool
-outer_good s u = both (settings_good s) (both (individual u.source) (spec.tagGood u))
+outer_good s u = both (settings_good s) (both (individual u.source) (spec.tag_good u))
 
 unfoldable pub lengths_good : ℕ → ℕ → Bool
 lengths_good n more = both (frame_length_good n) (frame_length_good (n + more))
@@ -30,8 +30,8 @@ lengths_good n more = both (frame_length_good n) (frame_length_good (n + more))
 unfoldable pub compact_fields : Settings → spec.Outer → List ℕ → Result Fields
 compact_fields s u f =
     check (outer_good s u) settings_bad
-    (check (lengths_good (length f) (spec.outerBytes u)) frame_length_bad
-    (spec.compactOnly (front_of s (address_in f)) f))
+    (check (lengths_good (length f) (spec.outer_bytes u)) frame_length_bad
+    (spec.compact_only (front_of s (address_in f)) f))
 
 -- the outer destination, as a number
 abbrev pub destination_of : Settings → Fields → ℕ
@@ -39,7 +39,7 @@ destination_of s p = pick (eqb (multicast_of p.header) 1) all_rbridges s.port
 
 -- outer addresses and tag, and the frame with them
 unfoldable pub outer_front : ℕ → spec.Outer → List ℕ
-outer_front dst u = bytes_of address_bytes dst ++ (bytes_of address_bytes u.source ++ spec.outerTag u)
+outer_front dst u = bytes_of address_bytes dst ++ (bytes_of address_bytes u.source ++ spec.outer_tag u)
 
 unfoldable pub general_to : ℕ → spec.Outer → Fields → List ℕ
-general_to dst u p = outer_front dst u ++ spec.generalTail p
+general_to dst u p = outer_front dst u ++ spec.general_tail p

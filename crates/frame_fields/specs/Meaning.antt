@@ -19,8 +19,8 @@ front_as front.Inner = spec.inner
 unfoldable pub front_at : ℕ → ℕ → spec.Front
 front_at port a =
     pick (eqb a port) spec.unicast
-    (pick (eqb a spec.allRBridges) spec.multicast
-    (pick (spec.frontRefused a) spec.refusedFront spec.inner))
+    (pick (eqb a spec.all_rbridges) spec.multicast
+    (pick (spec.front_refused a) spec.refusedFront spec.inner))
 
 abbrev pub length_as : Length → Result ℕ
 length_as (len.Refused n) = refused n

@@ -140,7 +140,7 @@ on_only : (s : Settings) (g h work : List ℕ) (p : Fields) → converted (compa
 unfolding parsed by_front
 on_only s g h work p c q =
     let a = compacting.accepted s g h work c in
-    let front : front_of s (address_in h) ≡ inner = ap (λ (x : List ℕ). front_of s (address_in x)) (sym a.bytes) ∙ ap (front_of s) (compacting.front-parts a.parts a.read.good) ∙ stays_inner s _ a.may in
+    let front : front_of s (address_in h) ≡ inner = ap (λ (x : List ℕ). front_of s (address_in x)) (sym a.bytes) ∙ ap (front_of s) (compacting.front_parts_lem a.parts a.read.good) ∙ stays_inner s _ a.may in
     let r = rw front at (check_got _ _ _ _ q).1 in
     ⊎_elim (λ v. v.0) (λ v. refused_got _ p v.1) (pick_got _ _ _ _ r)
 

@@ -54,7 +54,7 @@ every_same (tlv k v) = by_every (eqb k 1) (eqb k 2) (eqb k 6)
 every_same (block b) = refl
 every_same stump = refl
 
-vlans_same : (x : Piece) → of_kind vlan_types judging.vlanKind x ≡ of_kind every_type judging.vlanKind x
+vlans_same : (x : Piece) → of_kind vlan_types judging.vlan_kind x ≡ of_kind every_type judging.vlan_kind x
 unfolding of_kind both
 vlans_same (tlv k v) = by_vlans (eqb k 1) (eqb k 2) (eqb k 6)
 vlans_same (block b) = refl
@@ -176,9 +176,9 @@ module _ (n : ℕ) (r : List ℕ) (f : Kinds) (noted : Noted vlan_types n (piece
 -- ---- TLVs of other types bring no label
 
 abbrev none_meant : Label → List Piece → Type 0
-none_meant x ps = any_of (of_kind vlan_types every_kind) ps ≡ false → any_of (of_kind vlan_types judging.vlanKind) ps ≡ false → any_of (brings_label vlan_types x) ps ≡ false
+none_meant x ps = any_of (of_kind vlan_types every_kind) ps ≡ false → any_of (of_kind vlan_types judging.vlan_kind) ps ≡ false → any_of (brings_label vlan_types x) ps ≡ false
 
-skipped : (k : ℕ) → both (vlan_types k) (every_kind k) ≡ false → both (vlan_types k) (judging.vlanKind k) ≡ false → vlan_types k ≡ false
+skipped : (k : ℕ) → both (vlan_types k) (every_kind k) ≡ false → both (vlan_types k) (judging.vlan_kind k) ≡ false → vlan_types k ≡ false
 unfolding either
 skipped k e v =
     let six : eqb k 6 ≡ false = sym (by_every (eqb k 1) (eqb k 2) (eqb k 6)) ∙ e in
@@ -191,7 +191,7 @@ none_case x true b k v ps later e g = refl
 none_case x false false k v ps later e g = refl
 none_case x false true k v ps later e g =
     let every = either_neither (both (vlan_types k) (every_kind k)) _ e in
-    let vlans = either_neither (both (vlan_types k) (judging.vlanKind k)) _ g in
+    let vlans = either_neither (both (vlan_types k) (judging.vlan_kind k)) _ g in
     rw (both_left (vlan_types k) (label_in x k v) (skipped k every.0 vlans.0)) (later every.1 vlans.1)
 
 tlvs_none : (x : Label) (n : ℕ) (l : List ℕ) → none_meant x (tlvs_from n l)

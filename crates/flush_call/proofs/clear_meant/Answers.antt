@@ -6,7 +6,7 @@ pub clear_portion-requires : goal.clear_portion-requires
 clear_portion-requires c = whole_within _ c.requires
 
 pub returns-in-Refused : goal.returns-in-Refused
-returns-in-Refused c = whole_refused _ _ _ _ _ c.clear_portion.ensures _ c.r-1.given.1
+returns-in-Refused c = whole_refused _ _ _ _ _ c.clear_portion.ensures _ c.in-Refused.is
 
 pub returns-in-Done : goal.returns-in-Done
-returns-in-Done c = whole_done _ _ _ _ _ c.clear_portion.ensures _ c.s-1.given.1
+returns-in-Done c = whole_done _ _ _ _ _ c.clear_portion.ensures _ c.in-Done.is

@@ -30,7 +30,7 @@ clear_range-requires c =
     (c.requires, (good_blocks _ _ judged _ good _ nicks, good_kinds _ _ judged _ good _ nicks))
 
 pub returns-in-Corrupt : goal.returns-in-Corrupt
-returns-in-Corrupt c = meant_refused _ _ c.judge.ensures c.enum_told-1.given.1 _ _ _ _
+returns-in-Corrupt c = meant_refused _ _ c.judge.ensures c.in-Corrupt.is _ _ _ _
 
 pub returns-in-Good : goal.returns-in-Good
-returns-in-Good c = meant_cleared _ _ c.judge.ensures _ c.f-1.given.1 _ _ _ _ _ c.nick_bytes-k.ensures.0 _ _ c.clear_range.ensures
+returns-in-Good c = meant_cleared _ _ c.judge.ensures _ c.in-Good.is _ _ _ _ _ c.nick_bytes-k.ensures.0 _ _ c.clear_range.ensures

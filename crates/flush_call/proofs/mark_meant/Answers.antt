@@ -5,7 +5,7 @@ use Rattle.flush_call.proofs.mark_meant.Goals as goal
 
 pub returns-then-not-any_marked : goal.returns-then-not-any_marked
 returns-then-not-any_marked c =
-    (c.mark-examined.ensures.0, none_left _ _ c.args.f c.requires.1.1 _ _ _ _ _ c.requires.0.within _ c.mark-examined.ensures.1 _ c.any_marked.ensures (not-true _ c.if-not-any_marked.true))
+    (c.mark-examined.ensures.0, none_left _ _ c.args.f c.requires.1.1 _ _ _ _ _ c.requires.0.within _ c.mark-examined.ensures.1 _ c.any_marked.ensures c.if-not-any_marked.true)
 
 pub returns : goal.returns
 returns c =

@@ -3,7 +3,7 @@ use Rattle.flush_filters.proofs.Laws.{naming_fine, naming_mac}
 use Rattle.flush_filters.proofs.naming_of.Goals as goal
 
 pub returns-in-Fine : goal.returns-in-Fine
-returns-in-Fine c = naming_fine _ c.enum_told-1.given.1 _ c.fine_naming.ensures
+returns-in-Fine c = naming_fine _ c.in-Fine.is _ c.fine_naming.ensures
 
 pub returns-in-Mac : goal.returns-in-Mac
 returns-in-Mac c = search naming_mac

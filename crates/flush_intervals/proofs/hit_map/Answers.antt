@@ -9,7 +9,7 @@ pub returns-then-v-w : goal.returns-then-v-w
 returns-then-v-w c = map_short _ _ _ _ c.if-v-w.true
 
 pub returns-then-not-may_meet : goal.returns-then-not-may_meet
-returns-then-not-may_meet c = far_hits _ _ _ c.map_low-s.ensures.1 c.map_past-e.ensures.1 _ _ _ (search rules) _ c.may_meet.ensures (not-true _ c.if-not-may_meet.true)
+returns-then-not-may_meet c = far_hits _ _ _ c.map_low-s.ensures.1 c.map_past-e.ensures.1 _ _ _ (search rules) _ c.may_meet.ensures c.if-not-may_meet.true
 
 pub loop-i-init : goal.loop-i-init
 loop-i-init c = map_start _ _ _ _ _ c.map_low-s.ensures.1 c.map_past-e.ensures.1 _ c.count_near-i.ensures

@@ -9,7 +9,7 @@ pub returns-then-e-s : goal.returns-then-e-s
 returns-then-e-s c = range_empty _ _ _ _ c.if-e-s.true
 
 pub returns-then-not-may_meet : goal.returns-then-not-may_meet
-returns-then-not-may_meet c = range_far _ _ _ _ _ (search rules) _ c.may_meet.ensures (not-true _ c.if-not-may_meet.true)
+returns-then-not-may_meet c = range_far _ _ _ _ _ (search rules) _ c.may_meet.ensures c.if-not-may_meet.true
 
 pub count_from-hi-requires : goal.count_from-hi-requires
 count_from-hi-requires c = (search rules, (search rules, (search rules, front_below _ _ _ _ c.count_near-lo.ensures (omega arith))))

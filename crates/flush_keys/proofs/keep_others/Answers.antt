@@ -13,7 +13,7 @@ slot : (c : tie.After-shared-slice-known3 invariant-loop decreases-loop) → get
 slot c = slot_few _ _ _ c.before.before.before.before.before.before.before.before.requires.0 (omega arith)
 
 pub returns-in_default : goal.returns-in_default
-returns-in_default c = without_none _ _ _ _ c.enum_told-in_default-1.given.1
+returns-in_default c = without_none _ _ _ _ c.in_default.is
 
 pub loop-i-init : goal.loop-i-init
 loop-i-init c = search joining_start

@@ -9,4 +9,4 @@ pub returns-in-At : goal.returns-in-At
 returns-in-At c = λ e. let z : ◌≡◌ {A = ℕ} 0 1 = cc in absurd (omega arith)
 
 pub returns-in-Nowhere : goal.returns-in-Nowhere
-returns-in-Nowhere c = λ e. none_told _ _ _ c.next_marked.ensures c.enum_told-in-Nowhere-1.given.1 _ e
+returns-in-Nowhere c = λ e. none_told _ _ _ c.next_marked.ensures c.in-Nowhere.is _ e

@@ -32,13 +32,13 @@ loop-k-preserved-then-has c = (search rules, cleared_next _ _ _ _ _ c.loop-k.inv
 -- the slot that was found is one of the table
 pub clear_slot-requires-in-At : goal.clear_slot-requires-in-At
 clear_slot-requires-in-At c =
-    let inside = (c.next_marked.ensures.hit _ c.j-1.given.1).within in
+    let inside = (c.next_marked.ensures.hit _ c.in-At.is).within in
     let long = c.loop-k.invariant.1.long in
     omega arith
 
 pub overflow_add-k-in-At : goal.overflow_add-k-in-At
 overflow_add-k-in-At c =
-    let inside = (c.next_marked.ensures.hit _ c.j-1.given.1).within in
+    let inside = (c.next_marked.ensures.hit _ c.in-At.is).within in
     omega arith
 
 pub loop-k-smaller : goal.loop-k-smaller

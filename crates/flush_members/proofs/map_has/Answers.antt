@@ -4,10 +4,10 @@ use borrow.Author.Tests.{not-true, not-false}
 use Rattle.flush_members.proofs.map_has.Goals as goal
 
 pub returns-then-not-w-x : goal.returns-then-not-w-x
-returns-then-not-w-x c = search (map_outside, not-true)
+returns-then-not-w-x c = search map_outside
 
 pub returns-then-x-start : goal.returns-then-x-start
-returns-then-x-start c = search (map_before, not-false)
+returns-then-x-start c = search map_before
 
 pub returns : goal.returns
-returns c = search (map_tells, not-false)
+returns c = search map_tells

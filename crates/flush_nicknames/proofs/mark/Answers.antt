@@ -6,9 +6,9 @@ use Rattle.flush_nicknames.proofs.mark.Goals as goal
 pub returns-in-One : goal.returns-in-One
 returns-in-One c =
     let end = c.mark_one.ensures.0 in
-    (omega arith, first_named _ _ _ _ _ _ _ _ (c.nicknames_of.ensures.one _ c.one-1.given.1) c.mark_one.ensures.1)
+    (omega arith, first_named _ _ _ _ _ _ _ _ (c.nicknames_of.ensures.one _ c.in-One.is) c.mark_one.ensures.1)
 
 pub returns-in-Several : goal.returns-in-Several
 returns-in-Several c =
     let end = c.mark_several.ensures.0 in
-    (omega arith, first_named _ _ _ _ _ _ _ _ (c.nicknames_of.ensures.several c.enum_told-1.given.1) c.mark_several.ensures.1)
+    (omega arith, first_named _ _ _ _ _ _ _ _ (c.nicknames_of.ensures.several c.in-Several.is) c.mark_several.ensures.1)

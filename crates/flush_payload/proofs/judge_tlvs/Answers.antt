@@ -15,10 +15,10 @@ pub returns-then-l-e : goal.returns-then-l-e
 returns-then-l-e c = search walk_cut
 
 pub returns-then-not-length_good : goal.returns-then-not-length_good
-returns-then-not-length_good c = search (walk_bad, not-true)
+returns-then-not-length_good c = search walk_bad
 
 pub loop-at-preserved-then-ruled_type : goal.loop-at-preserved-then-ruled_type
-loop-at-preserved-then-ruled_type c = search (walk_next, not-false)
+loop-at-preserved-then-ruled_type c = search walk_next
 
 pub loop-at-preserved : goal.loop-at-preserved
 loop-at-preserved c = search (walk_passed, walk_skip)

@@ -3,7 +3,7 @@ use Rattle.flush_payload.proofs.Judging.{ruled_full, ruled_small}
 use Rattle.flush_payload.proofs.ruled_type.Goals as goal
 
 pub returns-in-Full : goal.returns-in-Full
-returns-in-Full c = rw c.enum_told-1.given.1 (ruled_full _)
+returns-in-Full c = rw c.in-Full.is (ruled_full _)
 
 pub returns-in-VlanOnly : goal.returns-in-VlanOnly
-returns-in-VlanOnly c = rw c.enum_told-in-VlanOnly-1.given.1 (ruled_small _)
+returns-in-VlanOnly c = rw c.in-VlanOnly.is (ruled_small _)

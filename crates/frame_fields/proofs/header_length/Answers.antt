@@ -10,10 +10,10 @@ pub returns-then-version-ne0 : goal.returns-then-version-ne0
 returns-then-version-ne0 c = search header_version
 
 pub returns-then-not-multicast_agrees : goal.returns-then-not-multicast_agrees
-returns-then-not-multicast_agrees c = search (header_disagrees, not-true)
+returns-then-not-multicast_agrees c = search header_disagrees
 
 pub returns-then-l-n : goal.returns-then-l-n
-returns-then-l-n c = search (options_cut, not-false)
+returns-then-l-n c = search options_cut
 
 pub returns : goal.returns
-returns c = search (header_whole, not-false)
+returns c = search header_whole

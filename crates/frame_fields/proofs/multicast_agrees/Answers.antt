@@ -2,7 +2,7 @@
 use Rattle.frame_fields.proofs.multicast_agrees.Goals as goal
 
 pub returns-in-Unicast : goal.returns-in-Unicast
-returns-in-Unicast c = rw (c.enum_told-1.given.1, ← c.multicast-m.ensures)
+returns-in-Unicast c = rw (c.in-Unicast.is, ← c.multicast-m.ensures)
 
 pub returns-in-Multicast : goal.returns-in-Multicast
-returns-in-Multicast c = rw (c.enum_told-in-Multicast-1.given.1, ← c.multicast-m.ensures)
+returns-in-Multicast c = rw (c.in-Multicast.is, ← c.multicast-m.ensures)

@@ -17,16 +17,16 @@ pub returns-then-l-lt-ETHERTYPE_BYTES : goal.returns-then-l-lt-ETHERTYPE_BYTES
 returns-then-l-lt-ETHERTYPE_BYTES c = reads_refused _ _ _ (search type_cut)
 
 pub returns-then-not-has_ethertype : goal.returns-then-not-has_ethertype
-returns-then-not-has_ethertype c = reads_refused _ _ _ (search (type_bad, not-true))
+returns-then-not-has_ethertype c = reads_refused _ _ _ (search type_bad)
 
 pub after-requires : goal.after-requires
 after-requires c = search header_room
 
 pub returns-then-after-lt-LEAST_CONTENT : goal.returns-then-after-lt-LEAST_CONTENT
-returns-then-after-lt-LEAST_CONTENT c = reads_refused _ _ _ (search (content_cut, not-false))
+returns-then-after-lt-LEAST_CONTENT c = reads_refused _ _ _ (search content_cut)
 
 pub returns-in-Refused : goal.returns-in-Refused
-returns-in-Refused c = reads_refused _ _ _ (search (header_refused, not-false))
+returns-in-Refused c = reads_refused _ _ _ (search header_refused)
 
 pub returns-else-after-lt-LEAST_CONTENT : goal.returns-else-after-lt-LEAST_CONTENT
-returns-else-after-lt-LEAST_CONTENT c = compact_reads _ _ (omega arith) (omega arith) (omega arith) (search (compact_whole, not-false))
+returns-else-after-lt-LEAST_CONTENT c = compact_reads _ _ (omega arith) (omega arith) (omega arith) (search compact_whole)

@@ -8,10 +8,10 @@ pub returns-then-j-ne0 : goal.returns-then-j-ne0
 returns-then-j-ne0 c = search refused_way
 
 pub returns-then-not-sections_fit : goal.returns-then-not-sections_fit
-returns-then-not-sections_fit c = search (short_way, not-true, not-false)
+returns-then-not-sections_fit c = search short_way
 
 pub put_sections-e-requires : goal.put_sections-e-requires
-put_sections-e-requires c = (search rules, search (fit_room, not-true, not-false))
+put_sections-e-requires c = (search rules, search fit_room)
 
 pub returns : goal.returns
-returns c = search (written_way, not-true, not-false)
+returns c = search written_way

@@ -18,7 +18,7 @@ pub returns-then-not-destination_agrees : goal.returns-then-not-destination_agre
 returns-then-not-destination_agrees c = verdict_destination c.args.u c.args.f.now _ c.read_native.ensures _ _ c.vlan-1.given.1 _ c.be6.ensures.0 _ c.is_individual.ensures c.if-not-is_individual.false _ c.hops_good.ensures c.if-not-hops_good.false _ c.nicks_good.ensures c.if-not-nicks_good.false _ c.destination_agrees.ensures c.if-not-destination_agrees.true
 
 pub returns-in-Refused : goal.returns-in-Refused
-returns-in-Refused c = verdict_native c.args.u c.args.f.now _ c.read_native.ensures _ c.n-1.given.1
+returns-in-Refused c = verdict_native c.args.u c.args.f.now _ c.read_native.ensures _ c.in-Refused.is
 
 pub returns-else-not-destination_agrees : goal.returns-else-not-destination_agrees
 returns-else-not-destination_agrees c = verdict_good c.args.u c.args.f.now _ c.read_native.ensures _ _ c.vlan-1.given.1 _ c.be6.ensures.0 _ c.is_individual.ensures c.if-not-is_individual.false _ c.hops_good.ensures c.if-not-hops_good.false _ c.nicks_good.ensures c.if-not-nicks_good.false _ c.destination_agrees.ensures c.if-not-destination_agrees.false

@@ -13,7 +13,7 @@ front-in : (c : tie.After-known-told) → 2 + nick_bytes c.before.before.before.
 front-in c = good_front _ _ c.before.before.before.judge.ensures _ c.before.f.given.1
 
 pub returns-then-not-table_good : goal.returns-then-not-table_good
-returns-then-not-table_good c = small_refused _ _ _ _ c.table_good.ensures (not-true _ c.if-not-table_good.true)
+returns-then-not-table_good c = small_refused _ _ _ _ c.table_good.ensures c.if-not-table_good.true
 
 pub nick_bytes-k-requires : goal.nick_bytes-k-requires
 nick_bytes-k-requires c = omega (arith, front-in c)
@@ -32,17 +32,17 @@ clear_vlans-n-requires c =
     let judged = c.judge.ensures in
     let good = c.f-1.given.1 in
     let nicks = c.nick_bytes-k.ensures.0 in (
-      flush_slots _ _ c.table_good.ensures (not-false _ c.if-not-table_good.false),
+      flush_slots _ _ c.table_good.ensures c.if-not-table_good.false,
       (good_blocks _ _ judged _ good _ nicks, good_kinds _ _ judged _ good _ nicks),
     )
 
 pub overflow_cast-result : goal.overflow_cast-result
 overflow_cast-result c =
     let a = c.args in
-    omega (arith, small_fits a.payload.now _ c.judge.ensures a.ingress a.table.now _ c.table_good.ensures (not-false _ c.if-not-table_good.false) _ c.f-1.given.1 _ c.nick_bytes-k.ensures.0 _ _ c.clear_vlans-n.ensures)
+    omega (arith, small_fits a.payload.now _ c.judge.ensures a.ingress a.table.now _ c.table_good.ensures c.if-not-table_good.false _ c.f-1.given.1 _ c.nick_bytes-k.ensures.0 _ _ c.clear_vlans-n.ensures)
 
 pub returns-in-Corrupt : goal.returns-in-Corrupt
-returns-in-Corrupt c = small_corrupt _ _ c.judge.ensures _ _ _ c.table_good.ensures (not-false _ c.if-not-table_good.false) c.enum_told-1.given.1
+returns-in-Corrupt c = small_corrupt _ _ c.judge.ensures _ _ _ c.table_good.ensures c.if-not-table_good.false c.in-Corrupt.is
 
 pub returns-in-Good : goal.returns-in-Good
-returns-in-Good c = small_cleared _ _ c.judge.ensures _ _ _ c.table_good.ensures (not-false _ c.if-not-table_good.false) _ c.f-1.given.1 _ c.nick_bytes-k.ensures.0 _ _ c.clear_vlans-n.ensures
+returns-in-Good c = small_cleared _ _ c.judge.ensures _ _ _ c.table_good.ensures c.if-not-table_good.false _ c.in-Good.is _ c.nick_bytes-k.ensures.0 _ _ c.clear_vlans-n.ensures

@@ -6,4 +6,4 @@ use Rattle.port_map_judge.proofs.label_met_twice.Goals as goal
 
 pub returns-then-not-is_doubtful : goal.returns-then-not-is_doubtful
 returns-then-not-is_doubtful c =
-    c.is_doubtful.ensures (labels_in (drop c.args.from c.args.map.now)) c.requires.1.1.0 c.requires.1.1.1 (not-true _ c.if-not-is_doubtful.true)
+    c.is_doubtful.ensures (labels_in (drop c.args.from c.args.map.now)) c.requires.1.1.0 c.requires.1.1.1 c.if-not-is_doubtful.true

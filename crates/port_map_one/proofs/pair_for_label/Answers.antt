@@ -2,7 +2,7 @@
 use Rattle.port_map_one.proofs.pair_for_label.Goals as goal
 
 pub returns-in-Missing : goal.returns-in-Missing
-returns-in-Missing c = rw (c.enum_told-1.given.1, c.other_label-other.ensures)
+returns-in-Missing c = rw (c.in-Missing.is, c.other_label-other.ensures)
 
 pub returns-in-Vlan : goal.returns-in-Vlan
-returns-in-Vlan c = rw c.found-1.given.1
+returns-in-Vlan c = rw c.in-Vlan.is

@@ -15,16 +15,16 @@ returns-else-label-w c = rw (c.q-1.given.1, ne_eqb _ _ c.if-label-w.false)
 
 pub returns-then-vlan-w : goal.returns-then-vlan-w
 unfolding asked_of pick
-returns-then-vlan-w c = rw (c.q-in-LabelOf-1.given.1, eq-eqb _ _ c.if-vlan-w.true)
+returns-then-vlan-w c = rw (c.in-LabelOf.is, eq-eqb _ _ c.if-vlan-w.true)
 
 pub returns-else-vlan-w : goal.returns-else-vlan-w
 unfolding asked_of pick
-returns-else-vlan-w c = rw (c.q-in-LabelOf-1.given.1, ne_eqb _ _ c.if-vlan-w.false)
+returns-else-vlan-w c = rw (c.in-LabelOf.is, ne_eqb _ _ c.if-vlan-w.false)
 
 pub returns-then-twins : goal.returns-then-twins
 unfolding asked_of pick
-returns-then-twins c = rw (c.q-in-TwinOf-1.given.1, sym c.twins.ensures, c.if-twins.true)
+returns-then-twins c = rw (c.in-TwinOf.is, sym c.twins.ensures, c.if-twins.true)
 
 pub returns-else-twins : goal.returns-else-twins
 unfolding asked_of pick
-returns-else-twins c = rw (c.q-in-TwinOf-1.given.1, sym c.twins.ensures, c.if-twins.false)
+returns-else-twins c = rw (c.in-TwinOf.is, sym c.twins.ensures, c.if-twins.false)

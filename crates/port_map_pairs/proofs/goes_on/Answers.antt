@@ -5,16 +5,16 @@ use Rattle.port_map_pairs.proofs.goes_on.Goals as goal
 
 pub returns-in-Nothing : goal.returns-in-Nothing
 unfolding goes_on both
-returns-in-Nothing c = rw c.enum_told-1.given.1
+returns-in-Nothing c = rw c.in-Nothing.is
 
 pub returns-in-Vlan : goal.returns-in-Vlan
 unfolding goes_on both
-returns-in-Vlan c = rw c.enum_told-in-Vlan-1.given.1
+returns-in-Vlan c = rw c.in-Vlan.is
 
 pub returns-in-Label : goal.returns-in-Label
 unfolding goes_on both
-returns-in-Label c = rw c.enum_told-in-Label-1.given.1
+returns-in-Label c = rw c.in-Label.is
 
 pub returns-in-Twin : goal.returns-in-Twin
 unfolding goes_on both
-returns-in-Twin c = rw c.enum_told-in-Twin-1.given.1
+returns-in-Twin c = rw c.in-Twin.is

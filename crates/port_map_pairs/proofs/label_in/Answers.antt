@@ -2,4 +2,4 @@
 use Rattle.port_map_pairs.proofs.label_in.Goals as goal
 
 pub returns-in-Label : goal.returns-in-Label
-returns-in-Label c = rw c.f-1.given.1
+returns-in-Label c = rw c.in-Label.is

@@ -2,4 +2,4 @@
 use Rattle.port_map_pairs.proofs.vlan_in.Goals as goal
 
 pub returns-in-Vlan : goal.returns-in-Vlan
-returns-in-Vlan c = rw c.f-1.given.1
+returns-in-Vlan c = rw c.in-Vlan.is

@@ -108,7 +108,7 @@ returns c = (
                 (
                   (stop_never_shortened, stop_runs_out, sending_while_stopped, refused_watch_stays, watch_cases),
                   (
-                    (written_hello_reads, read_hello_writes, read_is_writable, written_are_bytes, written_is_plain, area_is, calls_undo, hello_refusal, entries_are, worked.cases-hold),
+                    (written_hello_reads, read_hello_writes, read_is_writable, written_are_bytes, written_is_plain, area_is, calls_undo, hello_refusal, entries_are, worked.cases_hold),
                     pair_bytes_lem,
                   ),
                 ),

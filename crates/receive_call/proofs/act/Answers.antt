@@ -6,19 +6,19 @@ use Rattle.receive_call.proofs.act.Goals as goal
 pub returns-in-Refused : goal.returns-in-Refused
 returns-in-Refused c = let a = c.args in
     let p = fields_in a.f.now a.p in
-    act_refused a.map.now a.s p a.table.now a.out.now _ (c.decide.ensures p c.read_values-v.ensures c.has_ethertype-channel.ensures) _ c.n-1.given.1
+    act_refused a.map.now a.s p a.table.now a.out.now _ (c.decide.ensures p c.read_values-v.ensures c.has_ethertype-channel.ensures) _ c.in-Refused.is
 
 pub returns-in-Onward : goal.returns-in-Onward
 returns-in-Onward c = let a = c.args in
     let p = fields_in a.f.now a.p in
-    act_onward a.map.now a.s p a.table.now a.out.now _ (c.decide.ensures p c.read_values-v.ensures c.has_ethertype-channel.ensures) c.enum_told-1.given.1
+    act_onward a.map.now a.s p a.table.now a.out.now _ (c.decide.ensures p c.read_values-v.ensures c.has_ethertype-channel.ensures) c.in-Onward.is
 
 pub returns-in-Channel : goal.returns-in-Channel
 returns-in-Channel c = let a = c.args in
     let p = fields_in a.f.now a.p in
-    act_channel a.map.now a.s p a.table.now a.out.now _ (c.decide.ensures p c.read_values-v.ensures c.has_ethertype-channel.ensures) c.enum_told-in-Channel-1.given.1 _ (c.handle.ensures a.out.now)
+    act_channel a.map.now a.s p a.table.now a.out.now _ (c.decide.ensures p c.read_values-v.ensures c.has_ethertype-channel.ensures) c.in-Channel.is _ (c.handle.ensures a.out.now)
 
 pub returns-in-Native : goal.returns-in-Native
 returns-in-Native c = let a = c.args in
     let p = fields_in a.f.now a.p in
-    act_native a.map.now a.s p a.table.now a.out.now _ (c.decide.ensures p c.read_values-v.ensures c.has_ethertype-channel.ensures) c.enum_told-in-Native-1.given.1 c.tag_of-tag.result c.tag_of-tag.ensures _ c.deliver.ensures
+    act_native a.map.now a.s p a.table.now a.out.now _ (c.decide.ensures p c.read_values-v.ensures c.has_ethertype-channel.ensures) c.in-Native.is c.tag_of-tag.result c.tag_of-tag.ensures _ c.deliver.ensures

@@ -8,19 +8,19 @@ use Rattle.receive_call.proofs.act_unmapped.Goals as goal
 pub returns-in-Refused : goal.returns-in-Refused
 returns-in-Refused c = let a = c.args in
     let p = fields_in a.f.now a.p in
-    act_refused [] a.s p a.table.now a.out.now _ (c.decide.ensures p c.read_values-v.ensures c.has_ethertype-is_channel.ensures) _ c.n-1.given.1
+    act_refused [] a.s p a.table.now a.out.now _ (c.decide.ensures p c.read_values-v.ensures c.has_ethertype-is_channel.ensures) _ c.in-Refused.is
 
 pub returns-in-Onward : goal.returns-in-Onward
 returns-in-Onward c = let a = c.args in
     let p = fields_in a.f.now a.p in
-    act_onward [] a.s p a.table.now a.out.now _ (c.decide.ensures p c.read_values-v.ensures c.has_ethertype-is_channel.ensures) c.enum_told-1.given.1
+    act_onward [] a.s p a.table.now a.out.now _ (c.decide.ensures p c.read_values-v.ensures c.has_ethertype-is_channel.ensures) c.in-Onward.is
 
 pub returns-in-Channel : goal.returns-in-Channel
 returns-in-Channel c = let a = c.args in
     let p = fields_in a.f.now a.p in
-    act_channel [] a.s p a.table.now a.out.now _ (c.decide.ensures p c.read_values-v.ensures c.has_ethertype-is_channel.ensures) c.enum_told-in-Channel-1.given.1 _ (c.handle.ensures c.args.out.now)
+    act_channel [] a.s p a.table.now a.out.now _ (c.decide.ensures p c.read_values-v.ensures c.has_ethertype-is_channel.ensures) c.in-Channel.is _ (c.handle.ensures c.args.out.now)
 
 pub returns-in-Native : goal.returns-in-Native
 returns-in-Native c = let a = c.args in
     let p = fields_in a.f.now a.p in
-    act_native [] a.s p a.table.now a.out.now _ (c.decide.ensures p c.read_values-v.ensures c.has_ethertype-is_channel.ensures) c.enum_told-in-Native-1.given.1 tag.Untagged (tag_empty [] refl p) _ c.deliver.ensures
+    act_native [] a.s p a.table.now a.out.now _ (c.decide.ensures p c.read_values-v.ensures c.has_ethertype-is_channel.ensures) c.in-Native.is tag.Untagged (tag_empty [] refl p) _ c.deliver.ensures

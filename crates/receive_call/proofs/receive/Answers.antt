@@ -20,8 +20,8 @@ act_unmapped-requires c =
 
 pub returns-in-Refused : goal.returns-in-Refused
 returns-in-Refused c = let a = c.args in
-    none_out _ _ _ _ _ (parse_out a.s [] a.f.now a.table.now a.out.now _ c.settings_good.ensures c.if-not-settings_good.false _ c.table_good.ensures c.if-not-table_good.false true (sym empty_good) refl _ c.parse.ensures _ c.n-1.given.1)
+    none_out _ _ _ _ _ (parse_out a.s [] a.f.now a.table.now a.out.now _ c.settings_good.ensures c.if-not-settings_good.false _ c.table_good.ensures c.if-not-table_good.false true (sym empty_good) refl _ c.parse.ensures _ c.in-Refused.is)
 
 pub returns-in-Fields : goal.returns-in-Fields
 returns-in-Fields c = let a = c.args in
-    none_out _ _ _ _ _ (acted_out a.s [] a.f.now a.table.now a.out.now _ c.settings_good.ensures c.if-not-settings_good.false _ c.table_good.ensures c.if-not-table_good.false true (sym empty_good) refl _ c.parse.ensures _ c.p-1.given.1 _ c.act_unmapped.ensures)
+    none_out _ _ _ _ _ (acted_out a.s [] a.f.now a.table.now a.out.now _ c.settings_good.ensures c.if-not-settings_good.false _ c.table_good.ensures c.if-not-table_good.false true (sym empty_good) refl _ c.parse.ensures _ c.in-Fields.is _ c.act_unmapped.ensures)

@@ -21,8 +21,8 @@ act-requires c =
 
 pub returns-in-Refused : goal.returns-in-Refused
 returns-in-Refused c = let a = c.args in
-    parse_out a.s a.map.now a.f.now a.table.now a.out.now _ c.settings_good.ensures c.if-not-settings_good.false _ c.table_good.ensures c.if-not-table_good.false _ c.map_good_for_reading.ensures c.if-not-map_good_for_reading.false _ c.parse_mapped.ensures _ c.n-1.given.1
+    parse_out a.s a.map.now a.f.now a.table.now a.out.now _ c.settings_good.ensures c.if-not-settings_good.false _ c.table_good.ensures c.if-not-table_good.false _ c.map_good_for_reading.ensures c.if-not-map_good_for_reading.false _ c.parse_mapped.ensures _ c.in-Refused.is
 
 pub returns-in-Fields : goal.returns-in-Fields
 returns-in-Fields c = let a = c.args in
-    acted_out a.s a.map.now a.f.now a.table.now a.out.now _ c.settings_good.ensures c.if-not-settings_good.false _ c.table_good.ensures c.if-not-table_good.false _ c.map_good_for_reading.ensures c.if-not-map_good_for_reading.false _ c.parse_mapped.ensures _ c.p-1.given.1 _ c.act.ensures
+    acted_out a.s a.map.now a.f.now a.table.now a.out.now _ c.settings_good.ensures c.if-not-settings_good.false _ c.table_good.ensures c.if-not-table_good.false _ c.map_good_for_reading.ensures c.if-not-map_good_for_reading.false _ c.parse_mapped.ensures _ c.in-Fields.is _ c.act.ensures

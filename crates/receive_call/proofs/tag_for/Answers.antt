@@ -3,12 +3,12 @@ use Rattle.receive_call.proofs.Laws.{tag_plain, tag_missing, tag_found}
 use Rattle.receive_call.proofs.tag_for.Goals as goal
 
 pub returns-in-Nothing : goal.returns-in-Nothing
-returns-in-Nothing c = tag_plain c.args.map.now _ c.enum_told-1.given.1
+returns-in-Nothing c = tag_plain c.args.map.now _ c.in-Nothing.is
 
 pub returns-in-Missing : goal.returns-in-Missing
 returns-in-Missing c =
-    tag_missing c.args.map.now c.requires c.args.w c.w-1.given.0.0 c.w-1.given.0.1.0 c.w-1.given.1 _ c.vlan_for-found.ensures c.enum_told-in-Missing-1.given.1
+    tag_missing c.args.map.now c.requires c.args.w c.w-1.given.0.0 c.w-1.given.0.1.0 c.in-Missing.is _ c.vlan_for-found.ensures c.in-Missing.is
 
 pub returns-in-Vlan-found : goal.returns-in-Vlan-found
 returns-in-Vlan-found c =
-    tag_found c.args.map.now c.requires c.args.w c.w-1.given.0.0 c.w-1.given.0.1.0 c.w-1.given.1 _ c.vlan_for-found.ensures _ c.found-1.given.1
+    tag_found c.args.map.now c.requires c.args.w c.w-1.given.0.0 c.w-1.given.0.1.0 c.in-Vlan.is _ c.vlan_for-found.ensures _ c.in-Vlan.is

@@ -28,17 +28,17 @@ clear_meant-requires c = good_slots _ c.requires.1.1
 
 pub overflow_cast-result : goal.overflow_cast-result
 overflow_cast-result c =
-    let few = few_cleared c.args.v.ingress _ c.args.table.now _ _ c.requires.1.1 c.clear_meant.ensures _ c.n-in-Count-1.given.1 in
+    let few = few_cleared c.args.v.ingress _ c.args.table.now _ _ c.requires.1.1 c.clear_meant.ensures _ c.in-Count.is in
     record { fits = omega (arith, few) }
 
 pub returns-in-Refused : goal.returns-in-Refused
 returns-in-Refused c =
     let a = c.args in
     let p = fields_in a.f.now a.p in
-    λ o. corrupt_out a.s p a.v c.requires.1.0 a.table.now o _ c.after-c.ensures.0 c.if-c-lt-CHANNEL_BYTES.false _ c.channel_good.ensures c.if-not-channel_good.false _ c.channel_protocol.ensures c.if-channel_protocol-ne-FLUSH_PROTOCOL.false _ c.after-payload.ensures.0 _ _ c.clear_meant.ensures _ c.n-1.given.1
+    λ o. corrupt_out a.s p a.v c.requires.1.0 a.table.now o _ c.after-c.ensures.0 c.if-c-lt-CHANNEL_BYTES.false _ c.channel_good.ensures c.if-not-channel_good.false _ c.channel_protocol.ensures c.if-channel_protocol-ne-FLUSH_PROTOCOL.false _ c.after-payload.ensures.0 _ _ c.clear_meant.ensures _ c.in-Refused.is
 
 pub returns-in-Count : goal.returns-in-Count
 returns-in-Count c =
     let a = c.args in
     let p = fields_in a.f.now a.p in
-    λ o. flushed_out a.s p a.v c.requires.1.0 a.table.now o _ c.after-c.ensures.0 c.if-c-lt-CHANNEL_BYTES.false _ c.channel_good.ensures c.if-not-channel_good.false _ c.channel_protocol.ensures c.if-channel_protocol-ne-FLUSH_PROTOCOL.false _ c.after-payload.ensures.0 _ _ c.clear_meant.ensures _ c.n-in-Count-1.given.1
+    λ o. flushed_out a.s p a.v c.requires.1.0 a.table.now o _ c.after-c.ensures.0 c.if-c-lt-CHANNEL_BYTES.false _ c.channel_good.ensures c.if-not-channel_good.false _ c.channel_protocol.ensures c.if-channel_protocol-ne-FLUSH_PROTOCOL.false _ c.after-payload.ensures.0 _ _ c.clear_meant.ensures _ c.in-Count.is

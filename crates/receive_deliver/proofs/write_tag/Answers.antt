@@ -9,7 +9,7 @@ put_number-requires c =
 
 pub put_number-requires-in-Number : goal.put_number-requires-in-Number
 put_number-requires-in-Number c =
-    omega (arith, tag_room c.args.tag _ c.args.out.now c.tag-1.given.1 c.requires)
+    omega (arith, tag_room c.args.tag _ c.args.out.now c.in-Number.is c.requires)
 
 pub returns-in-Untagged : goal.returns-in-Untagged
 returns-in-Untagged c = search tag_untagged

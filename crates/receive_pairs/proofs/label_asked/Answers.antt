@@ -7,12 +7,12 @@ pub label_asks-requires : goal.label_asks-requires
 label_asks-requires c = parts_of _ _ _ c.parse.ensures.parts c.p-1.given.1
 
 pub returns-in-Refused : goal.returns-in-Refused
-returns-in-Refused c = asked_refused _ _ _ c.parse.ensures c.enum_told-1.given.0.0 c.enum_told-1.given.1 _
+returns-in-Refused c = asked_refused _ _ _ c.parse.ensures c.enum_told-1.given.0.0 c.in-Refused.is _
 
 pub returns-in-Nothing : goal.returns-in-Nothing
 returns-in-Nothing c =
-    asked-nothing _ _ _ c.parse.ensures _ c.p-1.given.1 _ c.label_asks.ensures c.enum_told-in-Nothing-1.given.1 _
+    asked-nothing _ _ _ c.parse.ensures _ c.in-Nothing.is _ c.label_asks.ensures c.in-Nothing.is _
 
 pub returns-in-Vlan : goal.returns-in-Vlan
 returns-in-Vlan c =
-    asked_label _ _ _ c.parse.ensures _ c.p-1.given.1 _ c.label_asks.ensures _ _ c.label-1.given.1
+    asked_label _ _ _ c.parse.ensures _ c.in-Vlan.is _ c.label_asks.ensures _ _ c.in-Vlan.is

@@ -9,7 +9,7 @@ use Rattle.replay.proofs.read_mapped.Goals as goal
 
 pub read_pairs-a-requires : goal.read_pairs-a-requires
 read_pairs-a-requires c =
-    c.whole_pairs.ensures (not-false _ c.if-not-whole_pairs.false)
+    c.whole_pairs.ensures c.if-not-whole_pairs.false
 
 pub read_word-requires : goal.read_word-requires
 read_word-requires c = subst LabelFits (sym (ap (λ (x : OnBoth ReadAnswer). x.answer) c.read_pairs-a.ensures)) (read_fits _ _ _ _ _)

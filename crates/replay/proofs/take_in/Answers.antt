@@ -4,4 +4,4 @@ use Rattle.replay.proofs.take_in.Goals as goal
 
 pub take_pairs-a-requires : goal.take_pairs-a-requires
 take_pairs-a-requires c =
-    c.whole_pairs.ensures (not-false _ c.if-not-whole_pairs.false)
+    c.whole_pairs.ensures c.if-not-whole_pairs.false

@@ -23,7 +23,7 @@ returns-then-not-good_fields c =
     let held = a_state _ c.if-state.false in
     let tail = c.tail_at-tail in
     let good = c.good_fields in
-    (key_bad _ _ (state_in _ _ head.ensures.1 head.ensures.0) held.0 held.1 good.result (good.ensures _ head.ensures.1 head.ensures.0 (nickname_in _ _ _ tail.ensures.1 tail.ensures.0)) (not-true _ c.if-not-good_fields.true), search rules)
+    (key_bad _ _ (state_in _ _ head.ensures.1 head.ensures.0) held.0 held.1 good.result (good.ensures _ head.ensures.1 head.ensures.0 (nickname_in _ _ _ tail.ensures.1 tail.ensures.0)) c.if-not-good_fields.true, search rules)
 
 pub overflow_sub-result : goal.overflow_sub-result
 overflow_sub-result c =
@@ -37,4 +37,4 @@ returns c =
     let high = held.1 in
     let tail = c.tail_at-tail in
     let good = c.good_fields in
-    (key_record _ _ (state_in _ _ head.ensures.1 head.ensures.0) held.0 held.1 good.result (good.ensures _ head.ensures.1 head.ensures.0 (nickname_in _ _ _ tail.ensures.1 tail.ensures.0)) (not-false _ c.if-not-good_fields.false) tail.result (mark_in _ _ _ tail.ensures.0) c.if-tail-ne0.false _ (nickname_in _ _ _ tail.ensures.1 tail.ensures.0), omega arith)
+    (key_record _ _ (state_in _ _ head.ensures.1 head.ensures.0) held.0 held.1 good.result (good.ensures _ head.ensures.1 head.ensures.0 (nickname_in _ _ _ tail.ensures.1 tail.ensures.0)) c.if-not-good_fields.false tail.result (mark_in _ _ _ tail.ensures.0) c.if-tail-ne0.false _ (nickname_in _ _ _ tail.ensures.1 tail.ensures.0), omega arith)

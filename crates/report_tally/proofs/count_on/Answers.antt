@@ -14,13 +14,13 @@ returns-then-not-counts_at c = (λ z. let y : ◌≡◌ {A = ℕ} 0 1 = cc in ab
 
 pub bounds-tallies-e : goal.bounds-tallies-e
 bounds-tallies-e c =
-    let hit = c.counts_at.ensures (not-false _ c.if-not-counts_at.false) in
+    let hit = c.counts_at.ensures c.if-not-counts_at.false in
     let in-n = hit.0 in
     omega arith
 
 pub overflow_add-tallies : goal.overflow_add-tallies
 overflow_add-tallies c =
-    let hit = c.counts_at.ensures (not-false _ c.if-not-counts_at.false) in
+    let hit = c.counts_at.ensures c.if-not-counts_at.false in
     let in-n = hit.0 in
     let is = hit.1 in
     let room = has_room c.args.tallies.now c.args.n c.args.k _ in-n (omega arith) hit.1 in
@@ -28,13 +28,13 @@ overflow_add-tallies c =
 
 pub bounds-tallies-e-2 : goal.bounds-tallies-e-2
 bounds-tallies-e-2 c =
-    let hit = c.counts_at.ensures (not-false _ c.if-not-counts_at.false) in
+    let hit = c.counts_at.ensures c.if-not-counts_at.false in
     let in-n = hit.0 in
     omega arith
 
 pub returns : goal.returns
 returns c =
-    let hit = c.counts_at.ensures (not-false _ c.if-not-counts_at.false) in
+    let hit = c.counts_at.ensures c.if-not-counts_at.false in
     let in-n = hit.0 in
     let room = has_room c.args.tallies.now c.args.n c.args.k _ in-n (omega arith) hit.1 in
     (λ z. counted_on c.args.tallies.now c.args.n c.args.k _ in-n (omega arith) hit.1 (omega arith), λ z. let y : ◌≡◌ {A = ℕ} 0 1 = cc in absurd (omega arith))

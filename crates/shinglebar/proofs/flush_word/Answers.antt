@@ -2,4 +2,4 @@
 use Rattle.shinglebar.proofs.flush_word.Goals as goal
 
 pub returns-in-Flushed : goal.returns-in-Flushed
-returns-in-Flushed c = rw c.a-in-Flushed-1.given.1
+returns-in-Flushed c = rw c.in-Flushed.is

@@ -2,7 +2,7 @@
 use Rattle.shinglebar.proofs.free_word.Goals as goal
 
 pub returns-in-Lowest : goal.returns-in-Lowest
-returns-in-Lowest c = rw c.a-in-Lowest-1.given.1
+returns-in-Lowest c = rw c.in-Lowest.is
 
 pub returns-in-Full : goal.returns-in-Full
-returns-in-Full c = rw c.a-in-Full-1.given.1
+returns-in-Full c = rw c.in-Full.is

@@ -2,4 +2,4 @@
 use Rattle.shinglebar.proofs.lookup_word.Goals as goal
 
 pub returns-in-Found : goal.returns-in-Found
-returns-in-Found c = rw c.a-in-Found-1.given.1
+returns-in-Found c = rw c.in-Found.is

@@ -2,4 +2,4 @@
 use Rattle.shinglebar.proofs.portion_word.Goals as goal
 
 pub returns-in-Portioned : goal.returns-in-Portioned
-returns-in-Portioned c = rw c.a-in-Portioned-1.given.1
+returns-in-Portioned c = rw c.in-Portioned.is

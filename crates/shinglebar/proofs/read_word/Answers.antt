@@ -4,10 +4,10 @@ use mathlib.Core.Path.{sym, ap, ◌∙◌}
 use Rattle.shinglebar.proofs.read_word.Goals as goal
 
 pub delivered_word-requires : goal.delivered_word-requires
-delivered_word-requires c = rw c.a-in-Delivered-1.given.1 at c.requires
+delivered_word-requires c = rw c.in-Delivered.is at c.requires
 
 pub returns-in-Delivered : goal.returns-in-Delivered
-returns-in-Delivered c = c.delivered_word.ensures ∙ ap read_word (sym c.a-in-Delivered-1.given.1)
+returns-in-Delivered c = c.delivered_word.ensures ∙ ap read_word (sym c.in-Delivered.is)
 
 pub returns-in-Flushed : goal.returns-in-Flushed
-returns-in-Flushed c = rw c.a-in-Flushed-1.given.1
+returns-in-Flushed c = rw c.in-Flushed.is

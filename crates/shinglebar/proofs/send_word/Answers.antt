@@ -2,4 +2,4 @@
 use Rattle.shinglebar.proofs.send_word.Goals as goal
 
 pub returns-in-Compacted : goal.returns-in-Compacted
-returns-in-Compacted c = rw c.a-in-Compacted-1.given.1
+returns-in-Compacted c = rw c.in-Compacted.is

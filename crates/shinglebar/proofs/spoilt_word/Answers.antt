@@ -2,4 +2,4 @@
 use Rattle.shinglebar.proofs.spoilt_word.Goals as goal
 
 pub returns-in-Lowest : goal.returns-in-Lowest
-returns-in-Lowest c = rw c.a-in-Lowest-1.given.1
+returns-in-Lowest c = rw c.in-Lowest.is

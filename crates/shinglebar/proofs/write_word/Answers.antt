@@ -2,4 +2,4 @@
 use Rattle.shinglebar.proofs.write_word.Goals as goal
 
 pub returns-in-Written : goal.returns-in-Written
-returns-in-Written c = rw c.a-in-Written-1.given.1
+returns-in-Written c = rw c.in-Written.is

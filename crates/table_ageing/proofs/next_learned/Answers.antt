@@ -29,7 +29,7 @@ loop-a-preserved c =
     let a = c.args in
     let aligned = at.invariant.0 in
     let next : (at.a + four_slots) / slot_bytes ≡ at.a / slot_bytes + 4 = omega arith in
-    let more = passed_four (InState learned_state) a.t.now (a.from / slot_bytes) (at.a / slot_bytes) at.a (omega arith) at.invariant.1.1.1 (c.none_in_state.ensures (not-false _ c.if-not-none_in_state.false)) in
+    let more = passed_four (InState learned_state) a.t.now (a.from / slot_bytes) (at.a / slot_bytes) at.a (omega arith) at.invariant.1.1.1 (c.none_in_state.ensures c.if-not-none_in_state.false) in
     (omega arith, (search rules, (search rules, rw next more)))
 
 pub returns : goal.returns

@@ -5,22 +5,22 @@ use Rattle.table_free.proofs.Laws.{free_refused, free_found_lem, free_full, unpa
 use Rattle.table_free.proofs.free_slot.Goals as goal
 
 pub returns-then-not-table_good : goal.returns-then-not-table_good
-returns-then-not-table_good c = search (free_refused, not-true)
+returns-then-not-table_good c = search free_refused
 
 pub overflow_cast-result : goal.overflow_cast-result
 overflow_cast-result c =
-    omega (arith, slot_fits c.args.table.now _ c.table_good.ensures (not-false _ c.if-not-table_good.false) _ c.find_free-search.ensures _ c.place-1.given.1)
+    omega (arith, slot_fits c.args.table.now _ c.table_good.ensures c.if-not-table_good.false _ c.find_free-search.ensures _ c.place-1.given.1)
 
 pub overflow_cast-result-in-At : goal.overflow_cast-result-in-At
 overflow_cast-result-in-At c =
-    omega (arith, unpacked_fits c.args.table.now _ c.table_good.ensures (not-false _ c.if-not-table_good.false) _ c.find_free-search.ensures)
+    omega (arith, unpacked_fits c.args.table.now _ c.table_good.ensures c.if-not-table_good.false _ c.find_free-search.ensures)
 
 pub overflow_cast-result-in-Nowhere : goal.overflow_cast-result-in-Nowhere
 overflow_cast-result-in-Nowhere c =
-    omega (arith, unpacked_fits c.args.table.now _ c.table_good.ensures (not-false _ c.if-not-table_good.false) _ c.find_free-search.ensures)
+    omega (arith, unpacked_fits c.args.table.now _ c.table_good.ensures c.if-not-table_good.false _ c.find_free-search.ensures)
 
 pub returns-in-At : goal.returns-in-At
-returns-in-At c = search (free_found_lem, not-false)
+returns-in-At c = search free_found_lem
 
 pub returns-in-Nowhere : goal.returns-in-Nowhere
-returns-in-Nowhere c = search (free_full, not-false)
+returns-in-Nowhere c = search free_full

@@ -11,7 +11,7 @@ returns-then-not-pair_good c =
     let kind = c.kind_number-kind.ensures in
     let label = c.label_number-label.ensures in
     c.no_homes.ensures
-    ∙ seen_bad a.e a.t.now _ _ kind.1 (label_is a.e.label _ _ kind.0 label) _ c.pair_good.ensures (not-true _ c.if-not-pair_good.true)
+    ∙ seen_bad a.e a.t.now _ _ kind.1 (label_is a.e.label _ _ kind.0 label) _ c.pair_good.ensures c.if-not-pair_good.true
 
 pub gathered-requires : goal.gathered-requires
 gathered-requires c =
@@ -24,7 +24,7 @@ gathered-requires c =
         kind_small = kind.1;
         label_small = search rules;
         mac_small = search rules;
-        good = sym c.pair_good.ensures ∙ not-false _ c.if-not-pair_good.false;
+        good = sym c.pair_good.ensures ∙ c.if-not-pair_good.false;
       };
       label_is = label_is a.e.label _ _ kind.0 label;
     }

@@ -2,4 +2,4 @@
 use Rattle.table_homes.proofs.or_else.Goals as goal
 
 pub returns-in-At : goal.returns-in-At
-returns-in-At c = rw c.p-1.given.1
+returns-in-At c = rw c.in-At.is

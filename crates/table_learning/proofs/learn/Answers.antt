@@ -15,9 +15,9 @@ judge-requires c =
 pub returns-in-At : goal.returns-in-At
 returns-in-At c =
     let a = c.args in
-    learn_judged a.e a.table.now _ c.homes_of-h.ensures c.if-h.false _ c.rival-p.ensures _ _ _ c.p-1.given.1 c.judge.ensures
+    learn_judged a.e a.table.now _ c.homes_of-h.ensures c.if-h.false _ c.rival-p.ensures _ _ _ c.in-At.is c.judge.ensures
 
 pub returns-in-Nowhere : goal.returns-in-Nowhere
 returns-in-Nowhere c =
     let a = c.args in
-    learn_free a.e a.table.now _ c.homes_of-h.ensures c.if-h.false _ c.rival-p.ensures _ _ c.enum_told-1.given.1 c.into_free.ensures
+    learn_free a.e a.table.now _ c.homes_of-h.ensures c.if-h.false _ c.rival-p.ensures _ _ c.in-Nowhere.is c.into_free.ensures

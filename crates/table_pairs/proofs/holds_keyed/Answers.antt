@@ -8,8 +8,8 @@ use Rattle.table_pairs.proofs.holds_keyed.Goals as goal
 
 pub returns-then-not-fields_hold : goal.returns-then-not-fields_hold
 unfolding holds unpacked
-returns-then-not-fields_hold c = match_none _ _ _ _ (sym c.fields_hold.ensures ∙ not-true _ c.if-not-fields_hold.true)
+returns-then-not-fields_hold c = match_none _ _ _ _ (sym c.fields_hold.ensures ∙ c.if-not-fields_hold.true)
 
 pub returns : goal.returns
 unfolding holds unpacked
-returns c = match_bits _ _ _ _ _ (sym c.fields_hold.ensures ∙ not-false _ c.if-not-fields_hold.false) c.mark_at.ensures.0
+returns c = match_bits _ _ _ _ _ (sym c.fields_hold.ensures ∙ c.if-not-fields_hold.false) c.mark_at.ensures.0

@@ -5,16 +5,16 @@ use Rattle.table_records.proofs.marked_slot.Goals as goal
 
 pub returns-in-Free : goal.returns-in-Free
 unfolding marked_slot
-returns-in-Free c = c.else_spoilt.ensures ∙ rw c.enum_told-1.given.1
+returns-in-Free c = c.else_spoilt.ensures ∙ rw c.in-Free.is
 
 pub returns-in-Spoilt : goal.returns-in-Spoilt
 unfolding marked_slot
-returns-in-Spoilt c = rw c.enum_told-in-Spoilt-1.given.1
+returns-in-Spoilt c = rw c.in-Spoilt.is
 
 pub returns-in-Learned : goal.returns-in-Learned
 unfolding marked_slot
-returns-in-Learned c = c.else_spoilt-in-Learned.ensures ∙ rw (c.with_mark.ensures, c.s-1.given.1)
+returns-in-Learned c = c.else_spoilt-in-Learned.ensures ∙ rw (c.with_mark.ensures, c.in-Learned.is)
 
 pub returns-in-Configured : goal.returns-in-Configured
 unfolding marked_slot
-returns-in-Configured c = c.else_spoilt-in-Configured.ensures ∙ rw (c.with_mark-in-Configured.ensures, c.s-in-Configured-1.given.1)
+returns-in-Configured c = c.else_spoilt-in-Configured.ensures ∙ rw (c.with_mark-in-Configured.ensures, c.in-Configured.is)

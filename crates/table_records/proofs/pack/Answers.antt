@@ -11,7 +11,7 @@ use Rattle.table_records.proofs.pack.Goals as goal
 pub returns : goal.returns
 unfolding packed
 returns c =
-    let written : List ℕ = c.write.new.1.0 in
+    let written : List ℕ = c.write.new.fields in
     let w = c.write.ensures in
     let n = c.bits_of.ensures.number in
     rw c.mark_byte.ensures

@@ -24,7 +24,7 @@ pair c =
       kind_small = start.requires.0;
       label_small = start.requires.1.0;
       mac_small = start.requires.1.1;
-      good = sym c.before.before.before.pair-good.ensures ∙ not-false _ c.before.before.if1.false;
+      good = sym c.before.before.before.pair-good.ensures ∙ c.before.before.if1.false;
     }
 
 -- there is none before slot 0
@@ -35,7 +35,7 @@ none p t = refl
 pub returns-then-not-pair_good : goal.returns-then-not-pair_good
 returns-then-not-pair_good c =
     let a = c.args in
-    pair_nowhere a.kind a.label a.mac a.t.now c.requires.0 _ c.pair_good.ensures (not-true _ c.if-not-pair_good.true)
+    pair_nowhere a.kind a.label a.mac a.t.now c.requires.0 _ c.pair_good.ensures c.if-not-pair_good.true
 
 pub returns-then-t-lt-SLOT_BYTES : goal.returns-then-t-lt-SLOT_BYTES
 returns-then-t-lt-SLOT_BYTES c =

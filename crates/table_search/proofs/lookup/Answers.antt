@@ -15,7 +15,7 @@ in_table c =
     place_within a.kind a.label a.mac a.table.now c.before.k.given.0.0 (sym c.before.before.before.place_of.ensures ∙ c.before.k.given.1)
 
 pub returns-then-not-table_good : goal.returns-then-not-table_good
-returns-then-not-table_good c = search (lookup_refused, not-true)
+returns-then-not-table_good c = search lookup_refused
 
 pub overflow_mul-k : goal.overflow_mul-k
 overflow_mul-k c = omega (arith, in_table c)
@@ -24,7 +24,7 @@ pub nickname_at-requires : goal.nickname_at-requires
 nickname_at-requires c = omega (arith, in_table c)
 
 pub returns-in-At : goal.returns-in-At
-returns-in-At c = search (lookup_found, not-false)
+returns-in-At c = search lookup_found
 
 pub returns-in-Nowhere : goal.returns-in-Nowhere
-returns-in-Nowhere c = search (lookup_none, not-false)
+returns-in-Nowhere c = search lookup_none

@@ -5,15 +5,15 @@ use Rattle.table_search.proofs.Laws.{spoilt_refused, spoilt-found, spoilt_none, 
 use Rattle.table_search.proofs.lowest_spoilt.Goals as goal
 
 pub returns-then-not-table_good : goal.returns-then-not-table_good
-returns-then-not-table_good c = search (spoilt_refused, not-true)
+returns-then-not-table_good c = search spoilt_refused
 
 pub overflow_cast-result : goal.overflow_cast-result
 overflow_cast-result c =
     let a = c.args in
-    omega (arith, spoilt_fits a.table.now _ c.table_good.ensures (not-false _ c.if-not-table_good.false) _ c.find_spoilt.ensures _ c.k-1.given.1)
+    omega (arith, spoilt_fits a.table.now _ c.table_good.ensures c.if-not-table_good.false _ c.find_spoilt.ensures _ c.k-1.given.1)
 
 pub returns-in-At : goal.returns-in-At
-returns-in-At c = search (spoilt-found, not-false)
+returns-in-At c = search spoilt-found
 
 pub returns-in-Nowhere : goal.returns-in-Nowhere
-returns-in-Nowhere c = search (spoilt_none, not-false)
+returns-in-Nowhere c = search spoilt_none

@@ -8,8 +8,8 @@ use Rattle.table_states.proofs.free_at.Goals as goal
 
 pub returns-then-not-free_fields_at : goal.returns-then-not-free_fields_at
 unfolding free_slot unpacked
-returns-then-not-free_fields_at c = free_none _ _ (sym c.free_fields_at.ensures ∙ not-true _ c.if-not-free_fields_at.true)
+returns-then-not-free_fields_at c = free_none _ _ (sym c.free_fields_at.ensures ∙ c.if-not-free_fields_at.true)
 
 pub returns : goal.returns
 unfolding free_slot unpacked
-returns c = free_bits _ _ _ (sym c.free_fields_at.ensures ∙ not-false _ c.if-not-free_fields_at.false) c.mark_at.ensures.0
+returns c = free_bits _ _ _ (sym c.free_fields_at.ensures ∙ c.if-not-free_fields_at.false) c.mark_at.ensures.0

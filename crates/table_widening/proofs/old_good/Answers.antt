@@ -9,8 +9,8 @@ use Rattle.table_widening.proofs.old_good.Goals as goal
 
 pub returns-then-not-n : goal.returns-then-not-n
 unfolding old_good between
-returns-then-not-n c = both_fails _ _ (sym (and_both _ _) ∙ not-true _ c.if-not-n.true)
+returns-then-not-n c = both_fails _ _ (sym (and_both _ _) ∙ c.if-not-n.true)
 
 pub returns : goal.returns
 unfolding old_good between
-returns c = both-goes_on _ _ _ (sym (and_both _ _) ∙ not-false _ c.if-not-n.false) refl
+returns c = both-goes_on _ _ _ (sym (and_both _ _) ∙ c.if-not-n.false) refl

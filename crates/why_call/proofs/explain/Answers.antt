@@ -5,16 +5,16 @@ use borrow.Author.Rules.{rules}
 use Rattle.why_call.proofs.explain.Goals as goal
 
 pub returns-then-not-table_good : goal.returns-then-not-table_good
-returns-then-not-table_good c = search (why_table, not-true)
+returns-then-not-table_good c = search why_table
 
 pub returns-then-table-slot : goal.returns-then-table-slot
-returns-then-table-slot c = search (why_past, not-false)
+returns-then-table-slot c = search why_past
 
 pub slot_reason-requires : goal.slot_reason-requires
-slot_reason-requires c = (search (good_parts, not-false), search rules)
+slot_reason-requires c = (search good_parts, search rules)
 
 pub returns-in-Corrupt : goal.returns-in-Corrupt
-returns-in-Corrupt c = search (why-corrupt, not-false)
+returns-in-Corrupt c = search why-corrupt
 
 pub returns-in-Good : goal.returns-in-Good
-returns-in-Good c = search (why_because, not-false)
+returns-in-Good c = search why_because

@@ -9,4 +9,4 @@ pub loop-at-init : goal.loop-at-init
 loop-at-init c = ((search rules, search rules), refl)
 
 pub loop-at-preserved : goal.loop-at-preserved
-loop-at-preserved c = ((search rules, search rules), c.loop-at.invariant.1 ∙ c.four_apart.ensures (not-false _ c.if-not-four_apart.false))
+loop-at-preserved c = ((search rules, search rules), c.loop-at.invariant.1 ∙ c.four_apart.ensures c.if-not-four_apart.false)

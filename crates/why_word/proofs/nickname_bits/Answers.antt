@@ -3,4 +3,4 @@ use native.Mathlib.Omega.{arith}
 use Rattle.why_word.proofs.nickname_bits.Goals as goal
 
 pub returns-in-Listed : goal.returns-in-Listed
-returns-in-Listed c = (rw c.m-1.given.1, omega arith)
+returns-in-Listed c = (rw c.in-Listed.is, omega arith)

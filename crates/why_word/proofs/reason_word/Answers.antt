@@ -6,22 +6,22 @@ use Rattle.why.specs.declared.WhyAnswer.TheVariants.{Because}
 use Rattle.why_word.proofs.reason_word.Goals as goal
 
 pub returns-in-Free : goal.returns-in-Free
-returns-in-Free c = rw c.enum_told-1.given.1
+returns-in-Free c = rw c.in-Free.is
 
 pub returns-in-Spoilt : goal.returns-in-Spoilt
-returns-in-Spoilt c = rw c.enum_told-in-Spoilt-1.given.1
+returns-in-Spoilt c = rw c.in-Spoilt.is
 
 pub returns-in-Configured : goal.returns-in-Configured
-returns-in-Configured c = rw c.enum_told-in-Configured-1.given.1
+returns-in-Configured c = rw c.in-Configured.is
 
 pub returns-in-NicknameNotMeant : goal.returns-in-NicknameNotMeant
-returns-in-NicknameNotMeant c = rw c.enum_told-in-NicknameNotMeant-1.given.1
+returns-in-NicknameNotMeant c = rw c.in-NicknameNotMeant.is
 
 pub returns-in-LabelNotMeant : goal.returns-in-LabelNotMeant
-returns-in-LabelNotMeant c = rw c.enum_told-in-LabelNotMeant-1.given.1
+returns-in-LabelNotMeant c = rw c.in-LabelNotMeant.is
 
 pub returns-in-MacNotMeant : goal.returns-in-MacNotMeant
-returns-in-MacNotMeant c = rw c.enum_told-in-MacNotMeant-1.given.1
+returns-in-MacNotMeant c = rw c.in-MacNotMeant.is
 
 pub returns-in-Cleared : goal.returns-in-Cleared
-returns-in-Cleared c = c.places_word.ensures ∙ ap (λ (q : Reason). why_word (Because q)) (sym c.r-1.given.1)
+returns-in-Cleared c = c.places_word.ensures ∙ ap (λ (q : Reason). why_word (Because q)) (sym c.in-Cleared.is)

@@ -4,4 +4,4 @@ use Rattle.why.specs.Words.{why_word}
 use Rattle.why_word.proofs.why_word.Goals as goal
 
 pub returns-in-Because : goal.returns-in-Because
-returns-in-Because c = c.reason_word.ensures ∙ ap why_word (sym c.a-in-Because-1.given.1)
+returns-in-Because c = c.reason_word.ensures ∙ ap why_word (sym c.in-Because.is)

@@ -2,4 +2,4 @@
 use Rattle.shinglebar.proofs.watched.watch_word.Goals as goal
 
 pub returns-in-Left : goal.returns-in-Left
-returns-in-Left c = rw c.a-in-Left-1.given.1
+returns-in-Left c = rw c.in-Left.is
