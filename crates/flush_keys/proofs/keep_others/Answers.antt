@@ -8,10 +8,6 @@ use Rattle.flush_keys.proofs.Marking.{joining_start, without_none, without_passe
 use borrow.Author.Rules.{rules}
 use Rattle.flush_keys.proofs.keep_others.Goals as goal
 
--- the slot that is tested
-slot : (c : tie.After-shared-slice-known3 invariant-loop decreases-loop) → get_or c.before.before.before.before.before.before.before.before.args.slots.now c.before.before.loop.i 0 < most_slots
-slot c = slot_few _ _ _ c.before.before.before.before.before.before.before.before.requires.0 (omega arith)
-
 pub returns-in_default : goal.returns-in_default
 returns-in_default c = without_none _ _ _ _ c.in_default.is
 
@@ -19,7 +15,7 @@ pub loop-i-init : goal.loop-i-init
 loop-i-init c = search joining_start
 
 pub overflow_mul-j : goal.overflow_mul-j
-overflow_mul-j c = let l = slot c in omega arith
+overflow_mul-j c = omega (arith, slot_few _ _ c.loop-i.i c.requires.0 (omega arith))
 
 pub applies_at-requires : goal.applies_at-requires
 applies_at-requires c = search slot_room
@@ -28,7 +24,7 @@ pub loop-i-preserved-then-applies_at : goal.loop-i-preserved-then-applies_at
 loop-i-preserved-then-applies_at c = search without_passed
 
 pub add_if-requires : goal.add_if-requires
-add_if-requires c = let l = slot c in search rules
+add_if-requires c = omega (arith, slot_few _ _ c.loop-i.i c.requires.0 (omega arith))
 
 pub loop-i-preserved : goal.loop-i-preserved
 loop-i-preserved c = search without_added

@@ -10,26 +10,20 @@ use Rattle.flush_keys.proofs.Making.{applies_at, making_start, keys_next, making
 use borrow.Author.Rules.{rules}
 use Rattle.flush_keys.proofs.keys_of.Goals as goal
 
--- the slot whose key is made
-slot : (c : tie.After-shared-slice-known4 invariant-loop decreases-loop) → (slot_bytes * get_or c.before.before.before.before.before.before.before.args.slots.now c.before.before.loop.i 0 + record_bytes ≤ length c.before.before.before.before.before.before.before.args.table.now) × (get_or c.before.before.before.before.before.before.before.args.slots.now c.before.before.loop.i 0 < most_slots)
-slot c =
-    let pre = c.before.before.before.before.before.before.before.requires.0 in
-    (slot_room _ _ _ pre (omega arith), slot_few _ _ _ pre (omega arith))
-
 pub loop-i-init : goal.loop-i-init
 loop-i-init c = (refl, search making_start)
 
 pub overflow_mul-at : goal.overflow_mul-at
-overflow_mul-at c = let l = slot c in omega arith
+overflow_mul-at c = omega (arith, slot_room _ _ c.loop-i.i c.requires.0 (omega arith), slot_few _ _ c.loop-i.i c.requires.0 (omega arith))
 
 pub number_at-x-requires : goal.number_at-x-requires
-number_at-x-requires c = (slot c).0
+number_at-x-requires c = slot_room _ _ _ c.requires.0 (omega arith)
 
 pub overflow_add-keys : goal.overflow_add-keys
-overflow_add-keys c = let l = slot c in omega arith
+overflow_add-keys c = omega (arith, slot_room _ _ c.loop-i.i c.requires.0 (omega arith), slot_few _ _ c.loop-i.i c.requires.0 (omega arith))
 
 pub applies_at-requires : goal.applies_at-requires
-applies_at-requires c = (slot c).0
+applies_at-requires c = slot_room _ _ _ c.requires.0 (omega arith)
 
 pub loop-i-preserved : goal.loop-i-preserved
 loop-i-preserved c = (search rules, keys_next _ _ _ _ c.requires.0 _ _ _ c.loop-i.invariant.1 (omega arith) (omega arith) _ c.number_at-x.ensures _ c.applies_at.ensures _ c.has_bit.ensures _ c.one-n.ensures)

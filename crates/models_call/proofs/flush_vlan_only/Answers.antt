@@ -1,48 +1,40 @@
 -- `models_call::flush_vlan_only` meets its contract: refused, corrupt, or cleared by the parts that the payload is made of.
-use Prim.Native.Nat.{◌+◌, ◌≤◌}
+use mathlib.Core.Path.{refl}
 use native.Mathlib.Omega.{arith}
-use lib.ListN.{length}
-use borrow.Author.Tests.{not-true, not-false}
-use Rattle.flush.specs.Payload.{nick_bytes}
 use Rattle.flush_call.proofs.Calls.{flush_slots}
 use Rattle.models_call.proofs.Calls.{small_refused, good_front, good_blocks, good_kinds, small_corrupt, small_cleared, small_fits}
 use Rattle.models_call.proofs.flush_vlan_only.Goals as goal
-
--- the counts of a payload that was judged good are there
-front-in : (c : tie.After-known-told) → 2 + nick_bytes c.before.before.before.before.before.before.before.before.before.args.payload.now ≤ length c.before.before.before.before.before.before.before.before.before.args.payload.now
-front-in c = good_front _ _ c.before.before.before.judge.ensures _ c.before.f.given.1
 
 pub returns-then-not-table_good : goal.returns-then-not-table_good
 returns-then-not-table_good c = small_refused _ _ _ _ c.table_good.ensures c.if-not-table_good.true
 
 pub nick_bytes-k-requires : goal.nick_bytes-k-requires
-nick_bytes-k-requires c = omega (arith, front-in c)
+nick_bytes-k-requires c = omega (arith, good_front _ _ c.in-Good.ensures _ refl)
 
 pub slice_bounds-clear_vlans-end : goal.slice_bounds-clear_vlans-end
-slice_bounds-clear_vlans-end c = omega (arith, front-in c)
+slice_bounds-clear_vlans-end c = omega (arith, good_front _ _ c.in-Good.ensures _ refl)
 
 pub slice_bounds-clear_vlans-count-in-Good : goal.slice_bounds-clear_vlans-count-in-Good
-slice_bounds-clear_vlans-count-in-Good c = omega (arith, front-in c)
+slice_bounds-clear_vlans-count-in-Good c = omega (arith, good_front _ _ c.in-Good.ensures _ refl)
 
 pub slice_bounds-clear_vlans-start-in-Good : goal.slice_bounds-clear_vlans-start-in-Good
-slice_bounds-clear_vlans-start-in-Good c = omega (arith, front-in c)
+slice_bounds-clear_vlans-start-in-Good c = omega (arith, good_front _ _ c.in-Good.ensures _ refl)
 
 pub clear_vlans-n-requires : goal.clear_vlans-n-requires
 clear_vlans-n-requires c =
-    let judged = c.judge.ensures in
-    let good = c.f-1.given.1 in
+    let judged = c.in-Good.ensures in
     let nicks = c.nick_bytes-k.ensures.0 in (
       flush_slots _ _ c.table_good.ensures c.if-not-table_good.false,
-      (good_blocks _ _ judged _ good _ nicks, good_kinds _ _ judged _ good _ nicks),
+      (good_blocks _ _ judged _ refl _ nicks, good_kinds _ _ judged _ refl _ nicks),
     )
 
 pub overflow_cast-result : goal.overflow_cast-result
 overflow_cast-result c =
     let a = c.args in
-    omega (arith, small_fits a.payload.now _ c.judge.ensures a.ingress a.table.now _ c.table_good.ensures c.if-not-table_good.false _ c.f-1.given.1 _ c.nick_bytes-k.ensures.0 _ _ c.clear_vlans-n.ensures)
+    omega (arith, small_fits a.payload.now _ c.in-Good.ensures a.ingress a.table.now _ c.table_good.ensures c.if-not-table_good.false _ refl _ c.nick_bytes-k.ensures.0 _ _ c.clear_vlans-n.ensures)
 
 pub returns-in-Corrupt : goal.returns-in-Corrupt
-returns-in-Corrupt c = small_corrupt _ _ c.judge.ensures _ _ _ c.table_good.ensures c.if-not-table_good.false c.in-Corrupt.is
+returns-in-Corrupt c = small_corrupt _ _ c.in-Corrupt.ensures _ _ _ c.table_good.ensures c.if-not-table_good.false refl
 
 pub returns-in-Good : goal.returns-in-Good
-returns-in-Good c = small_cleared _ _ c.judge.ensures _ _ _ c.table_good.ensures c.if-not-table_good.false _ c.in-Good.is _ c.nick_bytes-k.ensures.0 _ _ c.clear_vlans-n.ensures
+returns-in-Good c = small_cleared _ _ c.in-Good.ensures _ _ _ c.table_good.ensures c.if-not-table_good.false _ refl _ c.nick_bytes-k.ensures.0 _ _ c.clear_vlans-n.ensures

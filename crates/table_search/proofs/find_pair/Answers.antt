@@ -1,6 +1,6 @@
 -- `table_search::find_pair` meets its contract: slot 0 holds the label and the address, or the lowest after it is theirs.
-use Prim.Native.Nat.{ℕ}
-use mathlib.Core.Bool.{Bool}
+use Prim.Native.Nat.{ℕ, ◌≤◌, ◌<◌, ◌^◌}
+use mathlib.Core.Bool.{Bool, true}
 use mathlib.Core.List.{List}
 use mathlib.Core.Path.{◌≡◌, refl, sym, ◌∙◌}
 use native.Mathlib.Omega.{arith}
@@ -10,22 +10,15 @@ use Rattle.table.specs.Record.{label_from}
 use Rattle.table.specs.Table.{holds}
 use Rattle.table.specs.declared.Place.TheVariants.{Nowhere}
 use Rattle.table.proofs.Slots.{search_next, search_hit, search_end}
-use Rattle.table_pairs.specs.Pairs.{Pair}
+use Rattle.table_pairs.specs.Pairs.{Pair, pair_good}
 use Rattle.table.proofs.Contents.{holds_near}
 use Rattle.table_search.proofs.Laws.{pair_nowhere}
 use borrow.Author.Rules.{rules}
 use Rattle.table_search.proofs.find_pair.Goals as goal
 
 -- a good record can hold them
-pair : (c : tie.After-key-of) → let a = c.before.before.before.before.before.args in Pair a.kind a.label a.mac
-pair c =
-    let start = c.before.before.before.before.before in
-    record {
-      kind_small = start.requires.0;
-      label_small = start.requires.1.0;
-      mac_small = start.requires.1.1;
-      good = sym c.before.before.before.pair-good.ensures ∙ c.before.before.if1.false;
-    }
+pair : (kind label mac : ℕ) → (kind ≤ 1) × ((label < 2 ^ 24) × (mac < 2 ^ 48)) → (good : Bool) → good ≡ pair_good (label_from kind label) mac → good ≡ true → Pair kind label mac
+pair kind label mac small good e yes = record { kind_small = small.0; label_small = small.1.0; mac_small = small.1.1; good = sym e ∙ yes }
 
 -- there is none before slot 0
 none : (p : List ℕ → Bool) (t : List ℕ) → first_slot p 0 t ≡ Nowhere
@@ -43,7 +36,7 @@ returns-then-t-lt-SLOT_BYTES c =
     search_end (holds (label_from a.kind a.label) a.mac) (holds_near (label_from a.kind a.label) a.mac) a.t.now 0 (omega arith) (omega arith) (none _ _)
 
 pub holds_at-requires : goal.holds_at-requires
-holds_at-requires c = (search rules, (c.key_of-key.ensures, pair c))
+holds_at-requires c = (search rules, (c.key_of-key.ensures, pair _ _ _ c.requires _ c.pair_good.ensures c.if-not-pair_good.false))
 
 pub returns-then-holds_at : goal.returns-then-holds_at
 returns-then-holds_at c =
@@ -54,7 +47,7 @@ pub find_after-requires : goal.find_after-requires
 find_after-requires c =
     let a = c.args in
     let here = search_next (holds (label_from a.kind a.label) a.mac) (holds_near (label_from a.kind a.label) a.mac) a.t.now 0 (none _ _) _ c.holds_at.ensures c.if-holds_at.false in
-    (omega arith, (c.key_of-key.ensures, (pair c, here)))
+    (omega arith, (c.key_of-key.ensures, (pair _ _ _ c.requires _ c.pair_good.ensures c.if-not-pair_good.false, here)))
 
 pub returns : goal.returns
 returns c = c.find_after.ensures
