@@ -36,10 +36,10 @@ module _ (P : List ℕ → Type 0) (t : List ℕ) (from : ℕ) where
       go (no l) (no a) (no b) (no c) = none.fourth (here (at + 3 * slot_bytes) (omega arith))
 
   -- two of four
-  pub passed_eight : (i at : ℕ) → at ≡ slot_bytes * i → Passed P from i t → (a b : Bool) → not (a && b) ≡ false
+  pub passed_eight : (i at : ℕ) → at ≡ slot_bytes * i → Passed P from i t → (a b : Bool) → a && b ≡ true
       → (a ≡ true → NoneOfFour P at t) → (b ≡ true → NoneOfFour P (at + four_slots) t) → Passed P from (i + 8) t
   passed_eight i at e so_far a b h low high k above below =
-      let both = both_true _ _ (sym (and_both a b) ∙ not-false _ h) in
+      let both = both_true _ _ (sym (and_both a b) ∙ h) in
       passed_four (i + 4) (at + four_slots) (omega arith) (passed_four i at e so_far (low both.0)) (high both.1) k above (omega arith)
 
 -- the test of a round: four answers, none of four numbers is v, each of them is below v

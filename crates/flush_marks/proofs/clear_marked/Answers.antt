@@ -43,13 +43,13 @@ overflow_add-k-in-At c =
 
 pub loop-k-smaller : goal.loop-k-smaller
 loop-k-smaller c =
-    let f = c.next_marked.ensures.hit _ c.j-1.given.1 in
+    let f = c.next_marked.ensures.hit _ c.in-At.is in
     let far = f.behind in
     let inside = f.within in
     omega arith
 
 pub loop-k-preserved : goal.loop-k-preserved
-loop-k-preserved c = cleared_found _ _ _ _ _ c.loop-k.invariant.1 _ c.has.ensures c.if-has.false _ c.next_marked.ensures _ c.j-1.given.1 _ c.clear_slot-in-At.ensures
+loop-k-preserved c = cleared_found _ _ _ _ _ c.loop-k.invariant.1 _ c.has.ensures c.if-has.false _ c.next_marked.ensures _ c.in-At.is _ c.clear_slot-in-At.ensures
 
 pub returns-in-Nowhere : goal.returns-in-Nowhere
 returns-in-Nowhere c = search cleared_rest

@@ -12,7 +12,7 @@ pub returns-then-not-map_good : goal.returns-then-not-map_good
 returns-then-not-map_good c = map_out c.args.s c.args.map.now c.args.u c.args.f.now c.args.out.now _ c.settings_good.ensures c.if-not-settings_good.false _ c.given_good.ensures c.if-not-given_good.false _ c.map_good.ensures c.if-not-map_good.true
 
 pub put_general-requires : goal.put_general-requires
-put_general-requires c = fits_in c.args.f.now _ _ c.judge.ensures _ _ c.vlan-1.given.1
+put_general-requires c = fits_in c.args.f.now _ _ c.judge.ensures _ _ c.in-Tagged.is
 
 pub returns-in-Refused : goal.returns-in-Refused
 returns-in-Refused c = judge_out c.args.s c.args.map.now c.args.u c.args.f.now c.args.out.now _ c.settings_good.ensures c.if-not-settings_good.false _ c.given_good.ensures c.if-not-given_good.false _ c.map_good.ensures c.if-not-map_good.false _ c.judge.ensures _ c.in-Refused.is

@@ -23,12 +23,12 @@ clear_portion-requires c =
 pub overflow_cast-result : goal.overflow_cast-result
 overflow_cast-result c =
     let a = c.args in
-    omega (arith, count_fits a.ingress a.payload.now a.slot a.k a.table.now _ c.table_good.ensures c.if-not-table_good.false c.if-k-n.false _ c.steps-m.ensures _ _ c.clear_portion.ensures _ c.s-1.given.1)
+    omega (arith, count_fits a.ingress a.payload.now a.slot a.k a.table.now _ c.table_good.ensures c.if-not-table_good.false c.if-k-n.false _ c.steps-m.ensures _ _ c.clear_portion.ensures _ c.in-Done.is)
 
 pub overflow_add-result : goal.overflow_add-result
 overflow_add-result c =
     let a = c.args in
-    omega (arith, examined_fits a.ingress a.payload.now a.slot a.k a.table.now _ c.table_good.ensures c.if-not-table_good.false c.if-k-n.false _ c.steps-m.ensures _ _ c.clear_portion.ensures _ c.s-1.given.1)
+    omega (arith, examined_fits a.ingress a.payload.now a.slot a.k a.table.now _ c.table_good.ensures c.if-not-table_good.false c.if-k-n.false _ c.steps-m.ensures _ _ c.clear_portion.ensures _ c.in-Done.is)
 
 pub overflow_cast-result-in-Done : goal.overflow_cast-result-in-Done
 overflow_cast-result-in-Done c =

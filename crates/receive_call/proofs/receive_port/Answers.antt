@@ -17,7 +17,7 @@ returns-then-not-map_good_for_reading c = let a = c.args in
 
 pub act-requires : goal.act-requires
 act-requires c =
-    (holds _ _ c.settings_good.ensures c.if-not-settings_good.false, (holds _ _ c.table_good.ensures c.if-not-table_good.false, parts_of _ _ _ c.parse_mapped.ensures.parts c.p-1.given.1))
+    (holds _ _ c.settings_good.ensures c.if-not-settings_good.false, (holds _ _ c.table_good.ensures c.if-not-table_good.false, parts_of _ _ _ c.parse_mapped.ensures.parts c.in-Fields.is))
 
 pub returns-in-Refused : goal.returns-in-Refused
 returns-in-Refused c = let a = c.args in

@@ -4,7 +4,7 @@ use Rattle.frame_parse.proofs.Located.{parts_of}
 use Rattle.receive_pairs.proofs.label_asked.Goals as goal
 
 pub label_asks-requires : goal.label_asks-requires
-label_asks-requires c = parts_of _ _ _ c.parse.ensures.parts c.p-1.given.1
+label_asks-requires c = parts_of _ _ _ c.parse.ensures.parts c.in-Fields.is
 
 pub returns-in-Refused : goal.returns-in-Refused
 returns-in-Refused c = asked_refused _ _ _ c.parse.ensures c.enum_told-1.given.0.0 c.in-Refused.is _

@@ -10,7 +10,7 @@ returns-then-not-table_good c = search spoilt_refused
 pub overflow_cast-result : goal.overflow_cast-result
 overflow_cast-result c =
     let a = c.args in
-    omega (arith, spoilt_fits a.table.now _ c.table_good.ensures c.if-not-table_good.false _ c.find_spoilt.ensures _ c.k-1.given.1)
+    omega (arith, spoilt_fits a.table.now _ c.table_good.ensures c.if-not-table_good.false _ c.find_spoilt.ensures _ c.in-At.is)
 
 pub returns-in-At : goal.returns-in-At
 returns-in-At c = search spoilt-found
