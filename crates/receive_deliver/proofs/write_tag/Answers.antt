@@ -5,7 +5,7 @@ use Rattle.receive_deliver.proofs.write_tag.Goals as goal
 
 pub put_number-requires : goal.put_number-requires
 put_number-requires c =
-    omega (arith, tag_room c.args.tag _ c.args.out.now c.tag-1.given.1 c.requires)
+    omega (arith, tag_room c.args.tag _ c.args.out.now c.in-Number.is c.requires)
 
 pub put_number-requires-in-Number : goal.put_number-requires-in-Number
 put_number-requires-in-Number c =

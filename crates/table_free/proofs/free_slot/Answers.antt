@@ -9,7 +9,7 @@ returns-then-not-table_good c = search free_refused
 
 pub overflow_cast-result : goal.overflow_cast-result
 overflow_cast-result c =
-    omega (arith, slot_fits c.args.table.now _ c.table_good.ensures c.if-not-table_good.false _ c.find_free-search.ensures _ c.place-1.given.1)
+    omega (arith, slot_fits c.args.table.now _ c.table_good.ensures c.if-not-table_good.false _ c.find_free-search.ensures _ c.in-At.is)
 
 pub overflow_cast-result-in-At : goal.overflow_cast-result-in-At
 overflow_cast-result-in-At c =

@@ -10,7 +10,7 @@ returns-then-h c =
 pub judge-requires : goal.judge-requires
 judge-requires c =
     let a = c.args in
-    (c.requires, learn_judges a.e a.table.now _ c.homes_of-h.ensures _ c.rival-p.ensures _ c.p-1.given.1)
+    (c.requires, learn_judges a.e a.table.now _ c.homes_of-h.ensures _ c.rival-p.ensures _ c.in-At.is)
 
 pub returns-in-At : goal.returns-in-At
 returns-in-At c =
