@@ -7,8 +7,8 @@ returns-in-Nothing c = tag_plain c.args.map.now _ c.in-Nothing.is
 
 pub returns-in-Missing : goal.returns-in-Missing
 returns-in-Missing c =
-    tag_missing c.args.map.now c.requires c.args.w c.w-1.given.0.0 c.w-1.given.0.1.0 c.in-Missing.is _ c.vlan_for-found.ensures c.in-Missing.is
+    tag_missing c.args.map.now c.requires c.args.w c.in-Vlan.label c.in-Vlan.second c.in-Vlan.is _ c.vlan_for-found.ensures c.in-Missing.is
 
 pub returns-in-Vlan-found : goal.returns-in-Vlan-found
 returns-in-Vlan-found c =
-    tag_found c.args.map.now c.requires c.args.w c.w-1.given.0.0 c.w-1.given.0.1.0 c.in-Vlan.is _ c.vlan_for-found.ensures _ c.in-Vlan.is
+    tag_found c.args.map.now c.requires c.args.w c.in-Vlan.label c.in-Vlan.second c.in-Vlan.is _ c.vlan_for-found.ensures _ c.in-Vlan-found.is
