@@ -1,5 +1,4 @@
 -- `flush_bits::fill` meets its contract. The invariant: the bytes before w are full.
-use Prim.Native.Nat.{◌-◌}
 use mathlib.Core.Path.{◌≡◌}
 use native.Mathlib.Omega.{arith}
 use Rattle.flush_bits.proofs.Laws.{range_none, fill_next}

@@ -1,5 +1,4 @@
 -- `flush_members::in_blocks` meets its contract. The invariant: some block has x in it exactly if one from `at` on has.
-use Prim.Native.Nat.{◌-◌}
 use mathlib.Core.Path.{refl}
 use Rattle.numbers.specs.Numberings.{in_blocks}
 use Rattle.flush_members.proofs.Laws.{blocks_below, blocks_above, block_near, parts_done, part_hit, part_next}

@@ -1,6 +1,5 @@
 -- `flush_members::map_has` meets its contract: each way out is a test of the definition.
 use Rattle.flush_members.proofs.Laws.{map_outside, map_before, map_tells}
-use borrow.Author.Tests.{not-true, not-false}
 use Rattle.flush_members.proofs.map_has.Goals as goal
 
 pub returns-then-not-w-x : goal.returns-then-not-w-x

@@ -1,5 +1,4 @@
 -- `flush_members::some_mac_block` meets its contract. The invariant: some block is not empty exactly if one from `at` on is not.
-use Prim.Native.Nat.{◌-◌}
 use mathlib.Core.Path.{refl}
 use lib.Dec.{lit<}
 use Rattle.numbers.specs.Numberings.{macs, some_filled}
