@@ -1,4 +1,3 @@
 -- Laws of a slice of pairs, for this crate and those above it.
-pub mod Came
 pub mod Laws
 pub mod Bytes

@@ -1,17 +1,17 @@
 -- `port_map_pairs::asked` meets its contract: each question, and the test that it puts.
-use borrow.Author.Tests.{eq-eqb, ne_eqb}
-use mathlib.Core.Path.{sym}
+use Rattle.std.proofs.Common.{sym, eq-eqb}
+use borrow.Author.Tests.{ne_eqb}
 use Rattle.numbers.specs.Tests.{pick}
 use Rattle.port_map_pairs.specs.Scan.{asked_of}
 use Rattle.port_map_pairs.proofs.asked.Goals as goal
 
 pub returns-then-label-w : goal.returns-then-label-w
 unfolding asked_of pick
-returns-then-label-w c = rw (c.q-1.given.1, eq-eqb _ _ c.if-label-w.true)
+returns-then-label-w c = rw (c.in-VlanOf.is, eq-eqb _ _ c.if-label-w.true)
 
 pub returns-else-label-w : goal.returns-else-label-w
 unfolding asked_of pick
-returns-else-label-w c = rw (c.q-1.given.1, ne_eqb _ _ c.if-label-w.false)
+returns-else-label-w c = rw (c.in-VlanOf.is, ne_eqb _ _ c.if-label-w.false)
 
 pub returns-then-vlan-w : goal.returns-then-vlan-w
 unfolding asked_of pick
