@@ -13,17 +13,17 @@ holds_at-requires c = (search rules, (c.requires.1.0.key_is, c.requires.1.0.pair
 pub returns-then-not-holds_at : goal.returns-then-not-holds_at
 returns-then-not-holds_at c =
     let a = c.args in
-    miss_here a.e a.t.now a.kind a.label a.i c.requires.1.0.Label-is _ c.holds_at.ensures c.if-not-holds_at.true a.h
+    miss_here a.e a.t.now a.kind a.label a.i c.requires.1.0.label_is _ c.holds_at.ensures c.if-not-holds_at.true a.h
 
 pub unpack_held-requires : goal.unpack_held-requires
 unpack_held-requires c =
     let a = c.args in
-    (search rules, held_here a.e a.t.now a.kind a.label a.i c.requires.1.0.Label-is _ c.holds_at.ensures c.if-not-holds_at.false)
+    (search rules, held_here a.e a.t.now a.kind a.label a.i c.requires.1.0.label_is _ c.holds_at.ensures c.if-not-holds_at.false)
 
 pub with_pair-requires : goal.with_pair-requires
 with_pair-requires c =
     let a = c.args in
-    (c.requires.1.1, hit_here a.e a.t.now a.kind a.label a.i c.requires.1.0.Label-is _ c.holds_at.ensures c.if-not-holds_at.false _ c.unpack_held.ensures)
+    (c.requires.1.1, hit_here a.e a.t.now a.kind a.label a.i c.requires.1.0.label_is _ c.holds_at.ensures c.if-not-holds_at.false _ c.unpack_held.ensures)
 
 pub returns : goal.returns
 returns c =

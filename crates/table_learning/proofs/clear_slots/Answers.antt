@@ -36,7 +36,7 @@ loop-i-preserved c =
     let same = ap length step ∙ length-on_slots (cleared_pair a.e) (cleared_keeps a.e) t 0 (at.i + 1) (omega arith) in
     let to = c.next_keyed-i.ensures in
     let within = to.1.0 in
-    (omega (arith, same, within), (same, clear_past a.e t _ (at.i + 1) step a.kind a.label c.requires.0.pair.kind_small c.requires.0.Label-is _ c.round_key_of-round_key.ensures _ to.0 (omega (arith, same, within)) to.1.1))
+    (omega (arith, same, within), (same, clear_past a.e t _ (at.i + 1) step a.kind a.label c.requires.0.pair.kind_small c.requires.0.label_is _ c.round_key_of-round_key.ensures _ to.0 (omega (arith, same, within)) to.1.1))
 
 pub shape_of-table : goal.shape_of-table
 shape_of-table c = c.loop-i.invariant.1.0
