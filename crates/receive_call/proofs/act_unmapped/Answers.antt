@@ -1,4 +1,5 @@
 -- `receive_call::act_unmapped` meets its contract: each step of the decision, with the empty map.
+use mathlib.Core.List.{[]}
 use Rattle.receive_call.proofs.Laws.{act_refused, act_onward, act_channel, act_native, tag_empty}
 use Rattle.receive_deliver.specs.declared.Tag.TheVariants as tag
 use mathlib.Core.Path.{refl}

@@ -1,4 +1,5 @@
 -- `receive_call::receive` meets its contract: 1, 2, what parsing refuses, or what the fields lead to.
+use mathlib.Core.List.{[]}
 use Rattle.receive_call.proofs.Laws.{settings_out, table_out, parse_out, holds, acted_out, none_out}
 use Rattle.receive.proofs.NoMap.{empty_good}
 use Rattle.frame_parse.proofs.Located.{parts_of}
