@@ -7,4 +7,4 @@ use Rattle.table_learning.proofs.put.Goals as goal
 pub returns : goal.returns
 returns c =
     let a = c.args in
-    put_lent a.k c.pack.new.1.0 a.table.now ∙ ap (λ r. put_slot a.k r a.table.now) c.pack.ensures
+    put_lent a.k c.pack.new.slot a.table.now ∙ ap (λ r. put_slot a.k r a.table.now) c.pack.ensures
