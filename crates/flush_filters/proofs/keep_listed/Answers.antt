@@ -15,7 +15,7 @@ pub slice_bounds-mark_named-end-2 : goal.slice_bounds-mark_named-end-2
 slice_bounds-mark_named-end-2 c = sym (length-take-le _ _ c.key_slots-n.ensures.within)
 
 pub mark_named-requires : goal.mark_named-requires
-mark_named-requires c = (lent_few _ _ c.args.keys.now c.args.slots.now c.key_slots-n.ensures.within c.key_slots-n.auto.1.1.1.1.0 c.requires.1.1 c.requires.1.0, c.key_slots-n.ensures.long)
+mark_named-requires c = (lent_few _ _ c.args.keys.now c.args.slots.now c.key_slots-n.ensures.within c.key_slots-n.auto.keys c.requires.1.1 c.requires.1.0, c.key_slots-n.ensures.long)
 
 pub returns : goal.returns
 returns c = let pre = c.requires in marked_anew _ _ _ _ _ pre.0.0 pre.0.1.each _ _ _ _ c.key_slots-n.ensures c.mark_named.ensures

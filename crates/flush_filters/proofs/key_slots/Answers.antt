@@ -4,4 +4,4 @@ use Rattle.flush_filters.proofs.key_slots.Goals as goal
 
 pub returns : goal.returns
 returns c =
-    slots_keyed _ _ _ _ _ c.naming_of.ensures.0 _ _ c.remove_all.ensures c.keep_others.ensures _ c.add_where.ensures _ _ c.keys_of.ensures c.args.keys.now c.keys_of.auto.1.1.1.1.0 c.requires.1.0
+    slots_keyed _ _ _ _ _ c.naming_of.ensures.0 _ _ c.remove_all.ensures c.keep_others.ensures _ c.add_where.ensures _ _ c.keys_of.ensures c.args.keys.now c.keys_of.auto.keys c.requires.1.0

@@ -16,7 +16,7 @@ pub returns-then-g-ne0 : goal.returns-then-g-ne0
 returns-then-g-ne0 c =
     let gather = c.gather-g in
     let order = c.order in
-    (gather.ensures.0.0, tally_done gather.result.all _ order.new.v _ (omega arith) order.auto.0 order.ensures.0 order.ensures.1 gather.ensures.1)
+    (gather.ensures.0.0, tally_done gather.result.all _ order.new.v _ (omega arith) order.auto.v order.ensures.0 order.ensures.1 gather.ensures.1)
 
 pub returns-else-g-ne0 : goal.returns-else-g-ne0
 returns-else-g-ne0 c =
