@@ -9,7 +9,6 @@ use native.Mathlib.Omega.{arith}
 use lib.ListN.{length, take, drop, length-append, length-drop}
 use denote.Enum.Declared.{tag_of}
 use types.Run.{OneOf}
-use borrow.Author.Tests.{not-true, not-false}
 use Rattle.numbers.specs.Result.{refused, got, check, and_then, settled}
 use Rattle.numbers.specs.After.{on_area}
 use Rattle.numbers.specs.Bytes.{num, bytes_of, laid}
@@ -75,13 +74,13 @@ module _ (port : ℕ) (f : List ℕ) where
 
 -- with the settings' test in front
 module _ (s : Settings) (f : List ℕ) (g : Bool) (eg : g ≡ settings_good s) where
-  pub bad_settings : not g ≡ true → general_fields s f ≡ refused 1
+  pub bad_settings : g ≡ false → general_fields s f ≡ refused 1
   unfolding general_fields check
-  bad_settings h = rw (← eg, not-true g h)
+  bad_settings h = rw (← eg, h)
 
-  pub good_settings : not g ≡ false → fields_at s.port f ≡ general_fields s f
+  pub good_settings : g ≡ true → fields_at s.port f ≡ general_fields s f
   unfolding general_fields fields_at front_at spec.front_of check
-  good_settings h = rw (← eg, not-false g h)
+  good_settings h = rw (← eg, h)
 
 -- ---- what is written
 
@@ -128,11 +127,11 @@ module _ (f : List ℕ) (p : Parts) where
 -- ---- the call
 
 module _ (s : Settings) (f area : List ℕ) (g : Bool) (eg : g ≡ settings_good s) where
-  pub call_settings : not g ≡ true → on_area (Refused 1) area ≡ compacted s f area
+  pub call_settings : g ≡ false → on_area (Refused 1) area ≡ compacted s f area
   unfolding compacted compacting settled and_then
   call_settings h = rw (bad_settings s f g eg h)
 
-module _ (s : Settings) (f area : List ℕ) (g : Bool) (eg : g ≡ settings_good s) (ok : not g ≡ false) (x : Parsed) (ef : Reads f (fields_at s.port f) x) where
+module _ (s : Settings) (f area : List ℕ) (g : Bool) (eg : g ≡ settings_good s) (ok : g ≡ true) (x : Parsed) (ef : Reads f (fields_at s.port f) x) where
   ex : parsed_as f x ≡ general_fields s f
   ex = ef.fields ∙ good_settings s f g eg ok
 

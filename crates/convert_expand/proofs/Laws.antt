@@ -7,7 +7,7 @@ use mathlib.Core.Path.{◌≡◌, refl, sym, ap, ◌∙◌}
 use native.Mathlib.Omega.{arith}
 use lib.Dec.{leb}
 use lib.ListN.{length, take, drop}
-use borrow.Author.Tests.{leb-true, leb-false, eq-eqb, ne_eqb, not-true, not-false}
+use borrow.Author.Tests.{leb-true, leb-false, eq-eqb, ne_eqb}
 use Rattle.numbers.specs.Tests.{pick, both, between}
 use Rattle.numbers.specs.Result.{Result, refused, got, check, and_then, settled}
 use Rattle.numbers.specs.After.{on_area}
@@ -66,41 +66,41 @@ lengths_are n more h =
 -- ---- the parts of a Compact frame
 
 module _ (s : Settings) (u : spec.Outer) (f : List ℕ) (g : Bool) (eg : g ≡ outer_good s u) where
-  pub bad_outer : not g ≡ true → refused 1 ≡ compact_fields s u f
+  pub bad_outer : g ≡ false → refused 1 ≡ compact_fields s u f
   unfolding compact_fields check
-  bad_outer h = rw (← eg, not-true g h)
+  bad_outer h = rw (← eg, h)
 
-  module _ (ok : not g ≡ false) (more : ℕ) (em : more ≡ spec.outer_bytes u) (z : Bool) (ez : z ≡ lengths_good (length f) more) where
-    pub bad_lengths : not z ≡ true → refused 3 ≡ compact_fields s u f
+  module _ (ok : g ≡ true) (more : ℕ) (em : more ≡ spec.outer_bytes u) (z : Bool) (ez : z ≡ lengths_good (length f) more) where
+    pub bad_lengths : z ≡ false → refused 3 ≡ compact_fields s u f
     unfolding compact_fields check
-    bad_lengths h = rw (← eg, not-false g ok, ← em, ← ez, not-true z h)
+    bad_lengths h = rw (← eg, ok, ← em, ← ez, h)
 
-    module _ (fit : not z ≡ false) where
+    module _ (fit : z ≡ true) where
       pub address_there : 6 ≤ length f
-      address_there = let a = (lengths_are (length f) more (sym ez ∙ not-false z fit)).0 in omega arith
+      address_there = let a = (lengths_are (length f) more (sym ez ∙ fit)).0 in omega arith
 
       pub addresses_there : 12 ≤ length f
-      addresses_there = let a = (lengths_are (length f) more (sym ez ∙ not-false z fit)).0 in omega arith
+      addresses_there = let a = (lengths_are (length f) more (sym ez ∙ fit)).0 in omega arith
 
       pub not_long : length f ≤ longest_frame
-      not_long = let a = (lengths_are (length f) more (sym ez ∙ not-false z fit)).1 in omega arith
+      not_long = let a = (lengths_are (length f) more (sym ez ∙ fit)).1 in omega arith
 
       module _ (a : ℕ) (ea : a ≡ num (take 6 f)) (r : Front) (er : front_as r ≡ front_at s.port a) where
         pub to_port : r ≡ front.Unicast → refused 18 ≡ compact_fields s u f
         unfolding compact_fields spec.compact_only check
-        to_port p = rw (← eg, not-false g ok, ← em, ← ez, not-false z fit, ← ea, ← front_at_lem s a, ← er, p)
+        to_port p = rw (← eg, ok, ← em, ← ez, fit, ← ea, ← front_at_lem s a, ← er, p)
 
         pub to_all : r ≡ front.Multicast → refused 18 ≡ compact_fields s u f
         unfolding compact_fields spec.compact_only check
-        to_all p = rw (← eg, not-false g ok, ← em, ← ez, not-false z fit, ← ea, ← front_at_lem s a, ← er, p)
+        to_all p = rw (← eg, ok, ← em, ← ez, fit, ← ea, ← front_at_lem s a, ← er, p)
 
         pub not_here : r ≡ front.Refused → refused 5 ≡ compact_fields s u f
         unfolding compact_fields spec.compact_only check
-        not_here p = rw (← eg, not-false g ok, ← em, ← ez, not-false z fit, ← ea, ← front_at_lem s a, ← er, p)
+        not_here p = rw (← eg, ok, ← em, ← ez, fit, ← ea, ← front_at_lem s a, ← er, p)
 
         pub compact_front : r ≡ front.Inner → compact f ≡ compact_fields s u f
         unfolding compact_fields spec.compact_only check
-        compact_front p = rw (← eg, not-false g ok, ← em, ← ez, not-false z fit, ← ea, ← front_at_lem s a, ← er, p)
+        compact_front p = rw (← eg, ok, ← em, ← ez, fit, ← ea, ← front_at_lem s a, ← er, p)
 
 -- ---- the outer destination
 

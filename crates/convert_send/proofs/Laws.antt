@@ -5,7 +5,7 @@ use mathlib.Core.Bool.{Bool, true, false, not}
 use mathlib.Core.List.{List}
 use mathlib.Core.Path.{◌≡◌, sym, ap, ◌∙◌}
 use lib.ListN.{length, take, drop}
-use borrow.Author.Tests.{not-true, not-false, le-leb, lt-leb}
+use borrow.Author.Tests.{le-leb, lt-leb}
 use Rattle.numbers.specs.Tests.{pick, both}
 use Rattle.numbers.specs.Result.{got, check, and_then, settled}
 use Rattle.numbers.specs.After.{OnArea, on_area, area_as}
@@ -37,14 +37,14 @@ module _ (s : Settings) (f : List ℕ) (x : Parsed) (ef : Reads f (fields_at s.p
   parts_short p e w = rw (← compact_long f p w) (general_short s f (fields_in f p) (sym frame_read ∙ ap (parsed_as f) e))
 
 module _ (on : Bool) (s : Settings) (f work : List ℕ) (g : Bool) (eg : g ≡ settings_good s) where
-  pub send_settings : not g ≡ true → on_area (Refused 1) work ≡ sent_where on s f work
+  pub send_settings : g ≡ false → on_area (Refused 1) work ≡ sent_where on s f work
   unfolding sent_where sending settled check
-  send_settings h = rw (← eg, not-true g h)
+  send_settings h = rw (← eg, h)
 
-  module _ (ok : not g ≡ false) where
+  module _ (ok : g ≡ true) where
     pub send_short : length work < compact_room → on_area (Refused 16) work ≡ sent_where on s f work
     unfolding sent_where sending settled check room_good
-    send_short h = rw (← eg, not-false g ok, lt-leb compact_room (length work) h)
+    send_short h = rw (← eg, ok, lt-leb compact_room (length work) h)
 
     module _ (room : compact_room ≤ length work) (x : Parsed) (ef : Reads f (fields_at s.port f) x) where
       ex : parsed_as f x ≡ general_frame s f
@@ -52,19 +52,19 @@ module _ (on : Bool) (s : Settings) (f work : List ℕ) (g : Bool) (eg : g ≡ s
 
       pub send_refused : (n : ℕ) → x ≡ parsed.Refused n → on_area (Refused n) work ≡ sent_where on s f work
       unfolding sent_where sending settled and_then check room_good
-      send_refused n e = rw (← eg, not-false g ok, le-leb compact_room (length work) room, ← ex, e)
+      send_refused n e = rw (← eg, ok, le-leb compact_room (length work) room, ← ex, e)
 
       module _ (p : Parts) (e : x ≡ parsed.Fields p) (a : ℕ) (ea : a ≡ num (take 6 (drop p.dst_offset f))) (m : Bool) (em : m ≡ both on (not (stays_general s a))) where
         fields_got : general_frame s f ≡ got (fields_in f p)
         fields_got = sym ex ∙ ap (parsed_as f) e
 
-        pub send_itself : not m ≡ true → on_area Itself work ≡ sent_where on s f work
+        pub send_itself : m ≡ false → on_area Itself work ≡ sent_where on s f work
         unfolding sent_where sending sent_fields settled and_then check room_good pick
-        send_itself h = rw (← eg, not-false g ok, le-leb compact_room (length work) room, fields_got, ← ea, ← em, not-true m h)
+        send_itself h = rw (← eg, ok, le-leb compact_room (length work) room, fields_got, ← ea, ← em, h)
 
-        pub send_put : not m ≡ false → (n : ℕ) (o : List ℕ) → on_area n o ≡ filled (compact_bytes (fields_in f p)) work → on_area (Compacted n) o ≡ sent_where on s f work
+        pub send_put : m ≡ true → (n : ℕ) (o : List ℕ) → on_area n o ≡ filled (compact_bytes (fields_in f p)) work → on_area (Compacted n) o ≡ sent_where on s f work
         unfolding sent_where sending sent_fields settled and_then check room_good pick
-        send_put h n o ran = rw (← eg, not-false g ok, le-leb compact_room (length work) room, fields_got, ← ea, ← em, not-false m h) (ap (area_as Compacted) ran)
+        send_put h n o ran = rw (← eg, ok, le-leb compact_room (length work) room, fields_got, ← ea, ← em, h) (ap (area_as Compacted) ran)
 
 -- sending tests the far port's Compact
 pub where_sent : (s : Settings) (f work : List ℕ) (a : OnArea SendAnswer) → a ≡ sent_where (compact_on s) s f work → a ≡ sent s f work

@@ -339,19 +339,19 @@ module _ (ns vs fs ms out : List ℕ) where
     call_written h o e = rw (flush_of_lem, good, ← long, le-leb n (length out) h, e)
 
 -- the same, with the answer g of the tests
-good_was : (g b : Bool) → g ≡ b → not g ≡ false → b ≡ true
+good_was : (g b : Bool) → g ≡ b → g ≡ true → b ≡ true
 good_was true b e h = sym e
 good_was false b e h = false_true (sym h)
 
-bad_was : (g b : Bool) → g ≡ b → not g ≡ true → b ≡ false
+bad_was : (g b : Bool) → g ≡ b → g ≡ false → b ≡ false
 bad_was true b e h = false_true h
 bad_was false b e h = sym e
 
 module _ (ns vs fs ms : List ℕ) (g : Bool) (is : g ≡ lists_good ns vs fs ms) where
-  pub bad_way : not g ≡ true → (out : List ℕ) → on_area (Refused 23) out ≡ flush_written ns vs fs ms out
+  pub bad_way : g ≡ false → (out : List ℕ) → on_area (Refused 23) out ≡ flush_written ns vs fs ms out
   bad_way h out = call_bad ns vs fs ms out (bad_was g (lists_good ns vs fs ms) is h)
 
-  module _ (left : not g ≡ false) where
+  module _ (left : g ≡ true) where
     was : lists_good ns vs fs ms ≡ true
     was = good_was g (lists_good ns vs fs ms) is left
 

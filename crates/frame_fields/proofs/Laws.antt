@@ -10,7 +10,7 @@ use native.Mathlib.Omega.{arith}
 use lib.Dec.{eqb}
 use lib.ListN.{length, take, drop, get_or, length-drop}
 use lib.Seq.{take_all, get_or-drop}
-use borrow.Author.Tests.{le-leb, lt-leb, eq-eqb, ne_eqb, not-true, not-false}
+use borrow.Author.Tests.{le-leb, lt-leb, eq-eqb, ne_eqb}
 use Rattle.numbers.specs.Tests.{pick, both}
 use Rattle.numbers.specs.Result.{refused, got, check}
 use Rattle.numbers.specs.Bytes.{starts_with}
@@ -56,15 +56,15 @@ module _ (d : Front) (l : List ℕ) where
         header_whole h = rw (le-leb fixed_bytes (length l) six, ← ev, eq-eqb v 0 zero, ← er, ok, ← en, le-leb n (length l) h)
 
 -- the outcomes of `labelLength` after the first four bytes of a fine-grained label
-module _ (l : List ℕ) (two : 2 ≤ length l) (t : Bool) (et : t ≡ is_tag l) (no : t ≡ false) (u : Bool) (eu : u ≡ is_fine l) (yes-fine : not u ≡ false) (four : 4 ≤ length l) (six : 6 ≤ length l) (v : Bool) (ev : v ≡ is_fine (drop 4 l)) where
-  pub fine_second : not v ≡ true → refused 10 ≡ label_length l
+module _ (l : List ℕ) (two : 2 ≤ length l) (t : Bool) (et : t ≡ is_tag l) (no : t ≡ false) (u : Bool) (eu : u ≡ is_fine l) (yes-fine : u ≡ true) (four : 4 ≤ length l) (six : 6 ≤ length l) (v : Bool) (ev : v ≡ is_fine (drop 4 l)) where
+  pub fine_second : v ≡ false → refused 10 ≡ label_length l
   unfolding label_length check pick
-  fine_second h = rw (le-leb 2 (length l) two, ← et, no, ← eu, not-false u yes-fine, le-leb 4 (length l) four, le-leb 6 (length l) six, ← ev, not-true v h)
+  fine_second h = rw (le-leb 2 (length l) two, ← et, no, ← eu, yes-fine, le-leb 4 (length l) four, le-leb 6 (length l) six, ← ev, h)
 
-  pub fine_cut : not v ≡ false → length l < 8 → refused 6 ≡ label_length l
+  pub fine_cut : v ≡ true → length l < 8 → refused 6 ≡ label_length l
   unfolding label_length check pick
-  fine_cut h k = rw (le-leb 2 (length l) two, ← et, no, ← eu, not-false u yes-fine, le-leb 4 (length l) four, le-leb 6 (length l) six, ← ev, not-false v h, lt-leb 8 (length l) k)
+  fine_cut h k = rw (le-leb 2 (length l) two, ← et, no, ← eu, yes-fine, le-leb 4 (length l) four, le-leb 6 (length l) six, ← ev, h, lt-leb 8 (length l) k)
 
-  pub fine_whole : not v ≡ false → 8 ≤ length l → got 8 ≡ label_length l
+  pub fine_whole : v ≡ true → 8 ≤ length l → got 8 ≡ label_length l
   unfolding label_length check pick
-  fine_whole h k = rw (le-leb 2 (length l) two, ← et, no, ← eu, not-false u yes-fine, le-leb 4 (length l) four, le-leb 6 (length l) six, ← ev, not-false v h, le-leb 8 (length l) k)
+  fine_whole h k = rw (le-leb 2 (length l) two, ← et, no, ← eu, yes-fine, le-leb 4 (length l) four, le-leb 6 (length l) six, ← ev, h, le-leb 8 (length l) k)

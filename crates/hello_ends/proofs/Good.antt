@@ -7,7 +7,7 @@ use mathlib.Core.Path.{◌≡◌, refl, sym, ap, ◌∙◌}
 use native.Mathlib.Omega.{arith}
 use lib.Dec.{leb, ltb}
 use lib.ListN.{length, get_or}
-use borrow.Author.Tests.{not-true, not-false, le-leb, lt-leb, ltb-true, ltb-false}
+use borrow.Author.Tests.{le-leb, lt-leb, ltb-true, ltb-false}
 use Rattle.numbers.specs.Tests.{pick, both}
 use Rattle.hello.specs.Area.{take_many}
 use Rattle.hello.specs.Writing.{label_top}
@@ -101,14 +101,14 @@ module _ (ns : List ℕ) (i n : ℕ) (en : n ≡ length ns) where
         good_long 23 no_22 ns i n 3 en label_cases (omega arith) m em h (rw four s)
 
     module _ (r : Bool) (er : r ≡ label_test ns i) where
-      pub macs_label : not r ≡ true → false ≡ entry_good 23 ns i
-      macs_label h = head_past 23 no_22 ns i n 3 en (label_lost (omega arith) (sym er ∙ not-true r h))
+      pub macs_label : r ≡ false → false ≡ entry_good 23 ns i
+      macs_label h = head_past 23 no_22 ns i n 3 en (label_lost (omega arith) (sym er ∙ h))
 
-      pub macs_list : not r ≡ false → m ≤ 41 → (s : Bool) → s ≡ leb (reach (take_many (take_below 281474976710656) m) ns (i + 4)) (length ns) → s ≡ entry_good 23 ns i
+      pub macs_list : r ≡ true → m ≤ 41 → (s : Bool) → s ≡ leb (reach (take_many (take_below 281474976710656) m) ns (i + 4)) (length ns) → s ≡ entry_good 23 ns i
       unfolding pick
       macs_list h g s es =
           let f = items_23 23 ns m (i + 4) (reach (take_many (take_below 281474976710656) m) ns (i + 4)) (λ e. omega arith) (λ e. omega arith) refl in
-          good_list 23 no_22 ns i n 3 en label_cases (omega arith) m em (label_head (omega arith) (sym er ∙ not-false r h)) g s (es ∙ rw (four, f))
+          good_list 23 no_22 ns i n 3 en label_cases (omega arith) m em (label_head (omega arith) (sym er ∙ h)) g s (es ∙ rw (four, f))
 
 -- ---- Tree Identifiers
 

@@ -7,7 +7,7 @@ use mathlib.Core.Path.{◌≡◌, refl, sym, ap, ◌∙◌}
 use native.Mathlib.Omega.{arith}
 use lib.Dec.{leb, ltb}
 use lib.ListN.{length, get_or}
-use borrow.Author.Tests.{not-true, not-false, leb-true, leb-false, ltb-true, ltb-false}
+use borrow.Author.Tests.{leb-true, leb-false, ltb-true, ltb-false}
 use Rattle.numbers.specs.Tests.{both}
 use Rattle.numbers.proofs.Truth.{both_true}
 use Rattle.hello.specs.Area.{Taker, take_many}
@@ -181,11 +181,11 @@ module _ (ns : List ℕ) (i m n : ℕ) (en : n ≡ length ns) where
   records_short h = reach_top (take_many (take_item 6) m) ns i n en (many_short (take_item 6) (suffix_item 6) ns 3 (nick_steps ns) m i (omega arith))
 
   module _ (room : i + 3 * m ≤ n) (j at : ℕ) (inv : reach (take_many (take_item 6) (m - j)) ns at ≡ reach (take_many (take_item 6) m) ns i) (is : at ≡ i + 3 * j) where
-    pub records_bad : j < m → (r : Bool) → r ≡ record_test ns at → not r ≡ true → n + 1 ≡ reach (take_many (take_item 6) m) ns i
-    records_bad more r er h = many_bad (take_item 6) (suffix_item 6) ns i m j at n en inv more (three_bad ns at 256 65536 65536 n en (omega arith) (get_or ns at 0) (get_or ns (at + 1) 0) (get_or ns (at + 2) 0) refl refl refl r er (not-true r h) ∙ sym (nick_three ns at))
+    pub records_bad : j < m → (r : Bool) → r ≡ record_test ns at → r ≡ false → n + 1 ≡ reach (take_many (take_item 6) m) ns i
+    records_bad more r er h = many_bad (take_item 6) (suffix_item 6) ns i m j at n en inv more (three_bad ns at 256 65536 65536 n en (omega arith) (get_or ns at 0) (get_or ns (at + 1) 0) (get_or ns (at + 2) 0) refl refl refl r er h ∙ sym (nick_three ns at))
 
-    pub records_next : j < m → (r : Bool) → r ≡ record_test ns at → not r ≡ false → reach (take_many (take_item 6) (m - (j + 1))) ns (at + 3) ≡ reach (take_many (take_item 6) m) ns i
-    records_next more r er h = many_next (take_item 6) (suffix_item 6) ns i m j at inv more (at + 3) (three_good ns at 256 65536 65536 n en (omega arith) (get_or ns at 0) (get_or ns (at + 1) 0) (get_or ns (at + 2) 0) refl refl refl r er (not-false r h) ∙ sym (nick_three ns at))
+    pub records_next : j < m → (r : Bool) → r ≡ record_test ns at → r ≡ true → reach (take_many (take_item 6) (m - (j + 1))) ns (at + 3) ≡ reach (take_many (take_item 6) m) ns i
+    records_next more r er h = many_next (take_item 6) (suffix_item 6) ns i m j at inv more (at + 3) (three_good ns at 256 65536 65536 n en (omega arith) (get_or ns at 0) (get_or ns (at + 1) 0) (get_or ns (at + 2) 0) refl refl refl r er h ∙ sym (nick_three ns at))
 
     pub records_done : m ≤ j → j ≤ m → at ≡ reach (take_many (take_item 6) m) ns i
     records_done h g = many_done (take_item 6) (suffix_item 6) ns i m j at inv h n en (omega arith)

@@ -6,7 +6,7 @@ use mathlib.Core.List.{List}
 use mathlib.Core.Path.{◌≡◌, refl, sym, ap, ◌∙◌}
 use native.Mathlib.Omega.{arith}
 use lib.ListN.{length, get_or}
-use borrow.Author.Tests.{not-true, not-false, leb-true, leb-false}
+use borrow.Author.Tests.{leb-true, leb-false}
 use Rattle.hello.specs.Pieces.{Sub}
 use Rattle.hello.specs.Writing.{sub_bytes}
 use Rattle.hello.specs.Area.{take_many}
@@ -34,11 +34,11 @@ pub entry-within : (k : ℕ) (ns : List ℕ) (at n e : ℕ) → n ≡ length ns 
 entry-within k ns at n e en ee h = omega arith
 
 module _ (k : ℕ) (ns : List ℕ) (at : ℕ) (b : Bool) (eb : b ≡ entry_good k ns at) where
-  pub good_within : not b ≡ false → reach (take_sub k) ns at ≤ length ns
-  good_within h = leb-true (reach (take_sub k) ns at) (length ns) (sym eb ∙ not-false b h)
+  pub good_within : b ≡ true → reach (take_sub k) ns at ≤ length ns
+  good_within h = leb-true (reach (take_sub k) ns at) (length ns) (sym eb ∙ h)
 
-  pub bad_past : not b ≡ true → length ns < reach (take_sub k) ns at
-  bad_past h = leb-false (reach (take_sub k) ns at) (length ns) (sym eb ∙ not-true b h)
+  pub bad_past : b ≡ false → length ns < reach (take_sub k) ns at
+  bad_past h = leb-false (reach (take_sub k) ns at) (length ns) (sym eb ∙ h)
 
 pub next_within : (k : ℕ) (ns : List ℕ) (at : ℕ) → reach (take_sub k) ns at ≤ length ns → (r : ℕ) → r ≡ reach (take_sub k) ns at → r ≤ length ns
 next_within k ns at good r er = omega arith

@@ -7,7 +7,7 @@ use mathlib.Core.List.{List}
 use mathlib.Core.Path.{◌≡◌, refl, sym, ◌∙◌}
 use lib.Dec.{eqb}
 use lib.ListN.{length, take, drop, length-drop}
-use borrow.Author.Tests.{le-leb, lt-leb, eq-eqb, ne_eqb, not-true, not-false}
+use borrow.Author.Tests.{le-leb, lt-leb, eq-eqb, ne_eqb}
 use Rattle.numbers.specs.Tests.{pick, both, between}
 use Rattle.numbers.specs.Result.{Result, refused, got, check, and_then, settled}
 use Rattle.numbers.specs.After.{OnArea, on_area}
@@ -84,36 +84,36 @@ module _ (f : List ℕ) where
     parses = rw (in_length (length f) some (omega arith), in_length (length f + 24) (omega arith) (omega arith))
 
     module _ (t : Bool) (et : t ≡ starts_with (0x8100 / 256) (0x8100 % 256) (drop 12 f)) where
-      pub native_untagged : not t ≡ true → Judges f (native_judged f) (verdict.Refused 10)
+      pub native_untagged : t ≡ false → Judges f (native_judged f) (verdict.Refused 10)
       unfolding native_parsed check
-      native_untagged h = no f _ 10 (rw (parses, ← et, not-true t h))
+      native_untagged h = no f _ 10 (rw (parses, ← et, h))
 
-      module _ (tagged : not t ≡ false) where
+      module _ (tagged : t ≡ true) where
         pub native_cut : length f < 16 → Judges f (native_judged f) (verdict.Refused 6)
         unfolding native_parsed check
-        native_cut h = no f _ 6 (rw (parses, ← et, not-false t tagged, lt-leb 16 (length f) h))
+        native_cut h = no f _ 6 (rw (parses, ← et, tagged, lt-leb 16 (length f) h))
 
         module _ (there : 16 ≤ length f) (w : ℕ) (ew : w ≡ word_at 14 f) (g : Bool) (eg : g ≡ vlan_good (w % 0x1000)) where
           vlan_good_lem : vlan_good (low12 14 f) ≡ g
           vlan_good_lem = sym (rw ew at eg)
 
-          pub native_vlan : not g ≡ true → Judges f (native_judged f) (verdict.Refused 10)
+          pub native_vlan : g ≡ false → Judges f (native_judged f) (verdict.Refused 10)
           unfolding native_parsed check
-          native_vlan h = no f _ 10 (rw (parses, ← et, not-false t tagged, le-leb 16 (length f) there, vlan_good_lem, not-true g h))
+          native_vlan h = no f _ 10 (rw (parses, ← et, tagged, le-leb 16 (length f) there, vlan_good_lem, h))
 
-          module _ (vlan : not g ≡ false) where
+          module _ (vlan : g ≡ true) where
             pub native_empty : length f - 16 < 2 → Judges f (native_judged f) (verdict.Refused 6)
             unfolding native_parsed check
             native_empty h =
                 let d = length-drop 16 f in
-                no f _ 6 (rw (parses, ← et, not-false t tagged, le-leb 16 (length f) there, vlan_good_lem, not-false g vlan, lt-leb 2 (length (drop 16 f)) (omega arith)))
+                no f _ 6 (rw (parses, ← et, tagged, le-leb 16 (length f) there, vlan_good_lem, vlan, lt-leb 2 (length (drop 16 f)) (omega arith)))
 
             pub native_good : 2 ≤ length f - 16 → w < 2 ^ 16 → Judges f (native_judged f) (verdict.Tagged (port_vlan (w % 0x1000)) (w / 0x2000))
             unfolding native_parsed check
             native_good h small =
                 let d = length-drop 16 f in
                 record {
-                  native = rw (parses, ← et, not-false t tagged, le-leb 16 (length f) there, vlan_good_lem, not-false g vlan, le-leb 2 (length (drop 16 f)) (omega arith), ew);
+                  native = rw (parses, ← et, tagged, le-leb 16 (length f) there, vlan_good_lem, vlan, le-leb 2 (length (drop 16 f)) (omega arith), ew);
                   fits = (there, (omega arith, omega arith));
                 }
 
@@ -145,29 +145,29 @@ module _ (u : Given) (f : List ℕ) (r : Judged) (er : Judges f (native_judged f
     tagged_is = judged_is ∙ rw (← rw e at er.native)
 
     module _ (x : ℕ) (ex : x ≡ num (take 6 (drop 6 f))) (i : Bool) (ei : i ≡ individual x) where
-      pub verdict_source : not i ≡ true → Judges f (judged u f) (verdict.Refused 11)
+      pub verdict_source : i ≡ false → Judges f (judged u f) (verdict.Refused 11)
       unfolding check
-      verdict_source h = no f _ 11 (sym (tagged_is ∙ rw (← ex, ← ei, not-true i h)))
+      verdict_source h = no f _ 11 (sym (tagged_is ∙ rw (← ex, ← ei, h)))
 
-      module _ (is : not i ≡ false) (a : Bool) (ea : a ≡ hops_good u) where
-        pub verdict_hops : not a ≡ true → Judges f (judged u f) (verdict.Refused 8)
+      module _ (is : i ≡ true) (a : Bool) (ea : a ≡ hops_good u) where
+        pub verdict_hops : a ≡ false → Judges f (judged u f) (verdict.Refused 8)
         unfolding check
-        verdict_hops h = no f _ 8 (sym (tagged_is ∙ rw (← ex, ← ei, not-false i is, ← ea, not-true a h)))
+        verdict_hops h = no f _ 8 (sym (tagged_is ∙ rw (← ex, ← ei, is, ← ea, h)))
 
-        module _ (ha : not a ≡ false) (b : Bool) (eb : b ≡ nicks_good u) where
-          pub verdict_nicks : not b ≡ true → Judges f (judged u f) (verdict.Refused 9)
+        module _ (ha : a ≡ true) (b : Bool) (eb : b ≡ nicks_good u) where
+          pub verdict_nicks : b ≡ false → Judges f (judged u f) (verdict.Refused 9)
           unfolding check
-          verdict_nicks h = no f _ 9 (sym (tagged_is ∙ rw (← ex, ← ei, not-false i is, ← ea, not-false a ha, ← eb, not-true b h)))
+          verdict_nicks h = no f _ 9 (sym (tagged_is ∙ rw (← ex, ← ei, is, ← ea, ha, ← eb, h)))
 
-          module _ (hb : not b ≡ false) (d : Bool) (ed : d ≡ destination_agrees u) where
-            pub verdict_destination : not d ≡ true → Judges f (judged u f) (verdict.Refused 12)
+          module _ (hb : b ≡ true) (d : Bool) (ed : d ≡ destination_agrees u) where
+            pub verdict_destination : d ≡ false → Judges f (judged u f) (verdict.Refused 12)
             unfolding check
-            verdict_destination h = no f _ 12 (sym (tagged_is ∙ rw (← ex, ← ei, not-false i is, ← ea, not-false a ha, ← eb, not-false b hb, ← ed, not-true d h)))
+            verdict_destination h = no f _ 12 (sym (tagged_is ∙ rw (← ex, ← ei, is, ← ea, ha, ← eb, hb, ← ed, h)))
 
-            pub verdict_good : not d ≡ false → Judges f (judged u f) (verdict.Tagged v q)
+            pub verdict_good : d ≡ true → Judges f (judged u f) (verdict.Tagged v q)
             unfolding check
             verdict_good h = record {
-              native = sym (tagged_is ∙ rw (← ex, ← ei, not-false i is, ← ea, not-false a ha, ← eb, not-false b hb, ← ed, not-false d h));
+              native = sym (tagged_is ∙ rw (← ex, ← ei, is, ← ea, ha, ← eb, hb, ← ed, h));
               fits = tagged_fits;
             }
 
@@ -188,31 +188,31 @@ pub fits_in : (f : List ℕ) (x : Result Native) (r : Judged) → Judges f x r �
 fits_in f x r er v q e = rw e at er.fits
 
 module _ (s : Settings) (m : List ℕ) (u : Given) (f o : List ℕ) (g : Bool) (eg : g ≡ settings_good s) where
-  pub settings_out : not g ≡ true → on_area (Refused 1) o ≡ ingressed s m u f o
+  pub settings_out : g ≡ false → on_area (Refused 1) o ≡ ingressed s m u f o
   unfolding ingressed ingressing settled check and_then
-  settings_out h = rw (← eg, not-true g h)
+  settings_out h = rw (← eg, h)
 
-  module _ (set : not g ≡ false) (a : Bool) (ea : a ≡ given_good u) where
-    pub given_out : not a ≡ true → on_area (Refused 1) o ≡ ingressed s m u f o
+  module _ (set : g ≡ true) (a : Bool) (ea : a ≡ given_good u) where
+    pub given_out : a ≡ false → on_area (Refused 1) o ≡ ingressed s m u f o
     unfolding ingressed ingressing settled check and_then
-    given_out h = rw (← eg, not-false g set, ← ea, not-true a h)
+    given_out h = rw (← eg, set, ← ea, h)
 
-    module _ (ha : not a ≡ false) (k : Bool) (ek : k ≡ map_good m) where
-      pub map_out : not k ≡ true → on_area (Refused 21) o ≡ ingressed s m u f o
+    module _ (ha : a ≡ true) (k : Bool) (ek : k ≡ map_good m) where
+      pub map_out : k ≡ false → on_area (Refused 21) o ≡ ingressed s m u f o
       unfolding ingressed ingressing settled check and_then
-      map_out h = rw (← eg, not-false g set, ← ea, not-false a ha, ← ek, not-true k h)
+      map_out h = rw (← eg, set, ← ea, ha, ← ek, h)
 
-      module _ (hk : not k ≡ false) (r : Judged) (er : Judges f (judged u f) r) where
+      module _ (hk : k ≡ true) (r : Judged) (er : Judges f (judged u f) r) where
         pub judge_out : (n : ℕ) → r ≡ verdict.Refused n → on_area (Refused n) o ≡ ingressed s m u f o
         unfolding ingressed ingressing settled check and_then
-        judge_out n e = rw (← eg, not-false g set, ← ea, not-false a ha, ← ek, not-false k hk, ← rw e at er.native)
+        judge_out n e = rw (← eg, set, ← ea, ha, ← ek, hk, ← rw e at er.native)
 
         module _ (v : PortVlan) (q : ℕ) (e : r ≡ verdict.Tagged v q) where
           module _ (x : LabelFound) (ex : label_as x ≡ label_for (pairs_in m) v) where
             pub missing_out : x ≡ found.Missing → on_area (Refused 22) o ≡ ingressed s m u f o
             unfolding ingressed ingressing settled check and_then
-            missing_out h = rw (← eg, not-false g set, ← ea, not-false a ha, ← ek, not-false k hk, ← rw e at er.native, ← ex, h)
+            missing_out h = rw (← eg, set, ← ea, ha, ← ek, hk, ← rw e at er.native, ← ex, h)
 
             pub put_out : (l : CampusLabel) → x ≡ found.Label l → (y : OnArea ConvertAnswer) → y ≡ put_on (general_for u (native_with f v q) l) o → y ≡ ingressed s m u f o
             unfolding ingressed ingressing settled check and_then
-            put_out l h y ey = ey ∙ rw (← eg, not-false g set, ← ea, not-false a ha, ← ek, not-false k hk, ← rw e at er.native, ← ex, h)
+            put_out l h y ey = ey ∙ rw (← eg, set, ← ea, ha, ← ek, hk, ← rw e at er.native, ← ex, h)

@@ -10,7 +10,7 @@ use mathlib.Core.Path.{◌≡◌, refl, sym, ap, ◌∙◌, subst}
 use lib.Dec.{eqb}
 use lib.ListN.{length, take, drop, get_or, set, length-set, drop_of_length-le, replicate, length-replicate}
 use lib.Seq.{length-take-le, drop-cons, drop-set-lt, get_or-set_same}
-use borrow.Author.Tests.{eq-eqb, eqb-true, eqb-false, le-leb, lt-leb, not-true, not-false}
+use borrow.Author.Tests.{eq-eqb, eqb-true, eqb-false, le-leb, lt-leb, not-true}
 use Rattle.numbers.specs.Tests.{both, either, any_of}
 use Rattle.numbers.specs.Ranges.{last_fine}
 use Rattle.flush_sort.specs.Sorting.{All, Sorted, SortOf}
@@ -264,12 +264,12 @@ length_keys i [] = refl
 length_keys i (x ∷ l) = ap suc (length_keys (suc i) l)
 
 module _ (m k : List ℕ) (b : Bool) (keyed : Keyed m k b) where
-  pub sorted_bad : not b ≡ true → false ≡ good_once fine_good (labels_in m)
-  sorted_bad h = keyed.bad (not-true b h)
+  pub sorted_bad : b ≡ false → false ≡ good_once fine_good (labels_in m)
+  sorted_bad h = keyed.bad h
 
-  module _ (h : not b ≡ false) (few : length k ≤ most_keys) (s : List ℕ) (sort : SortOf k s) where
+  module _ (h : b ≡ true) (few : length k ≤ most_keys) (s : List ℕ) (sort : SortOf k s) where
     is_keys : k ≡ keys_of 0 (labels_in m)
-    is_keys = keyed.keys (not-false b h)
+    is_keys = keyed.keys h
 
     few_labels : 0 + length (labels_in m) ≤ most_keys
     few_labels = let l = length_keys 0 (labels_in m) in let q = ap length is_keys in omega arith
@@ -277,7 +277,7 @@ module _ (m k : List ℕ) (b : Bool) (keyed : Keyed m k b) where
     pub sorted_says : (r : Bool) → Parted s r → r ≡ good_once fine_good (labels_in m)
     sorted_says true p =
         let a : Apart k = (λ c d u v e. p.yes refl c d (sym (sort.same (eqb c)) ∙ u) (sym (sort.same (eqb d)) ∙ v) e) in
-        sym (apart_once 0 (labels_in m) few_labels (keyed.fine (not-false b h)) (rw is_keys at a))
+        sym (apart_once 0 (labels_in m) few_labels (keyed.fine h) (rw is_keys at a))
     sorted_says false p = go (good_once fine_good (labels_in m)) refl
       where
         go : (g : Bool) → good_once fine_good (labels_in m) ≡ g → false ≡ g

@@ -9,7 +9,7 @@ use mathlib.Core.Path.{◌≡◌, refl, sym, ap, ◌∙◌, subst}
 use lib.Dec.{leb, eqb}
 use lib.ListN.{length, take, drop, get_or, set, length-drop}
 use lib.Seq.{drop-drop, take_all}
-use borrow.Author.Tests.{eq-eqb, ne_eqb, eqb-true, eqb-false, le-leb, lt-leb, not-true, not-false, leb-true}
+use borrow.Author.Tests.{eq-eqb, ne_eqb, eqb-true, eqb-false, le-leb, lt-leb, leb-true}
 use Rattle.numbers.specs.Tests.{pick, both, either, any_of, between}
 use Rattle.numbers.specs.Numberings.{bit_at}
 use Rattle.numbers.specs.Ranges.{first_vlan, last_vlan, vlan_good, last_fine}
@@ -81,13 +81,13 @@ never : {C : Type 0} → false ≡ true → C
 never e = absurd (let z : ◌≡◌ {A = ℕ} 0 1 = cc in omega arith)
 
 module _ (q p : PortVlan) (is : p ≡ q) (g : Bool) (e : g ≡ vlan_good p.0) where
-  pub note_bad : (s : List ℕ) → not g ≡ true → Noted q.0 s s false
+  pub note_bad : (s : List ℕ) → g ≡ false → Noted q.0 s s false
   unfolding both
-  note_bad s h = record { says = rw (← is, ← e, not-true g h); added = λ t. never t }
+  note_bad s h = record { says = rw (← is, ← e, h); added = λ t. never t }
 
-  module _ (h : not g ≡ false) where
+  module _ (h : g ≡ true) where
     fits : p.0 ≤ last_vlan
-    fits = (between_is first_vlan last_vlan p.0 (unfolded p.0 (sym e ∙ not-false g h))).1
+    fits = (between_is first_vlan last_vlan p.0 (unfolded p.0 (sym e ∙ h))).1
 
     pub vlan_room : (s : List ℕ) → length s ≡ seen_bytes → p.0 < 8 * length s
     vlan_room s l = let f = fits in omega arith
@@ -95,11 +95,11 @@ module _ (q p : PortVlan) (is : p ≡ q) (g : Bool) (e : g ≡ vlan_good p.0) wh
     module _ (s : List ℕ) (b : Bool) (eb : b ≡ bit_at p.0 s) where
       pub note_again : b ≡ true → Noted q.0 s s false
       unfolding both
-      note_again t = record { says = rw (← is, ← e, not-false g h, ← eb, t); added = λ t. never t }
+      note_again t = record { says = rw (← is, ← e, h, ← eb, t); added = λ t. never t }
 
       pub note_new : b ≡ false → (t : List ℕ) → Ranged s t p.0 (p.0 + 1) → Noted q.0 s t true
       unfolding both
-      note_new f t r = subst (λ (x : PortVlan). Noted x.0 s t true) is (record { says = rw (← e, not-false g h, ← eb, f); added = λ z. r })
+      note_new f t r = subst (λ (x : PortVlan). Noted x.0 s t true) is (record { says = rw (← e, h, ← eb, f); added = λ z. r })
 
 -- ---- all VLANs
 
@@ -162,26 +162,26 @@ module _ (m : List ℕ) (left : ℕ) (s : List ℕ) (i : Seen m left s) (some : 
         ∙ rw (same, i.once, ← i.bits v)
         (no_more (vlan_good v) (bit_at v s) ∙ sym n.says)
 
-    pub seen_bad : not r ≡ true → false ≡ good_once vlan_good (vlans_in m)
+    pub seen_bad : r ≡ false → false ≡ good_once vlan_good (vlans_in m)
     seen_bad h =
         let w = i.whole in
         let k = i.within in
-        sym (once_from vlan_good vlan_of m (left - pair_bytes) (omega arith) (omega arith) (step ∙ not-true r h))
+        sym (once_from vlan_good vlan_of m (left - pair_bytes) (omega arith) (omega arith) (step ∙ h))
 
     more : (x : ℕ) → any_of (eqb x) (vlans_in (drop (left - pair_bytes) m)) ≡ either (eqb x v) (any_of (eqb x) (vlans_in (drop left m)))
     unfolding any_of
     more x = rw (pairs_at m (left - pair_bytes) seen_in, same)
 
-    pub seen_next : not r ≡ false → Seen m (left - pair_bytes) t
+    pub seen_next : r ≡ true → Seen m (left - pair_bytes) t
     seen_next h =
         let w = i.whole in
         let k = i.within in
-        let a = n.added (not-false r h) in
+        let a = n.added h in
         record {
           whole = omega arith;
           within = omega arith;
           long = a.long ∙ i.long;
-          once = step ∙ not-false r h;
+          once = step ∙ h;
           bits = λ x.
               range_tells s t _ _ a x
               ∙ rw (i.bits x, within-one v x (eqb x v) refl)
@@ -313,15 +313,15 @@ module _ (m : List ℕ) (at : ℕ) (inv : good_once vlan_good (vlans_in m) ≡ g
     is_vlan : x.0 ≡ vlan_of (pair_at m at)
     is_vlan = rw here
 
-    pub vlan_bad : not g ≡ true → false ≡ good_once vlan_good (vlans_in m)
-    vlan_bad h = apart_bad vlan_good vlan_of m at inv room x.0 is_vlan (sym is ∙ not-true g h)
+    pub vlan_bad : g ≡ false → false ≡ good_once vlan_good (vlans_in m)
+    vlan_bad h = apart_bad vlan_good vlan_of m at inv room x.0 is_vlan (sym is ∙ h)
 
-    module _ (fits : not g ≡ false) (a : Bool) (again : a ≡ any_of (eqb x.0) (vlans_in (drop (at + pair_bytes) m))) where
+    module _ (fits : g ≡ true) (a : Bool) (again : a ≡ any_of (eqb x.0) (vlans_in (drop (at + pair_bytes) m))) where
       pub vlan_twice : a ≡ true → false ≡ good_once vlan_good (vlans_in m)
-      vlan_twice = apart_twice vlan_good vlan_of m at inv room x.0 is_vlan (sym is ∙ not-false g fits) a again
+      vlan_twice = apart_twice vlan_good vlan_of m at inv room x.0 is_vlan (sym is ∙ fits) a again
 
       pub vlan_once : a ≡ false → good_once vlan_good (vlans_in m) ≡ good_once vlan_good (vlans_in (drop (at + pair_bytes) m))
-      vlan_once = apart_once vlan_good vlan_of m at inv room x.0 is_vlan (sym is ∙ not-false g fits) a again
+      vlan_once = apart_once vlan_good vlan_of m at inv room x.0 is_vlan (sym is ∙ fits) a again
 
 -- ---- labels of middling maps
 
@@ -330,8 +330,8 @@ not_any true b f h = never (sym h ∙ f refl)
 not_any false b f h = refl
 
 module _ (l : CampusLabel) (m : List ℕ) (from : ℕ) (s : List ℕ) (met : Met (labels_in (drop from m)) s) where
-  pub not_met : (b : Bool) → b ≡ bit_at (l.0 % 16384) s → not b ≡ true → false ≡ any_of (eqb l.0) (labels_in (drop from m))
-  not_met b e h = not_any _ _ (met l.0) (sym e ∙ not-true b h)
+  pub not_met : (b : Bool) → b ≡ bit_at (l.0 % 16384) s → b ≡ false → false ≡ any_of (eqb l.0) (labels_in (drop from m))
+  not_met b e h = not_any _ _ (met l.0) (sym e ∙ h)
 
 module _ (q p : CampusLabel) (is : p ≡ q) (l s : List ℕ) where
   pub mark_over : last_fine < p.0 → LabelNoted q.0 l s s false
@@ -402,8 +402,8 @@ module _ (m : List ℕ) (left : ℕ) (w : left % pair_bytes ≡ 0) (k : left ≤
         once_at fine_good label_of m (left - pair_bytes) last_in
         ∙ rw (back, o) (no_more (fine_good last) (any_of (eqb last) (labels_in (drop left m))) ∙ sym (rw back at says))
 
-    last_bad : not r ≡ true → false ≡ good_once fine_good (labels_in m)
-    last_bad h = sym (once_from fine_good label_of m (left - pair_bytes) (omega arith) (omega arith) (label_step ∙ not-true r h))
+    last_bad : r ≡ false → false ≡ good_once fine_good (labels_in m)
+    last_bad h = sym (once_from fine_good label_of m (left - pair_bytes) (omega arith) (omega arith) (label_step ∙ h))
 
 module _ (m : List ℕ) (left : ℕ) (s : List ℕ) (i : Marked m left s) (some : 0 < left) where
   pub marked_room : pair_bytes ≤ left
@@ -416,19 +416,19 @@ module _ (m : List ℕ) (left : ℕ) (s : List ℕ) (i : Marked m left s) (some 
   marked_met = rw (back m left i.whole i.within i.once some) i.met
 
   module _ (t : List ℕ) (r : Bool) (n : LabelNoted (pair_at m (left - pair_bytes)).label.0 (labels_in (drop (left - pair_bytes + pair_bytes) m)) s t r) where
-    pub marked_bad : not r ≡ true → false ≡ good_once fine_good (labels_in m)
+    pub marked_bad : r ≡ false → false ≡ good_once fine_good (labels_in m)
     marked_bad = last_bad m left i.whole i.within i.once some r n.says
 
-    pub marked_next : not r ≡ false → Marked m (left - pair_bytes) t
+    pub marked_next : r ≡ true → Marked m (left - pair_bytes) t
     marked_next h =
         let w = i.whole in
         let k = i.within in
-        let a = n.added (not-false r h) in
+        let a = n.added h in
         record {
           whole = omega arith;
           within = omega arith;
           long = a.long ∙ i.long;
-          once = label_step m left i.whole i.within i.once some r n.says ∙ not-false r h;
+          once = label_step m left i.whole i.within i.once some r n.says ∙ h;
           met = met_more (λ x. x % 16384) (labels_in (drop left m)) (labels_in (drop (left - pair_bytes) m)) _ s t (more_labels m left i.whole i.within i.once some) i.met a;
         }
 
@@ -440,8 +440,8 @@ marked_done m s left i h =
 -- ---- labels of long maps
 
 module _ (l : CampusLabel) (u v : List ℕ) where
-  pub doubt_low : (b : Bool) → b ≡ bit_at (low_of l.0) u → not b ≡ true → (s : List ℕ) → MetAt low_of s u → MetAt high_of s v → false ≡ false → false ≡ any_of (eqb l.0) s
-  doubt_low b e h s low high t = not_any _ _ (low l.0) (sym e ∙ not-true b h)
+  pub doubt_low : (b : Bool) → b ≡ bit_at (low_of l.0) u → b ≡ false → (s : List ℕ) → MetAt low_of s u → MetAt high_of s v → false ≡ false → false ≡ any_of (eqb l.0) s
+  doubt_low b e h s low high t = not_any _ _ (low l.0) (sym e ∙ h)
 
   pub doubt_high : (b : Bool) → b ≡ bit_at (high_of l.0) v → (s : List ℕ) → MetAt low_of s u → MetAt high_of s v → b ≡ false → false ≡ any_of (eqb l.0) s
   doubt_high b e s low high t = not_any _ _ (high l.0) (sym e ∙ t)
@@ -494,22 +494,22 @@ module _ (m : List ℕ) (left : ℕ) (s u : List ℕ) (i : MarkedTwice m left s 
   twice_high = rw (back m left i.whole i.within i.once some) i.high
 
   module _ (t v : List ℕ) (r : Bool) (n : LabelNotedTwice (pair_at m (left - pair_bytes)).label.0 (labels_in (drop (left - pair_bytes + pair_bytes) m)) s t u v r) where
-    pub twice_bad : not r ≡ true → false ≡ good_once fine_good (labels_in m)
+    pub twice_bad : r ≡ false → false ≡ good_once fine_good (labels_in m)
     twice_bad = last_bad m left i.whole i.within i.once some r n.says
 
-    pub twice_next : not r ≡ false → MarkedTwice m (left - pair_bytes) t v
+    pub twice_next : r ≡ true → MarkedTwice m (left - pair_bytes) t v
     twice_next h =
         let w = i.whole in
         let k = i.within in
-        let a = n.low (not-false r h) in
-        let c = n.high (not-false r h) in
+        let a = n.low h in
+        let c = n.high h in
         let more = more_labels m left i.whole i.within i.once some in
         record {
           whole = omega arith;
           within = omega arith;
           long_low = a.long ∙ i.long_low;
           long_high = c.long ∙ i.long_high;
-          once = label_step m left i.whole i.within i.once some r n.says ∙ not-false r h;
+          once = label_step m left i.whole i.within i.once some r n.says ∙ h;
           low = met_more low_of (labels_in (drop left m)) (labels_in (drop (left - pair_bytes) m)) _ s t more i.low a;
           high = met_more high_of (labels_in (drop left m)) (labels_in (drop (left - pair_bytes) m)) _ u v more i.high c;
         }
@@ -531,10 +531,10 @@ module _ (m : List ℕ) where
   good_cut h = rw (ne_eqb (length m % pair_bytes) 0 h)
 
   module _ (h : length m % pair_bytes ≡ 0) (v : Bool) (ev : v ≡ good_once vlan_good (vlans_in m)) where
-    pub good_vlans : not v ≡ true → false ≡ map_good m
+    pub good_vlans : v ≡ false → false ≡ map_good m
     unfolding map_good pairs_good both
-    good_vlans n = rw (eq-eqb (length m % pair_bytes) 0 h, ← ev, not-true v n)
+    good_vlans n = rw (eq-eqb (length m % pair_bytes) 0 h, ← ev, n)
 
-    pub good_labels : not v ≡ false → (l : Bool) → l ≡ good_once fine_good (labels_in m) → l ≡ map_good m
+    pub good_labels : v ≡ true → (l : Bool) → l ≡ good_once fine_good (labels_in m) → l ≡ map_good m
     unfolding map_good pairs_good both
-    good_labels n l el = rw (eq-eqb (length m % pair_bytes) 0 h, ← ev, not-false v n) el
+    good_labels n l el = rw (eq-eqb (length m % pair_bytes) 0 h, ← ev, n) el

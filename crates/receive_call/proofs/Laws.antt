@@ -5,7 +5,7 @@ use mathlib.Core.Bool.{Bool, true, false, not}
 use mathlib.Core.List.{List, []}
 use mathlib.Core.Path.{◌≡◌, refl, sym, ap, ◌∙◌}
 use lib.ListN.{length}
-use borrow.Author.Tests.{not-true, not-false, eq-eqb, ne_eqb}
+use borrow.Author.Tests.{eq-eqb, ne_eqb}
 use Rattle.numbers.specs.Tests.{pick, either}
 use Rattle.numbers.specs.Result.{Result, refused, got, check, and_then, settled}
 use Rattle.numbers.specs.After.{OnBoth, on_both}
@@ -70,30 +70,30 @@ module _ (m : List ℕ) (s : Settings) (p : Fields) (t o : List ℕ) where
 -- ---- the call
 
 -- a test that did not fail holds
-pub holds : (g b : Bool) → g ≡ b → not g ≡ false → b ≡ true
-holds g b e h = sym e ∙ not-false g h
+pub holds : (g b : Bool) → g ≡ b → g ≡ true → b ≡ true
+holds g b e h = sym e ∙ h
 
 module _ (s : Settings) (m f t o : List ℕ) (g : Bool) (eg : g ≡ settings_good s) where
-  pub settings_out : not g ≡ true → on_both (answer.Refused 1) t o ≡ port_received s m f t o
+  pub settings_out : g ≡ false → on_both (answer.Refused 1) t o ≡ port_received s m f t o
   unfolding port_received received_with reading settled check
-  settings_out h = rw (← eg, not-true g h)
+  settings_out h = rw (← eg, h)
 
-  module _ (set : not g ≡ false) (b : Bool) (eb : b ≡ table_good t) where
-    pub table_out : not b ≡ true → on_both (answer.Refused 2) t o ≡ port_received s m f t o
+  module _ (set : g ≡ true) (b : Bool) (eb : b ≡ table_good t) where
+    pub table_out : b ≡ false → on_both (answer.Refused 2) t o ≡ port_received s m f t o
     unfolding port_received received_with reading settled check
-    table_out h = rw (← eg, not-false g set, ← eb, not-true b h)
+    table_out h = rw (← eg, set, ← eb, h)
 
-    module _ (tab : not b ≡ false) (k : Bool) (ek : k ≡ map_good m) where
-      pub map_out : not k ≡ true → on_both (answer.Refused 21) t o ≡ port_received s m f t o
+    module _ (tab : b ≡ true) (k : Bool) (ek : k ≡ map_good m) where
+      pub map_out : k ≡ false → on_both (answer.Refused 21) t o ≡ port_received s m f t o
       unfolding port_received received_with reading settled check
-      map_out h = rw (← eg, not-false g set, ← eb, not-false b tab, ← ek, not-true k h)
+      map_out h = rw (← eg, set, ← eb, tab, ← ek, h)
 
-      module _ (mapped : not k ≡ false) (r : Parsed) (er : Reads f (parsed s f) r) where
+      module _ (mapped : k ≡ true) (r : Parsed) (er : Reads f (parsed s f) r) where
         pub parse_out : (n : ℕ) → r ≡ parse.Refused n → on_both (answer.Refused n) t o ≡ port_received s m f t o
         unfolding port_received received_with reading settled check and_then
         parse_out n e =
             let q : refused n ≡ parsed s f = rw e at er.fields in
-            rw (← eg, not-false g set, ← eb, not-false b tab, ← ek, not-false k mapped, ← q)
+            rw (← eg, set, ← eb, tab, ← ek, mapped, ← q)
 
         module _ (p : Parts) (e : r ≡ parse.Fields p) where
           is_parsed : parsed s f ≡ got (fields_in f p)
@@ -101,7 +101,7 @@ module _ (s : Settings) (m f t o : List ℕ) (g : Bool) (eg : g ≡ settings_goo
 
           pub acted_out : (x : OnBoth ReadAnswer) → x ≡ left m s (fields_in f p) t o (acted m default_life s (fields_in f p) t o) → x ≡ port_received s m f t o
           unfolding port_received received_with reading check and_then
-          acted_out x h = h ∙ rw (← eg, not-false g set, ← eb, not-false b tab, ← ek, not-false k mapped, is_parsed)
+          acted_out x h = h ∙ rw (← eg, set, ← eb, tab, ← ek, mapped, is_parsed)
 
 -- without a map
 pub none_out : (s : Settings) (f t o : List ℕ) (x : OnBoth ReadAnswer) → x ≡ port_received s [] f t o → x ≡ received s f t o

@@ -6,7 +6,7 @@ use mathlib.Core.List.{List}
 use mathlib.Core.Path.{◌≡◌}
 use native.Mathlib.Omega.{arith}
 use lib.ListN.{length}
-use borrow.Author.Tests.{le-leb, lt-leb, eq-eqb, ne_eqb, not-true, not-false}
+use borrow.Author.Tests.{le-leb, lt-leb, eq-eqb, ne_eqb}
 use Rattle.numbers.specs.Tests.{pick}
 use Rattle.numbers.specs.Result.{check, and_then, settled}
 use Rattle.numbers.specs.After.{OnBoth, on_both, on_table}
@@ -42,14 +42,14 @@ module _ (s : Settings) (p : Fields) (v : FieldValues) (w : ValuesOf p v) (t o :
       unfolding channel_good channel_of
       good_same = rw (eg, ← ec, w.dst)
 
-      pub bad_out : not g ≡ true → on_both (answer.Refused 14) t o ≡ handled
+      pub bad_out : g ≡ false → on_both (answer.Refused 14) t o ≡ handled
       unfolding channel settled check
-      bad_out h = rw (good_same, ← ec, le-leb channel_bytes (length c) long, not-true g h)
+      bad_out h = rw (good_same, ← ec, le-leb channel_bytes (length c) long, h)
 
-      module _ (ok : not g ≡ false) (k : ℕ) (ek : k ≡ channel_protocol c) where
+      module _ (ok : g ≡ true) (k : ℕ) (ek : k ≡ channel_protocol c) where
         pub other_out : (k ≡ flush_protocol → ⊥) → on_both answer.OtherChannel t o ≡ handled
         unfolding channel settled check pick
-        other_out h = rw (good_same, ← ec, le-leb channel_bytes (length c) long, not-false g ok, ← ek, ne_eqb k flush_protocol h)
+        other_out h = rw (good_same, ← ec, le-leb channel_bytes (length c) long, ok, ← ek, ne_eqb k flush_protocol h)
 
         module _ (is : k ≡ flush_protocol) (x : List ℕ) (ex : x ≡ channel_payload c) (r : Cleared) (u : List ℕ)
             (ran : on_table r u ≡ cleared_on t (clearing every_type v.ingress x t)) where
@@ -57,12 +57,12 @@ module _ (s : Settings) (p : Fields) (v : FieldValues) (w : ValuesOf p v) (t o :
           unfolding channel settled check pick and_then
           corrupt_out n e =
               let a = ran_refused t u r (clearing every_type v.ingress x t) ran n e in
-              rw (good_same, ← ec, le-leb channel_bytes (length c) long, not-false g ok, ← ek, eq-eqb k flush_protocol is, ← w.ingress, ← ex, a.0, a.1)
+              rw (good_same, ← ec, le-leb channel_bytes (length c) long, ok, ← ek, eq-eqb k flush_protocol is, ← w.ingress, ← ex, a.0, a.1)
 
           pub flushed_out : (n : ℕ) → r ≡ Count n → on_both (answer.Flushed n) u o ≡ handled
           unfolding channel settled check pick and_then
           flushed_out n e =
-              rw (good_same, ← ec, le-leb channel_bytes (length c) long, not-false g ok, ← ek, eq-eqb k flush_protocol is, ← w.ingress, ← ex, ran_count t u r (clearing every_type v.ingress x t) ran n e)
+              rw (good_same, ← ec, le-leb channel_bytes (length c) long, ok, ← ek, eq-eqb k flush_protocol is, ← w.ingress, ← ex, ran_count t u r (clearing every_type v.ingress x t) ran n e)
 
 -- the count of a good table
 pub few_cleared : (ingress : ℕ) (x t u : List ℕ) (r : Cleared) → table_good t ≡ true → on_table r u ≡ cleared_on t (clearing every_type ingress x t) → (n : ℕ) → r ≡ Count n → n ≤ most_slots

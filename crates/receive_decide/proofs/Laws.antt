@@ -2,7 +2,7 @@
 -- Assumes nothing.
 use mathlib.Core.Bool.{Bool, true, false, not}
 use mathlib.Core.Path.{◌≡◌}
-use borrow.Author.Tests.{eq-eqb, ne_eqb, not-true, not-false}
+use borrow.Author.Tests.{eq-eqb, ne_eqb}
 use Rattle.numbers.specs.Tests.{pick}
 use Rattle.numbers.specs.Result.{Result, refused, check}
 use Rattle.numbers.specs.Ranges.{individual}
@@ -28,25 +28,25 @@ module _ (s : Settings) (p : Fields) (v : FieldValues) (w : ValuesOf p v) where
     hops_out h = rw (← w.hops, eq-eqb v.hops 0 h)
 
     module _ (some : v.hops ≡ 0 → ⊥) (n : Bool) (en : n ≡ nicknames_of s.smart s.nickname v.egress v.ingress) where
-      pub nicknames_out : not n ≡ true → refused 9 ≡ deciding s p a b c
+      pub nicknames_out : n ≡ false → refused 9 ≡ deciding s p a b c
       unfolding deciding check
-      nicknames_out h = rw (← w.hops, ne_eqb v.hops 0 some, nicknames_same, ← en, not-true n h)
+      nicknames_out h = rw (← w.hops, ne_eqb v.hops 0 some, nicknames_same, ← en, h)
 
-      module _ (known : not n ≡ false) (i : Bool) (ei : i ≡ individual v.src) where
-        pub source_out : not i ≡ true → refused 11 ≡ deciding s p a b c
+      module _ (known : n ≡ true) (i : Bool) (ei : i ≡ individual v.src) where
+        pub source_out : i ≡ false → refused 11 ≡ deciding s p a b c
         unfolding deciding check
-        source_out h = rw (← w.hops, ne_eqb v.hops 0 some, nicknames_same, ← en, not-false n known, ← w.src, ← ei, not-true i h)
+        source_out h = rw (← w.hops, ne_eqb v.hops 0 some, nicknames_same, ← en, known, ← w.src, ← ei, h)
 
-        module _ (single : not i ≡ false) (o : Bool) (eo : o ≡ onward_of s.nickname v.multicast v.egress) where
+        module _ (single : i ≡ true) (o : Bool) (eo : o ≡ onward_of s.nickname v.multicast v.egress) where
           pub goes_onward : o ≡ true → a ≡ deciding s p a b c
           unfolding deciding check pick
-          goes_onward h = rw (← w.hops, ne_eqb v.hops 0 some, nicknames_same, ← en, not-false n known, ← w.src, ← ei, not-false i single, onward_same, ← eo, h)
+          goes_onward h = rw (← w.hops, ne_eqb v.hops 0 some, nicknames_same, ← en, known, ← w.src, ← ei, single, onward_same, ← eo, h)
 
           module _ (stays : o ≡ false) (k : Bool) (ek : k ≡ is_channel p.content) where
             pub is_channel_lem : k ≡ true → b ≡ deciding s p a b c
             unfolding deciding check pick
-            is_channel_lem h = rw (← w.hops, ne_eqb v.hops 0 some, nicknames_same, ← en, not-false n known, ← w.src, ← ei, not-false i single, onward_same, ← eo, stays, ← ek, h)
+            is_channel_lem h = rw (← w.hops, ne_eqb v.hops 0 some, nicknames_same, ← en, known, ← w.src, ← ei, single, onward_same, ← eo, stays, ← ek, h)
 
             pub is_native : k ≡ false → c ≡ deciding s p a b c
             unfolding deciding check pick
-            is_native h = rw (← w.hops, ne_eqb v.hops 0 some, nicknames_same, ← en, not-false n known, ← w.src, ← ei, not-false i single, onward_same, ← eo, stays, ← ek, h)
+            is_native h = rw (← w.hops, ne_eqb v.hops 0 some, nicknames_same, ← en, known, ← w.src, ← ei, single, onward_same, ← eo, stays, ← ek, h)

@@ -9,7 +9,7 @@ use native.Mathlib.Nat.{zero-add, add-sub_cancel_left}
 use native.Mathlib.Omega.{arith}
 use lib.Dec.{eqb, ltb}
 use lib.ListN.{length, take, drop, take-append-drop}
-use borrow.Author.Tests.{eqb-false, ltb-true, not-true, not-false}
+use borrow.Author.Tests.{eqb-false, ltb-true, not-true}
 use Rattle.numbers.proofs.Truth.{and_both, both_true}
 use Rattle.table.specs.Record.{record_of, free_state}
 use Rattle.table.specs.Slots.{slot_bytes, slot_at, on_slots, first_slot}

@@ -7,7 +7,7 @@ use mathlib.Core.List.{List}
 use mathlib.Core.Path.{◌≡◌, refl, sym, ap, ◌∙◌}
 use lib.Dec.{ltb, eqb}
 use lib.ListN.{length, take, drop}
-use borrow.Author.Tests.{not-true, not-false, ltb-true, ltb-false, eq-eqb, ne_eqb}
+use borrow.Author.Tests.{ltb-true, ltb-false, eq-eqb, ne_eqb}
 use Rattle.numbers.specs.Tests.{both}
 use Rattle.numbers.specs.Result.{Result, got, and_then, settled}
 use Rattle.numbers.specs.After.{OnArea, on_area}
@@ -47,16 +47,16 @@ compacts_is s w = and_both (eqb s.compact 1) (eqb w.left 0) ∙ ap (both (compac
 
 -- ---- sending where the stop is tested first
 
-module _ (on : Bool) (s : Settings) (f work : List ℕ) (g : Bool) (eg : g ≡ settings_good s) (ok : not g ≡ false) (room : compact_room ≤ length work) (x : Parsed) (ef : Reads f (fields_at s.port f) x) (p : Parts) (e : x ≡ parsed.Fields p) where
-  pub stop_itself : not on ≡ true → on_area Itself work ≡ sent_where on s f work
-  stop_itself h = send_itself on s f work g eg ok room x ef p e (num (take 6 (drop p.dst_offset f))) refl false (both_fails on _ (not-true on h)) refl
+module _ (on : Bool) (s : Settings) (f work : List ℕ) (g : Bool) (eg : g ≡ settings_good s) (ok : g ≡ true) (room : compact_room ≤ length work) (x : Parsed) (ef : Reads f (fields_at s.port f) x) (p : Parts) (e : x ≡ parsed.Fields p) where
+  pub stop_itself : on ≡ false → on_area Itself work ≡ sent_where on s f work
+  stop_itself h = send_itself on s f work g eg ok room x ef p e (num (take 6 (drop p.dst_offset f))) refl false (both_fails on _ h) refl
 
-  module _ (going : not on ≡ false) (a : ℕ) (ea : a ≡ num (take 6 (drop p.dst_offset f))) (m : Bool) (em : m ≡ stays_general s a) where
+  module _ (going : on ≡ true) (a : ℕ) (ea : a ≡ num (take 6 (drop p.dst_offset f))) (m : Bool) (em : m ≡ stays_general s a) where
     pub stays_itself : m ≡ true → on_area Itself work ≡ sent_where on s f work
     stays_itself h = send_itself on s f work g eg ok room x ef p e a ea false (sym (both_right on (not (stays_general s a)) (ap not (sym em ∙ h)))) refl
 
     pub going_put : m ≡ false → (n : ℕ) (o : List ℕ) → on_area n o ≡ filled (compact_bytes (fields_in f p)) work → on_area (Compacted n) o ≡ sent_where on s f work
-    going_put h = send_put on s f work g eg ok room x ef p e a ea true (both-goes_on true on (not (stays_general s a)) (not-false on going) (sym (ap not (sym em ∙ h)))) refl
+    going_put h = send_put on s f work g eg ok room x ef p e a ea true (both-goes_on true on (not (stays_general s a)) going (sym (ap not (sym em ∙ h)))) refl
 
 -- the watch beside what sending gives
 module _ (before after : Watch) (work : List ℕ) (a : SendAnswer) (o : List ℕ) where

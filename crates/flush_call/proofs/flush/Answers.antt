@@ -1,6 +1,5 @@
 -- `flush_call::flush` meets its contract: refused, corrupt, or cleared; the count is at most 4,096.
 use native.Mathlib.Omega.{arith}
-use borrow.Author.Tests.{not-true, not-false}
 use Rattle.flush_call.proofs.Calls.{flush_refused, flush_corrupt, flush_cleared, count_fits, flush_slots}
 use Rattle.flush_call.proofs.flush.Goals as goal
 

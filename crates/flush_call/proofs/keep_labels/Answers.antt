@@ -7,10 +7,10 @@ pub returns-then-f : goal.returns-then-f
 returns-then-f c = search labels_every
 
 pub returns-then-not-f : goal.returns-then-not-f
-returns-then-not-f c = search labels_none
+returns-then-not-f c = search (labels_none, not-true)
 
 pub keep_fines-requires : goal.keep_fines-requires
-keep_fines-requires c = search none_every
+keep_fines-requires c = search (none_every, not-false)
 
 pub returns : goal.returns
-returns c = search labels_kept
+returns c = search (labels_kept, not-false)

@@ -1,5 +1,4 @@
 -- `flush_call::mark_meant` meets its contract: the filters in a row, or no mark after the first pass.
-use borrow.Author.Tests.{not-true}
 use Rattle.flush_call.proofs.Tests.{filters_in_row, none_left}
 use Rattle.flush_call.proofs.mark_meant.Goals as goal
 

@@ -1,5 +1,4 @@
 -- `flush_filters::keep_macs` meets its contract: no MAC was gathered, or the filter was run.
-use borrow.Author.Tests.{not-true, not-false}
 use Rattle.flush_filters.proofs.Meant.{every_mac, macs_kept}
 use Rattle.flush_filters.proofs.keep_macs.Goals as goal
 

@@ -1,7 +1,6 @@
 -- `flush_intervals::hit_range` meets its contract: an empty range, one that no key is near, or the keys between two places.
 use Rattle.flush_intervals.proofs.Hits.{range_empty, range_far, front_below, range_order, range_hits}
 use native.Mathlib.Omega.{arith}
-use borrow.Author.Tests.{not-true}
 use borrow.Author.Rules.{rules}
 use Rattle.flush_intervals.proofs.hit_range.Goals as goal
 

@@ -1,5 +1,4 @@
 -- `flush_nicknames::listed_at` meets its contract: no nickname of the byte, another label, another nickname, or whether it is learned.
-use borrow.Author.Tests.{not-true, not-false}
 use Rattle.flush_nicknames.proofs.First.{other_label_lem, not_byte, not_listed, by_list}
 use Rattle.flush_nicknames.proofs.listed_at.Goals as goal
 

@@ -1,5 +1,4 @@
 -- `flush_nicknames::single_at` meets its contract: another byte of the nickname, another label, another nickname, or whether it is learned.
-use borrow.Author.Tests.{not-true, not-false}
 use Rattle.flush_nicknames.proofs.First.{other_label_lem, not_middle, not_single, by_single}
 use Rattle.flush_nicknames.proofs.single_at.Goals as goal
 

@@ -1,7 +1,6 @@
 -- `flush_payload::judge_tlvs` meets its contract. The invariant: what is corrupt is left, and a kind is there exactly if it was noted or
 -- is left.
 use Prim.Native.Nat.{◌-◌}
-use borrow.Author.Tests.{not-true, not-false}
 use Rattle.flush_payload.proofs.Judging.{walk_start, walk_done, walk_padding, walk_cut, walk_skip, walk_bad, walk_next, walk_passed}
 use Rattle.flush_payload.proofs.judge_tlvs.Goals as goal
 

@@ -1,5 +1,4 @@
 -- `flush_payload::mac_meant` meets its contract: every MAC, or those that some TLV brings.
-use borrow.Author.Tests.{not-true, not-false}
 use Rattle.flush_payload.proofs.Laws.{every_mac, that_mac}
 use Rattle.flush_payload.proofs.mac_meant.Goals as goal
 

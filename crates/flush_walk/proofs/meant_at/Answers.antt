@@ -1,6 +1,5 @@
 -- `flush_walk::meant_at` meets its contract: the four tests in a row.
 use mathlib.Core.Path.{ap, ◌∙◌}
-use borrow.Author.Tests.{not-true, not-false}
 use Rattle.flush.specs.Meaning.{nickname_meant}
 use Rattle.flush_walk.proofs.Laws.{not_learned, not_named, not_labelled, by_mac}
 use Rattle.flush_walk.proofs.meant_at.Goals as goal

@@ -1,5 +1,4 @@
 -- `frame_fields::header_length` meets its contract: each way out is an outcome of the definition.
-use borrow.Author.Tests.{not-true, not-false}
 use Rattle.frame_fields.proofs.Laws.{header_cut, header_version, header_disagrees, options_cut, header_whole}
 use Rattle.frame_fields.proofs.header_length.Goals as goal
 

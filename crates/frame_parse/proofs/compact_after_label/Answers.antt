@@ -1,6 +1,5 @@
 -- `frame_parse::compact_after_label` meets its contract: each way out is an outcome of the definition.
 use native.Mathlib.Omega.{arith}
-use borrow.Author.Tests.{not-true, not-false}
 use Rattle.frame_parse.proofs.Outcomes.{reads_refused}
 use Rattle.frame_parse.proofs.Located.{compact_reads}
 use Rattle.frame_parse.proofs.General.{header_room}

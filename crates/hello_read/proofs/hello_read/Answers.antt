@@ -1,5 +1,4 @@
 -- `hello_read::hello_read` meets its contract: each way out is an outcome of the definition.
-use borrow.Author.Tests.{not-true, not-false}
 use Rattle.hello_read.proofs.Laws.{refused_way, short_way, fit_room, written_way}
 use borrow.Author.Rules.{rules}
 use Rattle.hello_read.proofs.hello_read.Goals as goal

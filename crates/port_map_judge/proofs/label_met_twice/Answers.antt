@@ -1,5 +1,4 @@
 -- `port_map_judge::label_met_twice` meets its contract: a label that is not doubtful stands nowhere there.
-use borrow.Author.Tests.{not-true}
 use Rattle.port_map_judge.specs.Meaning.{labels_in}
 use lib.ListN.{drop}
 use Rattle.port_map_judge.proofs.label_met_twice.Goals as goal

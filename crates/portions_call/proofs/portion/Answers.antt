@@ -1,6 +1,5 @@
 -- `portions_call::portion` meets its contract: refused, corrupt, or cleared; all three numbers are at most 4,096.
 use native.Mathlib.Omega.{arith}
-use borrow.Author.Tests.{not-true, not-false}
 use Rattle.portions_call.proofs.Laws.{portion_table, portion_refused, portion_below, portion_within, portion_corrupt, portion_done, count_fits, examined_fits}
 use Rattle.portions_call.proofs.portion.Goals as goal
 

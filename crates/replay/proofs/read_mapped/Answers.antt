@@ -1,6 +1,5 @@
 -- `replay::read_mapped` meets its contract: the pairs are no more than there is room for, and the label of what is delivered fits its word.
 use mathlib.Core.Path.{sym, ap, subst}
-use borrow.Author.Tests.{not-false}
 use Rattle.numbers.specs.After.{OnBoth}
 use Rattle.receive.proofs.Outcomes.{read_fits}
 use Rattle.receive.specs.declared.ReadAnswer.{ReadAnswer}

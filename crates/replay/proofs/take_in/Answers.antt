@@ -1,5 +1,4 @@
 -- `replay::take_in` meets its contract: the pairs are no more than there is room for.
-use borrow.Author.Tests.{not-false}
 use Rattle.replay.proofs.take_in.Goals as goal
 
 pub take_pairs-a-requires : goal.take_pairs-a-requires

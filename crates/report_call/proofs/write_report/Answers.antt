@@ -1,6 +1,5 @@
 -- `report_call::write_report` meets its contract: the line of a bad length, or the report.
 use mathlib.Core.Path.{sym, ◌∙◌}
-use borrow.Author.Tests.{not-true, not-false}
 use Rattle.report_call.proofs.Laws.{report_bad, report_good}
 use borrow.Author.Rules.{rules}
 use Rattle.report_call.proofs.write_report.Goals as goal

@@ -1,7 +1,6 @@
 -- `report_keys::key_at` meets its contract: the state decides whether there is a record, then the 7 bits and the entry whether it is good.
 use Prim.Native.Nat.{◌/◌, ◌^◌}
 use native.Mathlib.Omega.{arith}
-use borrow.Author.Tests.{not-true, not-false}
 use Rattle.report_keys.proofs.Laws.{state_in, mark_in, nickname_in, a_state, key_empty, key_bad, key_marked, key_record}
 use borrow.Author.Rules.{rules}
 use Rattle.report_keys.proofs.key_at.Goals as goal

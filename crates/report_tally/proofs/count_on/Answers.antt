@@ -2,7 +2,6 @@
 use Prim.Native.Nat.{ℕ}
 use mathlib.Core.Path.{◌≡◌, refl}
 use native.Mathlib.Omega.{arith}
-use borrow.Author.Tests.{not-false}
 use Rattle.report_tally.proofs.Laws.{has_room, counted_on}
 use Rattle.report_tally.proofs.count_on.Goals as goal
 

@@ -1,5 +1,4 @@
 -- `table_ageing::age` meets its contract: refused, or done.
-use borrow.Author.Tests.{not-true, not-false}
 use Rattle.table_ageing.proofs.Laws.{age_refused, age_done}
 use Rattle.table_ageing.proofs.age.Goals as goal
 

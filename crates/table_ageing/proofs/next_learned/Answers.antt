@@ -2,7 +2,6 @@
 use Prim.Native.Nat.{◌+◌, ◌-◌, ◌/◌}
 use mathlib.Core.Path.{◌≡◌}
 use native.Mathlib.Omega.{arith}
-use borrow.Author.Tests.{not-false}
 use Rattle.table.specs.Record.{learned_state}
 use Rattle.table.specs.Slots.{slot_bytes}
 use Rattle.table_rounds.specs.Rounds.{InState, four_slots}

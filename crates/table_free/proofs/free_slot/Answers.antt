@@ -1,6 +1,5 @@
 -- `table_free::free_slot` meets its contract: refused, found, or none; slots and records unpacked are at most 4,096.
 use native.Mathlib.Omega.{arith}
-use borrow.Author.Tests.{not-true, not-false}
 use Rattle.table_free.proofs.Laws.{free_refused, free_found_lem, free_full, unpacked_fits, slot_fits}
 use Rattle.table_free.proofs.free_slot.Goals as goal
 

@@ -1,6 +1,5 @@
 -- `table_homes::homes_of` meets its contract: numbers that no good record can hold are in no slot.
 use mathlib.Core.Path.{◌∙◌, sym}
-use borrow.Author.Tests.{not-true, not-false}
 use Rattle.table_homes.proofs.Laws.{seen_bad, label_is}
 use borrow.Author.Rules.{rules}
 use Rattle.table_homes.proofs.homes_of.Goals as goal

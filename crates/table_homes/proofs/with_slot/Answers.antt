@@ -1,6 +1,5 @@
 -- `table_homes::with_slot` meets its contract: a slot without the pair adds nothing.
 use mathlib.Core.Path.{ap, ◌∙◌}
-use borrow.Author.Tests.{not-true, not-false}
 use Rattle.table_homes.specs.Pass.{with_slot}
 use Rattle.table.specs.declared.Slot.{Slot}
 use Rattle.table_homes.proofs.Laws.{held_here, hit_here, miss_here}

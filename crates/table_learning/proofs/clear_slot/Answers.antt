@@ -1,6 +1,5 @@
 -- `table_learning::clear_slot` meets its contract: only a learned record of the pair is freed.
 use mathlib.Core.Path.{◌∙◌}
-use borrow.Author.Tests.{not-true, not-false}
 use Rattle.table_learning.proofs.Laws.{clear_other, clear_configured, clear_hit}
 use borrow.Author.Rules.{rules}
 use Rattle.table_learning.proofs.clear_slot.Goals as goal

@@ -1,6 +1,5 @@
 -- `table_pairs::fields_hold` meets its contract: the first eight bytes, the key and three more bits are all of the label and the address.
 use mathlib.Core.Path.{ap, ◌∙◌}
-use borrow.Author.Tests.{not-true, not-false}
 use Rattle.numbers.specs.Ranges.{nickname_good}
 use Rattle.table_pairs.proofs.Laws.{pair_other, pair_bits, pair_rest}
 use Rattle.table_pairs.proofs.fields_hold.Goals as goal

@@ -1,6 +1,5 @@
 -- `table_pairs::holds_keyed` meets its contract: the fields decide, and then the 7 bits.
 use mathlib.Core.Path.{sym, ◌∙◌}
-use borrow.Author.Tests.{not-true, not-false}
 use Rattle.table.specs.Record.{unpacked}
 use Rattle.table.specs.Table.{holds}
 use Rattle.table.proofs.Marks.{match_none, match_bits}

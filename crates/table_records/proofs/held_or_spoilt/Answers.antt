@@ -1,6 +1,5 @@
 -- `table_records::held_or_spoilt` meets its contract: the state and the entry decide.
 use mathlib.Core.Path.{sym, ap, ◌∙◌}
-use borrow.Author.Tests.{not-true, not-false}
 use Rattle.table.specs.declared.Slot.TheVariants.{Learned, Configured}
 use Rattle.table_records.specs.RecordBits.{number_of}
 use Rattle.table.proofs.Contents.{slot_held, entry_bad, state_learned, state_configured, state_other}

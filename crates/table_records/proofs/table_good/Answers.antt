@@ -1,6 +1,5 @@
 -- `table_records::table_good` meets its contract: the tests are the definition's.
 use mathlib.Core.Path.{refl, sym, ◌∙◌}
-use borrow.Author.Tests.{not-true, not-false}
 use Rattle.numbers.specs.Tests.{between}
 use Rattle.numbers.proofs.Steps.{both_fails, both-goes_on}
 use Rattle.table.specs.Slots.{table_good}

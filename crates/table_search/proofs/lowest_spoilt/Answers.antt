@@ -1,6 +1,5 @@
 -- `table_search::lowest_spoilt` meets its contract: refused, found, or none; a slot number is below 4,096.
 use native.Mathlib.Omega.{arith}
-use borrow.Author.Tests.{not-true, not-false}
 use Rattle.table_search.proofs.Laws.{spoilt_refused, spoilt-found, spoilt_none, spoilt_fits}
 use Rattle.table_search.proofs.lowest_spoilt.Goals as goal
 

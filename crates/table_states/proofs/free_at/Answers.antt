@@ -1,6 +1,5 @@
 -- `table_states::free_at` meets its contract: the fields decide, and then the byte of the mark.
 use mathlib.Core.Path.{sym, ◌∙◌}
-use borrow.Author.Tests.{not-true, not-false}
 use Rattle.table.specs.Learning.{free_slot}
 use Rattle.table.specs.Record.{unpacked}
 use Rattle.table.proofs.Marks.{free_none, free_bits}

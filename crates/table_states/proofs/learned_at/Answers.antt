@@ -1,6 +1,5 @@
 -- `table_states::learned_at` meets its contract: the fields decide, and then the 7 bits.
 use mathlib.Core.Path.{sym, ◌∙◌}
-use borrow.Author.Tests.{not-true, not-false}
 use Rattle.table.specs.Record.{unpacked}
 use Rattle.table.proofs.Marks.{learned_none, learned_bits}
 use Rattle.table_states.proofs.learned_at.Goals as goal

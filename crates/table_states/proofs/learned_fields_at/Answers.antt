@@ -1,5 +1,4 @@
 -- `table_states::learned_fields_at` meets its contract: state 1, and then the entry decides.
-use borrow.Author.Tests.{not-true, not-false}
 use Rattle.table_states.proofs.Laws.{unlearned, learned, learned_without}
 use borrow.Author.Rules.{rules}
 use Rattle.table_states.proofs.learned_fields_at.Goals as goal

@@ -1,6 +1,5 @@
 -- `table_widening::widen` meets its contract: 2 by the old lengths, then 16, then the wider table.
 use native.Mathlib.Omega.{arith}
-use borrow.Author.Tests.{not-true, not-false}
 use Rattle.table_widening.proofs.Laws.{widen_refused, widen_short, widen_done, widen_small}
 use Rattle.table_widening.proofs.widen.Goals as goal
 

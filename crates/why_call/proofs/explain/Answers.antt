@@ -1,5 +1,4 @@
 -- `why_call::explain` meets its contract: refused by the table, by the slot or by the payload, or the reason.
-use borrow.Author.Tests.{not-true, not-false}
 use Rattle.why_call.proofs.Laws.{why_table, why_past, why-corrupt, good_parts, why_because}
 use borrow.Author.Rules.{rules}
 use Rattle.why_call.proofs.explain.Goals as goal

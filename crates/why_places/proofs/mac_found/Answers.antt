@@ -1,5 +1,4 @@
 -- `why_places::mac_found` meets its contract: no MAC was noted or gathered, or the place that the walk answers.
-use borrow.Author.Tests.{not-true, not-false}
 use Rattle.why_places.proofs.Meant.{mac_unnoted, mac_every, mac_not, mac_meant_lem}
 use Rattle.why_places.proofs.mac_found.Goals as goal
 
