@@ -1,5 +1,5 @@
-// A port's map as a lent slice of two-field structs: the two searches and the judge. Each function that is lent the slice is thin, and its
-// proof a walk by hand; what is asked of a pair, and what follows, are functions on the pair by value.
+// A port's map as a lent slice of two-field structs: the two searches and the judge. Each function that is lent the slice is thin; what is
+// asked of a pair, and what follows, are functions on the pair by value.
 #![tactic(auto)]
 
 ghost use Rattle.std.specs.Prelude.{◌≡◌, ◌<◌, ltb, length, drop};

@@ -4,7 +4,7 @@ use Rattle.receive_pairs.proofs.Laws.{read_found}
 use Rattle.receive_pairs.proofs.receive_found.Goals as goal
 
 pub returns : goal.returns
-returns c =
+returns c ps searched asked =
     let a = c.args in
     read_found a.s a.f.now a.table.now a.out.now a.n a.good a.l a.found _
     (lent_is a.n a.good _ _ c.pair_for_label-p.ensures _ c.pair_bytes-one.ensures _ c.lent_bytes-k.ensures.0)
