@@ -24,8 +24,8 @@ LIBRARY = set(
     "length take drop set append reverse map filter sum min max flat_map replicate head tail all any get_or num suc add sub mul div mod pow eqb leb ltb "
     "cons count fold zip range".split()
 )
-# Names that would fall together with another name, or with a parameter of a function whose clauses cite them.
-BY_HAND = {}
+# A constructor that stands in a row of them.
+BY_HAND = {"refusedFront": "refused_front"}
 
 
 def files(top, ends):
@@ -74,7 +74,7 @@ def table(top):
     names, fields, defined = declared(top)
     known = {snake(it) for it in defined if "-" not in it} | LIBRARY
     out = {}
-    for name in names | fields:
+    for name in names | fields | set(BY_HAND):
         if name in BY_HAND:
             out[name] = BY_HAND[name]
             continue
@@ -103,13 +103,20 @@ def table(top):
     return out, fields
 
 
+def aliases(text):
+    """Modules that a text cites under a name of theirs: `spec.x` after `use M as spec`, `Front.x` after `use M.Front`."""
+    return set(re.findall(r"use (?:Rattle\.[^\n;{}]*?)\.([A-Z]\w*)(?:;|\n|$)", text)) | set(re.findall(r"use Rattle\.\S+ as (\S+?)[;\n]", text))
+
+
 def turned(text, names, fields):
-    out, end = [], 0
+    out, end, known = [], 0, aliases(text)
     for m in TOKEN.finditer(text):
         word = m.group(0)
         if word in names and not word.startswith("--"):
             behind_dot = m.start() > 0 and text[m.start() - 1] == "."
-            if not behind_dot or word in fields:
+            module = re.search(r"(?<![\w.'-])([A-Za-z_][\w'-]*)\.$", text[max(0, m.start() - 60) : m.start()]) if behind_dot else None
+            own = CAMEL.match(word) or "-" in word
+            if not behind_dot or word in fields or module and own and module.group(1) in known - {"tie", "goal"}:
                 out += [text[end : m.start()], names[word]]
                 end = m.end()
     out.append(text[end:])

@@ -18,7 +18,7 @@ use Rattle.numbers.specs.Bytes.{num, laid}
 use Rattle.numbers.proofs.Truth.{between_is}
 use Rattle.numbers.proofs.Answers.{refused_got, check_got}
 use Rattle.frame.specs.Settings.{settings_good, compact_on}
-use Rattle.frame.specs.Front.{Front, unicast, multicast, refusedFront, inner, address_in, front_of}
+use Rattle.frame.specs.Front.{Front, unicast, multicast, refused_front, inner, address_in, front_of}
 use Rattle.frame.specs.Header.{header_length}
 use Rattle.frame.specs.Labels.{label_length}
 use Rattle.frame.specs.Fields.{Fields}
@@ -126,7 +126,7 @@ only_never : (d : Front) (f : List ℕ) → Never16 (general_only d f)
 unfolding general_only
 only_never unicast f = general_never unicast f
 only_never multicast f = general_never multicast f
-only_never refusedFront f = refused_never _ (λ e. omega arith)
+only_never refused_front f = refused_never _ (λ e. omega arith)
 only_never inner f = refused_never _ (λ e. omega arith)
 
 frame_never : (s : Settings) (f : List ℕ) → Never16 (general_frame s f)

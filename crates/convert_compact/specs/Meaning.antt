@@ -14,7 +14,7 @@ use Rattle.convert.specs.Compaction.{general_only, written}
 use Rattle.convert.specs.declared.ConvertAnswer.{ConvertAnswer}
 use Rattle.convert.specs.declared.ConvertAnswer.TheVariants.{Refused, Written}
 
--- `generalFields` after the test of the settings: only the port address is used
+-- `general_fields` after the test of the settings: only the port address is used
 unfoldable pub fields_at : ℕ → List ℕ → Result Fields
 fields_at port f = check (frame_length_good (length f)) frame_length_bad (general_only (front_at port (address_in f)) f)
 

@@ -1,4 +1,4 @@
--- Sorted keys, a number times `keySlots` and a slot each, and bits that say of which keys the number passes a test.
+-- Sorted keys, a number times `key_slots` and a slot each, and bits that say of which keys the number passes a test.
 -- Assumes nothing.
 use Rattle.std.specs.Prelude.{ℕ, ◌/◌, ◌≤◌, ◌<◌, Bool, List, ◌≡◌, length, take, drop, get_or}
 use Rattle.numbers.specs.Tests.{either}

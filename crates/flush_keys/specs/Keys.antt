@@ -1,4 +1,4 @@
--- The number of a record that a filter tests, and keys: such a number, times `keySlots`, and the slot that holds it.
+-- The number of a record that a filter tests, and keys: such a number, times `key_slots`, and the slot that holds it.
 -- Assumes nothing.
 use Rattle.std.specs.Prelude.{ℕ, ◌/◌, ◌%◌, ◌<◌, ◌≤◌, Bool, true, not, List, ◌≡◌, eqb, length, get_or}
 use Rattle.numbers.specs.Tests.{both, either, any_of}

@@ -15,7 +15,7 @@ use Rattle.numbers.proofs.Truth.{pick_true, between_in, between_is}
 use Rattle.numbers.proofs.Answers.{refused_got, check_got, check_pass, pick_got}
 use Rattle.numbers.proofs.Lists.{starts_is}
 use Rattle.frame.specs.Settings.{compact_on}
-use Rattle.frame.specs.Front.{address_bytes, address_in, Front, unicast, multicast, refusedFront, inner, front_of}
+use Rattle.frame.specs.Front.{address_bytes, address_in, Front, unicast, multicast, refused_front, inner, front_of}
 use Rattle.frame.specs.Header.{multicast_of, agrees}
 use Rattle.frame.specs.Labels.{trill_type}
 use Rattle.frame.specs.Fields.{Fields}
@@ -77,7 +77,7 @@ module _ (z : List ℕ) where
   unfolding by_front
   front_reads on unicast f p q = general_longer unicast f p q
   front_reads on multicast f p q = general_longer multicast f p q
-  front_reads on refusedFront f p q = refused_got _ p q
+  front_reads on refused_front f p q = refused_got _ p q
   front_reads on inner f p q =
       ⊎_elim
       (λ v. pick_true _ _ _ v.0 ∙ compact_longer f p v.1)

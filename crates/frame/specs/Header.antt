@@ -4,7 +4,7 @@ use Rattle.std.specs.Prelude.{ℕ, ◌+◌, ◌*◌, ◌/◌, ◌%◌, ◌^◌, 
 use Rattle.numbers.specs.Result.{Result, check, got}
 use Rattle.numbers.specs.Refusals.{cut_short, version_bad, multicast_disagrees}
 use Rattle.numbers.specs.Bytes.{num}
-use Rattle.frame.specs.Front.{Front, unicast, multicast, refusedFront, inner}
+use Rattle.frame.specs.Front.{Front, unicast, multicast, refused_front, inner}
 
 -- the two bytes at k as a number
 abbrev pub word_at : ℕ → List ℕ → ℕ
@@ -46,7 +46,7 @@ header_bytes h = fixed_bytes + 4 * option_length h
 abbrev pub agrees : Front → ℕ → Bool
 agrees unicast m = eqb m 0
 agrees multicast m = eqb m 1
-agrees refusedFront m = true
+agrees refused_front m = true
 agrees inner m = true
 
 -- n bytes are left, else the field is cut

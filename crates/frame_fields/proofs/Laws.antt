@@ -1,4 +1,4 @@
--- Laws of the fields: two bytes at an offset, a slice from an offset on, and each outcome of `headerLength`, from facts as the code finds
+-- Laws of the fields: two bytes at an offset, a slice from an offset on, and each outcome of `header_length`, from facts as the code finds
 -- them.
 -- Assumes nothing.
 use Prim.Native.Nat.{ℕ, ◌+◌, ◌-◌, ◌≤◌, ◌<◌}
@@ -29,7 +29,7 @@ to_the_end l k = take_all (length l - k) (drop k l) (simp length-drop (omega ari
 pub after_is : (l : List ℕ) (k : ℕ) → (take (length l - k) (drop k l) ≡ drop k l) × (length (take (length l - k) (drop k l)) ≡ length l - k)
 after_is l k = (to_the_end l k, rw (to_the_end l k) (length-drop k l))
 
--- ---- each outcome of `headerLength`
+-- ---- each outcome of `header_length`
 
 module _ (d : Front) (l : List ℕ) where
   pub header_cut : length l < fixed_bytes → refused 6 ≡ header_length d l
@@ -55,7 +55,7 @@ module _ (d : Front) (l : List ℕ) where
         unfolding header_length check
         header_whole h = rw (le-leb fixed_bytes (length l) six, ← ev, eq-eqb v 0 zero, ← er, ok, ← en, le-leb n (length l) h)
 
--- the outcomes of `labelLength` after the first four bytes of a fine-grained label
+-- the outcomes of `label_length` after the first four bytes of a fine-grained label
 module _ (l : List ℕ) (two : 2 ≤ length l) (t : Bool) (et : t ≡ is_tag l) (no : t ≡ false) (u : Bool) (eu : u ≡ is_fine l) (yes-fine : u ≡ true) (four : 4 ≤ length l) (six : 6 ≤ length l) (v : Bool) (ev : v ≡ is_fine (drop 4 l)) where
   pub fine_second : v ≡ false → refused 10 ≡ label_length l
   unfolding label_length check pick

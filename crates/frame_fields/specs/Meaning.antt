@@ -12,15 +12,15 @@ use Rattle.frame_fields.specs.declared.Length.TheVariants as len
 abbrev pub front_as : Front → spec.Front
 front_as front.Unicast = spec.unicast
 front_as front.Multicast = spec.multicast
-front_as front.Refused = spec.refusedFront
+front_as front.Refused = spec.refused_front
 front_as front.Inner = spec.inner
 
--- `frontOf`, of which only the port address is used
+-- `front_of`, of which only the port address is used
 unfoldable pub front_at : ℕ → ℕ → spec.Front
 front_at port a =
     pick (eqb a port) spec.unicast
     (pick (eqb a spec.all_rbridges) spec.multicast
-    (pick (spec.front_refused a) spec.refusedFront spec.inner))
+    (pick (spec.front_refused a) spec.refused_front spec.inner))
 
 abbrev pub length_as : Length → Result ℕ
 length_as (len.Refused n) = refused n

@@ -12,7 +12,7 @@ use Rattle.numbers.specs.Bytes.{bytes_of, starts_with}
 use Rattle.numbers.specs.Result.{got}
 use Rattle.numbers.proofs.Answers.{check_got, pick_got, then_got, got_got, refused_got}
 use Rattle.numbers.proofs.Truth.{false_true}
-use Rattle.frame.specs.Front.{Front, unicast, multicast, refusedFront, inner, address_in, front_of}
+use Rattle.frame.specs.Front.{Front, unicast, multicast, refused_front, inner, address_in, front_of}
 use Rattle.frame.specs.Header.{multicast_of, agrees}
 use Rattle.frame.specs.Labels.{is_tag, label_length}
 use Rattle.frame.specs.Fields.{Fields}
@@ -79,7 +79,7 @@ module _ (u : Given) (m : u.multicast ≤ 1) (h : u.hops ≤ 63) (n : Native) (l
   unfolding by_front compact
   by_front_lem on unicast p q = as_general unicast p q
   by_front_lem on multicast p q = as_general multicast p q
-  by_front_lem on refusedFront p q = refused_got _ p q
+  by_front_lem on refused_front p q = refused_got _ p q
   by_front_lem on inner p q =
       ⊎_elim
       (λ v.

@@ -16,7 +16,7 @@ use Rattle.table.specs.Slots.{table_good}
 use Rattle.flush.specs.Payload.{every_type, corrupt, nick_bytes, block_count, behind, block_bytes, pieces_of, Payload, made, payload_of}
 use Rattle.flush.specs.Flush.{clearing}
 use Rattle.frame.specs.Settings.{settings_good, compact_on, default_life}
-use Rattle.frame.specs.Front.{trill_group, address_bytes, addresses_bytes, address_in, Front, unicast, multicast, refusedFront, inner, front_of}
+use Rattle.frame.specs.Front.{trill_group, address_bytes, addresses_bytes, address_in, Front, unicast, multicast, refused_front, inner, front_of}
 use Rattle.frame.specs.Header.{version_of, multicast_of, hop_count, ingress_of, fixed_bytes, header_bytes, agrees, header_length}
 use Rattle.frame.specs.Labels.{ethertype_bytes, tag_bytes, fine_bytes, is_trill, is_tag, is_fine, is_channel, low12, label_length}
 use Rattle.frame.specs.Fields.{Fields, least_content}
@@ -183,7 +183,7 @@ front_rows_lem : (on : Bool) (d : Front) (f : List ℕ) (k : Fields → Outcome)
 unfolding by_front and_then first_of pick
 front_rows_lem on unicast f k = general_rows_lem unicast f k
 front_rows_lem on multicast f k = general_rows_lem multicast f k
-front_rows_lem on refusedFront f k = refl
+front_rows_lem on refused_front f k = refl
 front_rows_lem true inner f k = compact_rows_lem f k
 front_rows_lem false inner f k = refl
 

@@ -33,7 +33,7 @@ use Rattle.flush.specs.declared.FlushAnswer.TheVariants as flush
 use Rattle.flush.proofs.Flushing.{flush_exact, clearing-apart}
 use Rattle.flush.proofs.Stays.{clearing_leaves_alone}
 use Rattle.frame.specs.Settings.{addresses_good, seconds_good, numbers_good, later_good, settings_good, life_of, default_life, compact_on}
-use Rattle.frame.specs.Front.{address_in, Front, unicast, multicast, refusedFront, inner, front_of}
+use Rattle.frame.specs.Front.{address_in, Front, unicast, multicast, refused_front, inner, front_of}
 use Rattle.frame.specs.Header.{ingress_of, egress_of}
 use Rattle.frame.specs.Labels.{is_channel, label_read}
 use Rattle.frame.specs.Fields.{Fields}
@@ -169,7 +169,7 @@ fronts_good : (on : Bool) (d : Front) (f : List ℕ) (p : Fields) → by_front o
 unfolding by_front
 fronts_good on unicast f p q = (general_is unicast f p q).good
 fronts_good on multicast f p q = (general_is multicast f p q).good
-fronts_good on refusedFront f p q = refused_got _ p q
+fronts_good on refused_front f p q = refused_got _ p q
 fronts_good on inner f p q =
     ⊎_elim
     (λ v. (compact_is f p v.1).good)

@@ -12,7 +12,7 @@ use Rattle.table.specs.Slots.{table_good}
 use Rattle.flush.specs.Payload.{every_type, made, payload_of}
 use Rattle.flush.specs.Flush.{slot_meant, cleared_by}
 use Rattle.frame.specs.Settings.{settings_good, compact_on, default_life}
-use Rattle.frame.specs.Front.{trill_group, address_bytes, addresses_bytes, address_in, Front, unicast, multicast, refusedFront, inner, front_of}
+use Rattle.frame.specs.Front.{trill_group, address_bytes, addresses_bytes, address_in, Front, unicast, multicast, refused_front, inner, front_of}
 use Rattle.frame.specs.Header.{version_of, multicast_of, hop_count, ingress_of, fixed_bytes, header_bytes, agrees}
 use Rattle.frame.specs.Labels.{ethertype_bytes, tag_bytes, fine_bytes, is_trill, is_tag, is_fine, is_channel, low12}
 use Rattle.frame.specs.Fields.{Fields, least_content}
@@ -156,13 +156,13 @@ module _ (f : List ℕ) where
 abbrev pub front_rows : Bool → Front → List ℕ → List (Row Outcome)
 front_rows on unicast f = general_rows f unicast
 front_rows on multicast f = general_rows f multicast
-front_rows on refusedFront f = when true (refused not_for_port) ∷ []
+front_rows on refused_front f = when true (refused not_for_port) ∷ []
 front_rows on inner f = unless on (refused not_for_port) ∷ compact_rows f
 
 abbrev pub front_parts : Front → List ℕ → Fields
 front_parts unicast f = general_parts f
 front_parts multicast f = general_parts f
-front_parts refusedFront f = general_parts f
+front_parts refused_front f = general_parts f
 front_parts inner f = compact_parts f
 
 -- ---- on the fields read, alike for both formats

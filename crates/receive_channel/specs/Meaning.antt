@@ -5,7 +5,7 @@ use Rattle.numbers.specs.Tests.{both, either}
 use Rattle.frame.specs.Front.{all_egress_rbridges}
 use Rattle.receive.specs.Deciding.{channel_version, channel_error}
 
--- `channelGood` at a port's own inner address, of the content and of the inner destination
+-- `channel_good` at a port's own inner address, of the content and of the inner destination
 unfoldable pub channel_of : ℕ → List ℕ → ℕ → Bool
 channel_of inner c dst =
     both (eqb (channel_version c) 0)

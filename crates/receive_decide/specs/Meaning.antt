@@ -26,7 +26,7 @@ pub record ValuesOf (p : Fields) (v : FieldValues) : Type 0 where
   pub ingress_fits : v.ingress < 2 ^ 16
   pub src_fits : v.src < 2 ^ 48
 
--- `nicknamesGood` and `isOnward` of the numbers themselves
+-- `nicknames_good` and `is_onward` of the numbers themselves
 unfoldable pub nicknames_of : ℕ → ℕ → ℕ → ℕ → Bool
 nicknames_of smart own egress ingress = both (nickname_good egress) (both (nickname_good ingress) (either (eqb smart 1) (not (eqb ingress own))))
 

@@ -11,7 +11,7 @@ use Rattle.table.specs.declared.Learning.TheVariants.{Kept}
 use Rattle.frame.specs.Settings.{life_of, default_life}
 use Rattle.frame.specs.declared.Settings.{Settings}
 
--- `learnedEntry` of a frame whose label, source, ingress nickname and mark are these
+-- `learned_entry` of a frame whose label, source, ingress nickname and mark are these
 abbrev pub learned_of : Settings → Label → ℕ → ℕ → Bool → Entry
 learned_of s label mac nickname mark =
     record { label = label; mac = mac; nickname = nickname; confidence = s.confidence; seconds = life_of default_life s; multihomed = mark }
