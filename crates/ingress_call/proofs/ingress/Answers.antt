@@ -18,7 +18,7 @@ pub returns-in-Refused : goal.returns-in-Refused
 returns-in-Refused c = judge_out c.args.s c.args.map.now c.args.u c.args.f.now c.args.out.now _ c.settings_good.ensures c.if-not-settings_good.false _ c.given_good.ensures c.if-not-given_good.false _ c.map_good.ensures c.if-not-map_good.false _ c.judge.ensures _ c.in-Refused.is
 
 pub returns-in-Missing : goal.returns-in-Missing
-returns-in-Missing c = missing_out c.args.s c.args.map.now c.args.u c.args.f.now c.args.out.now _ c.settings_good.ensures c.if-not-settings_good.false _ c.given_good.ensures c.if-not-given_good.false _ c.map_good.ensures c.if-not-map_good.false _ c.judge.ensures _ _ c.in-Missing.is _ c.label_for.ensures c.in-Missing.is
+returns-in-Missing c = missing_out c.args.s c.args.map.now c.args.u c.args.f.now c.args.out.now _ c.settings_good.ensures c.if-not-settings_good.false _ c.given_good.ensures c.if-not-given_good.false _ c.map_good.ensures c.if-not-map_good.false _ c.judge.ensures _ _ c.in-Tagged.is _ c.label_for.ensures c.in-Missing.is
 
 pub returns-in-Label : goal.returns-in-Label
-returns-in-Label c = put_out c.args.s c.args.map.now c.args.u c.args.f.now c.args.out.now _ c.settings_good.ensures c.if-not-settings_good.false _ c.given_good.ensures c.if-not-given_good.false _ c.map_good.ensures c.if-not-map_good.false _ c.judge.ensures _ _ c.in-Label.is _ c.label_for.ensures _ c.in-Label.is _ c.put_general.ensures
+returns-in-Label c = put_out c.args.s c.args.map.now c.args.u c.args.f.now c.args.out.now _ c.settings_good.ensures c.if-not-settings_good.false _ c.given_good.ensures c.if-not-given_good.false _ c.map_good.ensures c.if-not-map_good.false _ c.judge.ensures _ _ c.in-Tagged.is _ c.label_for.ensures _ c.in-Label.is _ c.put_general.ensures
