@@ -1,10 +1,12 @@
 #![tactic(auto)]
 
-ghost use Rattle.std.specs.Prelude.{◌/◌, ◌≤◌, true, ◌≡◌, length};
+ghost use Rattle.std.specs.Prelude.{◌/◌, ◌≤◌, true, ◌≡◌, length, IfOk};
 
 use frame::Settings;
 use ingress::Given;
 use port_map::PAIR_BYTES;
+use std::io;
+use std::io::{Read, Write};
 
 mod watched;
 
@@ -23,11 +25,10 @@ fn first(b: &[u8]) -> u64 {
 }
 
 // A character of standard input; 256 at its end.
-fn next_char() -> u64 {
+fn next_char(from: &mut impl Read) -> io::Result<u64> {
     let mut one = [0u8; 1];
-    let got = libc::read(0, &mut one);
-    let n = io::count(got, &one);
-    first(&one[..n])
+    let n = from.read(&mut one)?;
+    Ok(first(&one[..n]))
 }
 
 // The value of a hex digit; 16 for any other character, 17 at the end of the input.
@@ -53,63 +54,64 @@ fn digit_of(c: u64) -> u64
 }
 
 // The next hex digit; 17 at the end of the input. The turns are more than any input has characters: a proved loop has to end.
-fn next_digit() -> u64
-    ensures { result ≤ 17 }
+fn next_digit(from: &mut impl Read) -> io::Result<u64>
+    ensures { IfOk result (λ d. d ≤ 17) }
 {
     let mut turns = u64::MAX;
     while 0 < turns {
-        let d = digit_of(next_char());
+        let d = digit_of(next_char(from)?);
         if d != 16 {
-            return d;
+            return Ok(d);
         }
         turns -= 1;
     }
-    17
+    Ok(17)
 }
 
 // The next byte; 256 at the end of the input.
-fn next_byte() -> u64 {
-    let a = next_digit();
-    let b = next_digit();
+fn next_byte(from: &mut impl Read) -> io::Result<u64> {
+    let a = next_digit(from)?;
+    let b = next_digit(from)?;
     if (15 < a) | (15 < b) {
-        return 256;
+        return Ok(256);
     }
-    a * 16 + b
+    Ok(a * 16 + b)
 }
 
 // Fills an area, and answers whether the input held it all.
-fn fill(area: &mut [u8]) -> bool {
+fn fill(from: &mut impl Read, area: &mut [u8]) -> io::Result<bool> {
     let mut i = 0;
     while i < area.len() {
-        let b = next_byte();
+        let b = next_byte(from)?;
         if 255 < b {
-            return false;
+            return Ok(false);
         }
         area[i] = b as u8;
         i += 1;
     }
-    true
+    Ok(true)
 }
 
-fn print_bytes(b: &[u8]) {
-    io::write_all(1, &[b' ']);
+fn print_bytes(to: &mut impl Write, b: &[u8]) -> io::Result<()> {
+    to.write_all(&[b' '])?;
     let mut i = 0;
     while i < b.len() {
-        io::print_hex(1, numbers::wide(b[i]), 2);
+        write!(to, "{:02x}", b[i])?;
         i += 1;
     }
+    Ok(())
 }
 
 // Writes a line: the answer's word, the table, and the area that was lent.
-fn print_areas(word: u64, table: &[u8], out: &[u8]) {
-    io::print_hex(1, word, 16);
-    print_bytes(table);
-    print_bytes(out);
+fn print_areas(to: &mut impl Write, word: u64, table: &[u8], out: &[u8]) -> io::Result<()> {
+    write!(to, "{word:016x}")?;
+    print_bytes(to, table)?;
+    print_bytes(to, out)
 }
 
-fn print_call(word: u64, table: &[u8], out: &[u8]) {
-    print_areas(word, table, out);
-    io::write_all(1, &[b'\n']);
+fn print_call(to: &mut impl Write, word: u64, table: &[u8], out: &[u8]) -> io::Result<()> {
+    print_areas(to, word, table, out)?;
+    to.write_all(&[b'\n'])
 }
 
 // The six settings, at the start of a call's bytes.
@@ -127,7 +129,7 @@ fn settings_in(b: &[u8]) -> Settings
 }
 
 // 01: settings, the output area's length, the frame.
-fn read_frame(b: &[u8], table: &mut [u8], out: &mut [u8])
+fn read_frame(to: &mut impl Write, b: &[u8], table: &mut [u8], out: &mut [u8]) -> io::Result<()>
     requires { 34 ≤ length b.now }
 {
     let s = settings_in(b);
@@ -142,45 +144,50 @@ fn read_frame(b: &[u8], table: &mut [u8], out: &mut [u8])
         table,
         out,
     );
-    print_call(word, table, out);
+    print_call(to, word, table, out)
 }
 
-fn replay_receive(b: &[u8], table: &mut [u8], area: &mut [u8]) -> bool {
+fn replay_receive(
+    to: &mut impl Write,
+    b: &[u8],
+    table: &mut [u8],
+    area: &mut [u8],
+) -> io::Result<bool> {
     if b.len() < 34 {
-        return false;
+        return Ok(false);
     }
     let n = numbers::be2(b, 32) as usize;
     if area.len() < n {
-        return false;
+        return Ok(false);
     }
-    read_frame(b, table, &mut area[0..n]);
-    true
+    read_frame(to, b, table, &mut area[0..n])?;
+    Ok(true)
 }
 
 // 02: the ingress nickname, the payload.
-fn replay_flush(b: &[u8], table: &mut [u8]) -> bool {
+fn replay_flush(to: &mut impl Write, b: &[u8], table: &mut [u8]) -> io::Result<bool> {
     if b.len() < 4 {
-        return false;
+        return Ok(false);
     }
     let word = shinglebar::shinglebar_flush(numbers::be4(b, 0) as u32, &b[4..], table);
-    print_call(word, table, &b[..0]);
-    true
+    print_call(to, word, table, &b[..0])?;
+    Ok(true)
 }
 
 // 03: seconds.
-fn replay_age(b: &[u8], table: &mut [u8]) -> bool {
+fn replay_age(to: &mut impl Write, b: &[u8], table: &mut [u8]) -> io::Result<bool> {
     if b.len() < 2 {
-        return false;
+        return Ok(false);
     }
     let word = shinglebar::shinglebar_age(numbers::be2(b, 0) as u16, table);
-    print_call(word, table, &b[..0]);
-    true
+    print_call(to, word, table, &b[..0])?;
+    Ok(true)
 }
 
 // 04: label kind, label, address.
-fn replay_lookup(b: &[u8], table: &[u8]) -> bool {
+fn replay_lookup(to: &mut impl Write, b: &[u8], table: &[u8]) -> io::Result<bool> {
     if b.len() < 16 {
-        return false;
+        return Ok(false);
     }
     let word = shinglebar::shinglebar_lookup(
         numbers::be4(b, 0) as u32,
@@ -188,19 +195,19 @@ fn replay_lookup(b: &[u8], table: &[u8]) -> bool {
         numbers::be8(b, 8),
         table,
     );
-    print_call(word, table, &b[..0]);
-    true
+    print_call(to, word, table, &b[..0])?;
+    Ok(true)
 }
 
 // 05.
-fn replay_spoilt(b: &[u8], table: &[u8]) -> bool {
+fn replay_spoilt(to: &mut impl Write, b: &[u8], table: &[u8]) -> io::Result<bool> {
     let word = shinglebar::shinglebar_spoilt(table);
-    print_call(word, table, &b[..0]);
-    true
+    print_call(to, word, table, &b[..0])?;
+    Ok(true)
 }
 
 // 06: settings, the output area's length, the frame.
-fn compact_frame(b: &[u8], table: &[u8], out: &mut [u8])
+fn compact_frame(to: &mut impl Write, b: &[u8], table: &[u8], out: &mut [u8]) -> io::Result<()>
     requires { 34 ≤ length b.now }
 {
     let s = settings_in(b);
@@ -214,23 +221,28 @@ fn compact_frame(b: &[u8], table: &[u8], out: &mut [u8])
         &b[34..],
         out,
     );
-    print_call(word, table, out);
+    print_call(to, word, table, out)
 }
 
-fn replay_compact(b: &[u8], table: &[u8], area: &mut [u8]) -> bool {
+fn replay_compact(
+    to: &mut impl Write,
+    b: &[u8],
+    table: &[u8],
+    area: &mut [u8],
+) -> io::Result<bool> {
     if b.len() < 34 {
-        return false;
+        return Ok(false);
     }
     let n = numbers::be2(b, 32) as usize;
     if area.len() < n {
-        return false;
+        return Ok(false);
     }
-    compact_frame(b, table, &mut area[0..n]);
-    true
+    compact_frame(to, b, table, &mut area[0..n])?;
+    Ok(true)
 }
 
 // 07: settings, the outer source, whether it is tagged, the tag, the output area's length, the frame.
-fn expand_frame(b: &[u8], table: &[u8], out: &mut [u8])
+fn expand_frame(to: &mut impl Write, b: &[u8], table: &[u8], out: &mut [u8]) -> io::Result<()>
     requires { 50 ≤ length b.now }
 {
     let s = settings_in(b);
@@ -247,76 +259,76 @@ fn expand_frame(b: &[u8], table: &[u8], out: &mut [u8])
         &b[50..],
         out,
     );
-    print_call(word, table, out);
+    print_call(to, word, table, out)
 }
 
-fn replay_expand(b: &[u8], table: &[u8], area: &mut [u8]) -> bool {
+fn replay_expand(to: &mut impl Write, b: &[u8], table: &[u8], area: &mut [u8]) -> io::Result<bool> {
     if b.len() < 50 {
-        return false;
+        return Ok(false);
     }
     let n = numbers::be2(b, 48) as usize;
     if area.len() < n {
-        return false;
+        return Ok(false);
     }
-    expand_frame(b, table, &mut area[0..n]);
-    true
+    expand_frame(to, b, table, &mut area[0..n])?;
+    Ok(true)
 }
 
 // 08: settings, the working area's length, the frame. What the choosing function returns ends the line.
-fn send_frame(b: &[u8], table: &[u8], work: &mut [u8])
+fn send_frame(to: &mut impl Write, b: &[u8], table: &[u8], work: &mut [u8]) -> io::Result<()>
     requires { 34 ≤ length b.now }
 {
     let s = settings_in(b);
     let frame = &b[34..];
     let answer = convert_send::send(s, frame, work);
-    print_areas(shinglebar::send_word(answer), table, work);
-    print_bytes(convert_send::choose(answer, work, frame));
-    io::write_all(1, &[b'\n']);
+    print_areas(to, shinglebar::send_word(answer), table, work)?;
+    print_bytes(to, convert_send::choose(answer, work, frame))?;
+    to.write_all(&[b'\n'])
 }
 
-fn replay_send(b: &[u8], table: &[u8], area: &mut [u8]) -> bool {
+fn replay_send(to: &mut impl Write, b: &[u8], table: &[u8], area: &mut [u8]) -> io::Result<bool> {
     if b.len() < 34 {
-        return false;
+        return Ok(false);
     }
     let n = numbers::be2(b, 32) as usize;
     if area.len() < n {
-        return false;
+        return Ok(false);
     }
-    send_frame(b, table, &mut area[0..n]);
-    true
+    send_frame(to, b, table, &mut area[0..n])?;
+    Ok(true)
 }
 
 // 24.
-fn replay_free_slot(b: &[u8], table: &[u8]) -> bool {
+fn replay_free_slot(to: &mut impl Write, b: &[u8], table: &[u8]) -> io::Result<bool> {
     let word = shinglebar::shinglebar_free_slot(table);
-    print_call(word, table, &b[..0]);
-    true
+    print_call(to, word, table, &b[..0])?;
+    Ok(true)
 }
 
 // 12: the output area's length, the old table.
-fn widen_table(b: &[u8], table: &[u8], out: &mut [u8])
+fn widen_table(to: &mut impl Write, b: &[u8], table: &[u8], out: &mut [u8]) -> io::Result<()>
     requires { 2 ≤ length b.now }
 {
     let word = shinglebar::shinglebar_widen(&b[2..], out);
-    print_call(word, table, out);
+    print_call(to, word, table, out)
 }
 
-fn replay_widen(b: &[u8], table: &[u8], area: &mut [u8]) -> bool {
+fn replay_widen(to: &mut impl Write, b: &[u8], table: &[u8], area: &mut [u8]) -> io::Result<bool> {
     if b.len() < 2 {
-        return false;
+        return Ok(false);
     }
     let n = numbers::be2(b, 0) as usize;
     if area.len() < n {
-        return false;
+        return Ok(false);
     }
-    widen_table(b, table, &mut area[0..n]);
-    true
+    widen_table(to, b, table, &mut area[0..n])?;
+    Ok(true)
 }
 
 // 25: the ingress nickname, the slot, k, the payload.
-fn replay_portion(b: &[u8], table: &mut [u8]) -> bool {
+fn replay_portion(to: &mut impl Write, b: &[u8], table: &mut [u8]) -> io::Result<bool> {
     if b.len() < 20 {
-        return false;
+        return Ok(false);
     }
     let word = shinglebar::shinglebar_flush_portion(
         numbers::be4(b, 0) as u32,
@@ -325,14 +337,14 @@ fn replay_portion(b: &[u8], table: &mut [u8]) -> bool {
         numbers::be8(b, 12),
         table,
     );
-    print_call(word, table, &b[..0]);
-    true
+    print_call(to, word, table, &b[..0])?;
+    Ok(true)
 }
 
 // 28: the ingress nickname, the slot, the payload.
-fn replay_why(b: &[u8], table: &[u8]) -> bool {
+fn replay_why(to: &mut impl Write, b: &[u8], table: &[u8]) -> io::Result<bool> {
     if b.len() < 12 {
-        return false;
+        return Ok(false);
     }
     let word = shinglebar::shinglebar_why(
         numbers::be4(b, 0) as u32,
@@ -340,44 +352,52 @@ fn replay_why(b: &[u8], table: &[u8]) -> bool {
         numbers::be8(b, 4),
         table,
     );
-    print_call(word, table, &b[..0]);
-    true
+    print_call(to, word, table, &b[..0])?;
+    Ok(true)
 }
 
 // 13: the lengths of the lists of nicknames, VLAN blocks and fine-grained blocks, the output area's length, the four lists.
-fn write_lists(b: &[u8], n: usize, v: usize, f: usize, table: &[u8], out: &mut [u8])
+fn write_lists(
+    to: &mut impl Write,
+    b: &[u8],
+    n: usize,
+    v: usize,
+    f: usize,
+    table: &[u8],
+    out: &mut [u8],
+) -> io::Result<()>
     requires { ((8 ≤ n) × (n ≤ v)) × ((v ≤ f) × (f ≤ length b.now)) }
 {
     let word = shinglebar::shinglebar_write_flush(&b[8..n], &b[n..v], &b[v..f], &b[f..], out);
-    print_call(word, table, out);
+    print_call(to, word, table, out)
 }
 
-fn replay_write(b: &[u8], table: &[u8], area: &mut [u8]) -> bool {
+fn replay_write(to: &mut impl Write, b: &[u8], table: &[u8], area: &mut [u8]) -> io::Result<bool> {
     if b.len() < 8 {
-        return false;
+        return Ok(false);
     }
     let n = 8 + numbers::be2(b, 0) as usize;
     let v = n + numbers::be2(b, 2) as usize;
     let f = v + numbers::be2(b, 4) as usize;
     let room = numbers::be2(b, 6) as usize;
     if b.len() < f {
-        return false;
+        return Ok(false);
     }
     if area.len() < room {
-        return false;
+        return Ok(false);
     }
-    write_lists(b, n, v, f, table, &mut area[0..room]);
-    true
+    write_lists(to, b, n, v, f, table, &mut area[0..room])?;
+    Ok(true)
 }
 
 // 27: the ingress nickname, the payload.
-fn replay_vlan_only(b: &[u8], table: &mut [u8]) -> bool {
+fn replay_vlan_only(to: &mut impl Write, b: &[u8], table: &mut [u8]) -> io::Result<bool> {
     if b.len() < 4 {
-        return false;
+        return Ok(false);
     }
     let word = shinglebar::shinglebar_flush_vlan_only(numbers::be4(b, 0) as u32, &b[4..], table);
-    print_call(word, table, &b[..0]);
-    true
+    print_call(to, word, table, &b[..0])?;
+    Ok(true)
 }
 
 // The settings of a call with a map of whole pairs, and what it gives of the outer part.
@@ -417,7 +437,13 @@ fn whole_pairs(map: &[u8]) -> bool
 }
 
 // 09: settings, multihomed, smart, the lengths of the output area and of the map, the map, the frame; the map ends at e.
-fn read_bytes(b: &[u8], e: usize, table: &mut [u8], out: &mut [u8])
+fn read_bytes(
+    to: &mut impl Write,
+    b: &[u8],
+    e: usize,
+    table: &mut [u8],
+    out: &mut [u8],
+) -> io::Result<()>
     requires { (44 ≤ e) × (e ≤ length b.now) }
 {
     let s = port_settings_in(b);
@@ -435,43 +461,59 @@ fn read_bytes(b: &[u8], e: usize, table: &mut [u8], out: &mut [u8])
         table,
         out,
     );
-    print_call(word, table, out);
+    print_call(to, word, table, out)
 }
 
 // The same with the map as a slice of pairs, where it is of whole ones.
-fn read_mapped(b: &[u8], e: usize, table: &mut [u8], out: &mut [u8])
+fn read_mapped(
+    to: &mut impl Write,
+    b: &[u8],
+    e: usize,
+    table: &mut [u8],
+    out: &mut [u8],
+) -> io::Result<()>
     requires { (44 ≤ e) × (e ≤ length b.now) }
 {
     let map = &b[44..e];
     if !whole_pairs(map) {
-        read_bytes(b, e, table, out);
-        return;
+        return read_bytes(to, b, e, table, out);
     }
     let s = port_settings_in(b);
     let pairs = replay_pairs::pairs_in(map);
     let a = replay_pairs::read_pairs(s, pairs, map.len() / PAIR_BYTES, &b[e..], table, out);
-    print_call(shinglebar::read_word(a), table, out);
+    print_call(to, shinglebar::read_word(a), table, out)
 }
 
-fn replay_port(b: &[u8], table: &mut [u8], area: &mut [u8]) -> bool {
+fn replay_port(
+    to: &mut impl Write,
+    b: &[u8],
+    table: &mut [u8],
+    area: &mut [u8],
+) -> io::Result<bool> {
     if b.len() < 44 {
-        return false;
+        return Ok(false);
     }
     let n = numbers::be2(b, 40) as usize;
     if area.len() < n {
-        return false;
+        return Ok(false);
     }
     let e = 44 + numbers::be2(b, 42) as usize;
     if b.len() < e {
-        return false;
+        return Ok(false);
     }
-    read_mapped(b, e, table, &mut area[0..n]);
-    true
+    read_mapped(to, b, e, table, &mut area[0..n])?;
+    Ok(true)
 }
 
 // 0a: settings, outer destination and source, M, hop count, egress and ingress nickname, the lengths of the output area and of the map,
 // the map, the frame; the map ends at e.
-fn take_bytes(b: &[u8], e: usize, table: &[u8], out: &mut [u8])
+fn take_bytes(
+    to: &mut impl Write,
+    b: &[u8],
+    e: usize,
+    table: &[u8],
+    out: &mut [u8],
+) -> io::Result<()>
     requires { (68 ≤ e) × (e ≤ length b.now) }
 {
     let s = settings_in(b);
@@ -493,232 +535,279 @@ fn take_bytes(b: &[u8], e: usize, table: &[u8], out: &mut [u8])
         &b[e..],
         out,
     );
-    print_call(word, table, out);
+    print_call(to, word, table, out)
 }
 
 // The same with the map as a slice of pairs, where it is of whole ones.
-fn take_in(b: &[u8], e: usize, table: &[u8], out: &mut [u8])
+fn take_in(to: &mut impl Write, b: &[u8], e: usize, table: &[u8], out: &mut [u8]) -> io::Result<()>
     requires { (68 ≤ e) × (e ≤ length b.now) }
 {
     let map = &b[68..e];
     if !whole_pairs(map) {
-        take_bytes(b, e, table, out);
-        return;
+        return take_bytes(to, b, e, table, out);
     }
     let s = settings_in(b);
     let u = given_in(b);
     let pairs = replay_pairs::pairs_in(map);
     let a = replay_pairs::take_pairs(s, pairs, map.len() / PAIR_BYTES, u, &b[e..], out);
-    print_call(shinglebar::convert_word(a), table, out);
+    print_call(to, shinglebar::convert_word(a), table, out)
 }
 
-fn replay_ingress(b: &[u8], table: &[u8], area: &mut [u8]) -> bool {
+fn replay_ingress(
+    to: &mut impl Write,
+    b: &[u8],
+    table: &[u8],
+    area: &mut [u8],
+) -> io::Result<bool> {
     if b.len() < 68 {
-        return false;
+        return Ok(false);
     }
     let n = numbers::be2(b, 64) as usize;
     if area.len() < n {
-        return false;
+        return Ok(false);
     }
     let e = 68 + numbers::be2(b, 66) as usize;
     if b.len() < e {
-        return false;
+        return Ok(false);
     }
-    take_in(b, e, table, &mut area[0..n]);
-    true
+    take_in(to, b, e, table, &mut area[0..n])?;
+    Ok(true)
 }
 
 // 2d: the contents area's length, the payload.
-fn read_hello(b: &[u8], table: &[u8], contents: &mut [u8])
+fn read_hello(to: &mut impl Write, b: &[u8], table: &[u8], contents: &mut [u8]) -> io::Result<()>
     requires { 2 ≤ length b.now }
 {
     let word = shinglebar::shinglebar_hello_read(&b[2..], contents);
-    print_call(word, table, contents);
+    print_call(to, word, table, contents)
 }
 
-fn replay_hello(b: &[u8], table: &[u8], area: &mut [u8]) -> bool {
+fn replay_hello(to: &mut impl Write, b: &[u8], table: &[u8], area: &mut [u8]) -> io::Result<bool> {
     if b.len() < 2 {
-        return false;
+        return Ok(false);
     }
     let n = numbers::be2(b, 0) as usize;
     if area.len() < n {
-        return false;
+        return Ok(false);
     }
-    read_hello(b, table, &mut area[0..n]);
-    true
+    read_hello(to, b, table, &mut area[0..n])?;
+    Ok(true)
 }
 
 // 3d: the output area's length, the contents area.
-fn write_hello(b: &[u8], table: &[u8], out: &mut [u8])
+fn write_hello(to: &mut impl Write, b: &[u8], table: &[u8], out: &mut [u8]) -> io::Result<()>
     requires { 2 ≤ length b.now }
 {
     let word = shinglebar::shinglebar_hello_write(&b[2..], out);
-    print_call(word, table, out);
+    print_call(to, word, table, out)
 }
 
-fn replay_hello_write(b: &[u8], table: &[u8], area: &mut [u8]) -> bool {
+fn replay_hello_write(
+    to: &mut impl Write,
+    b: &[u8],
+    table: &[u8],
+    area: &mut [u8],
+) -> io::Result<bool> {
     if b.len() < 2 {
-        return false;
+        return Ok(false);
     }
     let n = numbers::be2(b, 0) as usize;
     if area.len() < n {
-        return false;
+        return Ok(false);
     }
-    write_hello(b, table, &mut area[0..n]);
-    true
+    write_hello(to, b, table, &mut area[0..n])?;
+    Ok(true)
 }
 
 // 2e: the output area's length.
-fn write_report(table: &[u8], out: &mut [u8]) {
+fn write_report(to: &mut impl Write, table: &[u8], out: &mut [u8]) -> io::Result<()> {
     let word = shinglebar::shinglebar_report(table, out);
-    print_call(word, table, out);
+    print_call(to, word, table, out)
 }
 
-fn replay_report(b: &[u8], table: &[u8], area: &mut [u8]) -> bool {
+fn replay_report(to: &mut impl Write, b: &[u8], table: &[u8], area: &mut [u8]) -> io::Result<bool> {
     if b.len() < 2 {
-        return false;
+        return Ok(false);
     }
     let n = numbers::be2(b, 0) as usize;
     if area.len() < n {
-        return false;
+        return Ok(false);
     }
-    write_report(table, &mut area[0..n]);
-    true
+    write_report(to, table, &mut area[0..n])?;
+    Ok(true)
 }
 
 // The calls of document 02 that are numbered 20 and the request, a second one of it 30 and the request.
-fn replay_numbered(kind: u64, b: &[u8], table: &mut [u8], area: &mut [u8]) -> bool {
+fn replay_numbered(
+    to: &mut impl Write,
+    kind: u64,
+    b: &[u8],
+    table: &mut [u8],
+    area: &mut [u8],
+) -> io::Result<bool> {
     if kind == WRITE {
-        return replay_write(b, table, area);
+        return replay_write(to, b, table, area);
     }
     if kind == 0x24 {
-        return replay_free_slot(b, table);
+        return replay_free_slot(to, b, table);
     }
     if kind == 0x25 {
-        return replay_portion(b, table);
+        return replay_portion(to, b, table);
     }
     if kind == 0x27 {
-        return replay_vlan_only(b, table);
+        return replay_vlan_only(to, b, table);
     }
     if kind == 0x28 {
-        return replay_why(b, table);
+        return replay_why(to, b, table);
     }
     if kind == 0x2d {
-        return replay_hello(b, table, area);
+        return replay_hello(to, b, table, area);
     }
     if kind == 0x2e {
-        return replay_report(b, table, area);
+        return replay_report(to, b, table, area);
     }
     if kind == 0x3d {
-        return replay_hello_write(b, table, area);
+        return replay_hello_write(to, b, table, area);
     }
-    false
+    Ok(false)
 }
 
 // The calls of document 02.
-fn replay_later(kind: u64, b: &[u8], table: &mut [u8], area: &mut [u8]) -> bool {
+fn replay_later(
+    to: &mut impl Write,
+    kind: u64,
+    b: &[u8],
+    table: &mut [u8],
+    area: &mut [u8],
+) -> io::Result<bool> {
     if kind == 0x09 {
-        return replay_port(b, table, area);
+        return replay_port(to, b, table, area);
     }
     if kind == 0x0a {
-        return replay_ingress(b, table, area);
+        return replay_ingress(to, b, table, area);
     }
     if kind == 0x12 {
-        return replay_widen(b, table, area);
+        return replay_widen(to, b, table, area);
     }
     if kind == 0x60 {
-        return watched::replay_watch(b, table);
+        return watched::replay_watch(to, b, table);
     }
     if kind == 0x61 {
-        return watched::replay_send(b, table, area);
+        return watched::replay_send(to, b, table, area);
     }
-    replay_numbered(kind, b, table, area)
+    replay_numbered(to, kind, b, table, area)
 }
 
 // Makes a call and writes what it gave; false where there is no such call.
-fn replay_call(kind: u64, b: &[u8], table: &mut [u8], area: &mut [u8]) -> bool {
+fn replay_call(
+    to: &mut impl Write,
+    kind: u64,
+    b: &[u8],
+    table: &mut [u8],
+    area: &mut [u8],
+) -> io::Result<bool> {
     if kind == 1 {
-        return replay_receive(b, table, area);
+        return replay_receive(to, b, table, area);
     }
     if kind == 2 {
-        return replay_flush(b, table);
+        return replay_flush(to, b, table);
     }
     if kind == 3 {
-        return replay_age(b, table);
+        return replay_age(to, b, table);
     }
     if kind == 4 {
-        return replay_lookup(b, table);
+        return replay_lookup(to, b, table);
     }
     if kind == 5 {
-        return replay_spoilt(b, table);
+        return replay_spoilt(to, b, table);
     }
     if kind == 6 {
-        return replay_compact(b, table, area);
+        return replay_compact(to, b, table, area);
     }
     if kind == 7 {
-        return replay_expand(b, table, area);
+        return replay_expand(to, b, table, area);
     }
     if kind == 8 {
-        return replay_send(b, table, area);
+        return replay_send(to, b, table, area);
     }
-    replay_later(kind, b, table, area)
+    replay_later(to, kind, b, table, area)
 }
 
 // The length of the next call's numbers and bytes; the largest number where the input ended.
-fn next_length() -> usize {
-    let a = next_byte();
-    let b = next_byte();
+fn next_length(from: &mut impl Read) -> io::Result<usize> {
+    let a = next_byte(from)?;
+    let b = next_byte(from)?;
     if 255 < a {
-        return usize::MAX;
+        return Ok(usize::MAX);
     }
     if 255 < b {
-        return usize::MAX;
+        return Ok(usize::MAX);
     }
-    a as usize * 0x100 + b as usize
+    Ok(a as usize * 0x100 + b as usize)
 }
 
 // Makes a call on the table's first bytes, or makes the table these bytes (00), and answers the table's length then; the largest number
 // where there is no such call.
-fn step(kind: u64, b: &[u8], table: &mut [u8], size: usize, area: &mut [u8]) -> usize
+fn step(
+    to: &mut impl Write,
+    kind: u64,
+    b: &[u8],
+    table: &mut [u8],
+    size: usize,
+    area: &mut [u8],
+) -> io::Result<usize>
     requires { (length b.now ≤ length table.old) × (size ≤ length table.old) }
 {
     if kind == 0 {
         frame_copy::copy_at(b, table, 0);
-        return b.len();
+        return Ok(b.len());
     }
-    if replay_call(kind, b, &mut table[0..size], area) {
-        return size;
+    if replay_call(to, kind, b, &mut table[0..size], area)? {
+        return Ok(size);
     }
-    usize::MAX
+    Ok(usize::MAX)
 }
 
 // Replays the calls up to the end of the input, or up to one that is in no form.
-fn replay(body: &mut [u8], table: &mut [u8], area: &mut [u8]) {
+fn replay(
+    from: &mut impl Read,
+    to: &mut impl Write,
+    body: &mut [u8],
+    table: &mut [u8],
+    area: &mut [u8],
+) -> io::Result<()> {
     let mut size = 0;
     let mut turns = u64::MAX;
     while 0 < turns {
-        let kind = next_byte();
-        let n = next_length();
+        let kind = next_byte(from)?;
+        let n = next_length(from)?;
         if body.len() < n {
-            return;
+            return Ok(());
         }
         if table.len() < n {
-            return;
+            return Ok(());
         }
-        if !fill(&mut body[0..n]) {
-            return;
+        if !fill(from, &mut body[0..n])? {
+            return Ok(());
         }
-        size = step(kind, &body[0..n], table, size, area);
+        size = step(to, kind, &body[0..n], table, size, area)?;
         if table.len() < size {
-            return;
+            return Ok(());
         }
         turns -= 1;
     }
+    Ok(())
 }
 
-fn main() {
+fn main(rt: HostRuntime) -> io::Result<()> {
     let mut body = [0u8; 1024];
     let mut table = [0u8; 1024];
     let mut area = [0u8; 9216];
-    replay(&mut body, &mut table, &mut area);
+    replay(
+        &mut rt.stdin(),
+        &mut rt.stdout(),
+        &mut body,
+        &mut table,
+        &mut area,
+    )
 }

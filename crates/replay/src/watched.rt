@@ -2,13 +2,15 @@
 ghost use Rattle.std.specs.Prelude.{◌≤◌, length};
 
 use shinglebar::watched::Held;
+use std::io;
+use std::io::Write;
 
 // The two numbers of a watch end the line.
-fn print_watch(h: Held) {
-    io::write_all(1, &[b' ']);
-    io::print_hex(1, h.left as u64, 8);
-    io::print_hex(1, h.reading as u64, 8);
-    io::write_all(1, &[b'\n']);
+fn print_watch(to: &mut impl Write, h: Held) -> io::Result<()> {
+    to.write_all(&[b' '])?;
+    write!(to, "{:08x}", h.left)?;
+    write!(to, "{:08x}", h.reading)?;
+    to.write_all(&[b'\n'])
 }
 
 // The watch, the reading brought, which call it is, the kind of event and its time.
@@ -35,18 +37,18 @@ fn watch_call(b: &[u8]) -> Held
 }
 
 // 60: reset, tick or event.
-pub fn replay_watch(b: &[u8], table: &[u8]) -> bool {
+pub fn replay_watch(to: &mut impl Write, b: &[u8], table: &[u8]) -> io::Result<bool> {
     if b.len() < 19 {
-        return false;
+        return Ok(false);
     }
     let h = watch_call(b);
-    crate::print_areas(h.word, table, &b[..0]);
-    print_watch(h);
-    true
+    crate::print_areas(to, h.word, table, &b[..0])?;
+    print_watch(to, h)?;
+    Ok(true)
 }
 
 // 61: the watch, the reading brought, settings, the working area's length, the frame.
-fn send_frame(b: &[u8], table: &[u8], work: &mut [u8])
+fn send_frame(to: &mut impl Write, b: &[u8], table: &[u8], work: &mut [u8]) -> io::Result<()>
     requires { 46 ≤ length b.now }
 {
     let s = crate::settings_in(&b[12..]);
@@ -63,18 +65,23 @@ fn send_frame(b: &[u8], table: &[u8], work: &mut [u8])
         &b[46..],
         work,
     );
-    crate::print_areas(h.word, table, work);
-    print_watch(h);
+    crate::print_areas(to, h.word, table, work)?;
+    print_watch(to, h)
 }
 
-pub fn replay_send(b: &[u8], table: &[u8], area: &mut [u8]) -> bool {
+pub fn replay_send(
+    to: &mut impl Write,
+    b: &[u8],
+    table: &[u8],
+    area: &mut [u8],
+) -> io::Result<bool> {
     if b.len() < 46 {
-        return false;
+        return Ok(false);
     }
     let n = numbers::be2(b, 44) as usize;
     if area.len() < n {
-        return false;
+        return Ok(false);
     }
-    send_frame(b, table, &mut area[0..n]);
-    true
+    send_frame(to, b, table, &mut area[0..n])?;
+    Ok(true)
 }
