@@ -20,7 +20,6 @@ use Rattle.table.specs.Record.{unpacked}
 use Rattle.table.specs.Slots.{slot_bytes, most_slots, table_good, slots_of, slot_at}
 use Rattle.table.specs.declared.Label.{Label}
 use Rattle.table.specs.declared.Entry.{Entry}
-use Rattle.table.specs.declared.Slot.TheVariants as slot
 use Rattle.flush.specs.Payload.{every_type, Piece, corrupt, nick_bytes, block_count, behind, block_bytes, pieces_of, Payload, made, payload_of}
 use Rattle.flush.specs.Meaning.{brings_label, brings_mac, gathers_mac, nickname_meant, label_meant, mac_meant}
 use Rattle.flush.specs.Sets.{Some, BringsLabel, BringsMac, GathersMac, Meant}

@@ -1,11 +1,8 @@
 -- `flush_keys::keep_others` meets its contract. The invariant: what is marked and the slots from `i` on make up the whole.
-use Prim.Native.Nat.{◌-◌, ◌<◌}
+use Prim.Native.Nat.{◌-◌}
 use native.Mathlib.Omega.{arith}
-use lib.ListN.{get_or}
-use Rattle.table.specs.Slots.{most_slots}
 use Rattle.flush_keys.proofs.Fields.{slot_room, slot_few}
 use Rattle.flush_keys.proofs.Marking.{joining_start, without_none, without_passed, without_added, joining_done}
-use borrow.Author.Rules.{rules}
 use Rattle.flush_keys.proofs.keep_others.Goals as goal
 
 pub returns-in_default : goal.returns-in_default

@@ -1,10 +1,7 @@
 -- `flush_keys::keys_of` meets its contract. The invariant: the first `n` keys and the slots from `i` on make up the whole.
-use Prim.Native.Nat.{◌+◌, ◌-◌, ◌*◌, ◌<◌, ◌≤◌}
+use Prim.Native.Nat.{◌-◌}
 use mathlib.Core.Path.{refl}
 use native.Mathlib.Omega.{arith}
-use lib.ListN.{length, get_or}
-use Rattle.table.specs.Record.{record_bytes}
-use Rattle.table.specs.Slots.{slot_bytes, most_slots}
 use Rattle.flush_keys.proofs.Fields.{slot_room, slot_few}
 use Rattle.flush_keys.proofs.Making.{applies_at, making_start, keys_next, making_done}
 use borrow.Author.Rules.{rules}
