@@ -17,7 +17,7 @@ use Rattle.table_search.proofs.find_pair.Goals as goal
 
 -- a good record can hold them
 pair : (kind label mac : ℕ) → (kind ≤ 1) × ((label < 2 ^ 24) × (mac < 2 ^ 48)) → (good : Bool) → good ≡ pair_good (label_from kind label) mac → good ≡ true → Pair kind label mac
-pair kind label mac small good e yes = record { kind_small = small.0; label_small = small.1.0; mac_small = small.1.1; good = sym e ∙ yes }
+pair kind label mac small good e h = record { kind_small = small.0; label_small = small.1.0; mac_small = small.1.1; good = sym e ∙ h }
 
 -- there is none before slot 0
 none : (p : List ℕ → Bool) (t : List ℕ) → first_slot p 0 t ≡ Nowhere
