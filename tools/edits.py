@@ -83,9 +83,10 @@ def turned(commit, edits):
 
 def carried(before, now, wrong):
     """The line `wrong`, changed in the one place in which `now` differs from `before`; None where it hasn't that place once."""
-    first = len(os.path.commonprefix([before, now]))
-    last = len(os.path.commonprefix([before[first:][::-1], now[first:][::-1]]))
-    old, new = before[first : len(before) - last], now[first : len(now) - last]
+    words = [re.findall(r"\w+|\W", it) for it in (before, now)]
+    first = len(os.path.commonprefix(words))
+    last = len(os.path.commonprefix([it[first:][::-1] for it in words]))
+    old, new = ("".join(it[first : len(it) - last]) for it in words)
     return wrong.replace(old, new) if old and wrong.count(old) == 1 else None
 
 
