@@ -1,5 +1,0 @@
--- `shinglebar::report_word` meets its contract: each case has its word.
-use Rattle.shinglebar.proofs.report_word.Goals as goal
-
-pub returns-in-Written : goal.returns-in-Written
-returns-in-Written c = rw c.in-Written.is
