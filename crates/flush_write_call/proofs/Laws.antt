@@ -341,10 +341,10 @@ module _ (ns vs fs ms out : List ℕ) where
 -- the same, with the answer g of the tests
 good_was : (g b : Bool) → g ≡ b → g ≡ true → b ≡ true
 good_was true b e h = sym e
-good_was false b e h = false_true (sym h)
+good_was false b e h = false_true h
 
 bad_was : (g b : Bool) → g ≡ b → g ≡ false → b ≡ false
-bad_was true b e h = false_true h
+bad_was true b e h = false_true (sym h)
 bad_was false b e h = sym e
 
 module _ (ns vs fs ms : List ℕ) (g : Bool) (is : g ≡ lists_good ns vs fs ms) where
