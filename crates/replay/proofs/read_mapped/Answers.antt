@@ -1,4 +1,4 @@
--- `replay::read_mapped` meets its contract: the pairs are no more than there is room for, and the label of what is delivered fits its word.
+-- `replay::read_mapped` meets its contract: the label of what is delivered fits its word.
 use mathlib.Core.Path.{sym, ap, subst}
 use Rattle.numbers.specs.After.{OnBoth}
 use Rattle.receive.proofs.Outcomes.{read_fits}
@@ -6,9 +6,5 @@ use Rattle.receive.specs.declared.ReadAnswer.{ReadAnswer}
 use Rattle.receive.specs.Words.{LabelFits}
 use Rattle.replay.proofs.read_mapped.Goals as goal
 
-pub read_pairs-a-requires : goal.read_pairs-a-requires
-read_pairs-a-requires c =
-    c.whole_pairs.ensures c.if-not-whole_pairs.false
-
 pub read_word-requires : goal.read_word-requires
-read_word-requires c = subst LabelFits (sym (ap (λ (x : OnBoth ReadAnswer). x.answer) c.read_pairs-a.ensures)) (read_fits _ _ _ _ _)
+read_word-requires g c = subst LabelFits (sym (ap (λ (x : OnBoth ReadAnswer). x.answer) c.read_pairs-a.ensures)) (read_fits _ _ _ _ _)
