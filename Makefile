@@ -1,7 +1,7 @@
 # Shinglebar. `make test` is the gate that every change passes.
 .PHONY: test run driver report install lab fuzz fuzzer bench archive vectors captures outside outside-write fmt
 
-# What `make run` says first: the minutes that `rt staticlib shinglebar` takes from nothing on two cores.
+# What `make run` says first: the minutes that `make archive` takes from nothing on two cores.
 PROVING_MINUTES = 9
 # What `make test` says first: the minutes of the whole gate on two cores.
 GATE_MINUTES = 40
@@ -29,10 +29,11 @@ test:
 
 # Proves the crates and writes the static library target/staticlib/libshinglebar.a.
 archive:
-	rt staticlib shinglebar
+	cd crates/shinglebar_c && rt lib
+	install -D -m 644 crates/shinglebar_c/out/libshinglebar_c.a $(ARCHIVE)
 
 $(ARCHIVE):
-	rt staticlib shinglebar
+	@$(MAKE) --no-print-directory archive
 
 # Builds everything and runs the port driver on the captures of driver/data.
 run:
@@ -54,8 +55,10 @@ report: $(REPORT)
 	@[ -n "$(TABLE)" ] || { echo "make report: TABLE=file is needed" >&2; exit 1; }
 	@if [ "$$(head -c 20 "$(TABLE)" | tr -d '\0')" = "shinglebar table 15" ]; then tail -c +21 "$(TABLE)"; else cat "$(TABLE)"; fi | $(REPORT)
 
-$(REPORT):
-	rt check morning_report
+# The programs, each run once on its own input; proves them only where they are not built.
+target/bin/%:
+	cd crates/$* && rt run <stdin >/dev/null
+	install -D crates/$*/out/$* $@
 
 # Installs header, archive, driver, pkg-config file and man page; proves the library only where there is no archive.
 install: $(DRIVER) $(MADE)/shinglebar-port.1
@@ -119,4 +122,4 @@ outside-write: archive
 
 # Lays out the Rattle and antt files.
 fmt:
-	rt fmt
+	for crate in crates/*/; do (cd "$$crate" && rt fmt) || exit 1; done

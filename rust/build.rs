@@ -18,7 +18,7 @@ fn main() {
     println!("cargo:rerun-if-changed={}", archive.display());
     if !archive.is_file() {
         panic!(
-            "{} is missing: run `rt staticlib shinglebar` first",
+            "{} is missing: run `make archive` first",
             archive.display()
         );
     }

@@ -14,12 +14,13 @@ fn read(path: &str) -> String {
     fs::read_to_string(root().join(path)).unwrap_or_else(|error| panic!("{path}: {error}"))
 }
 
-/// The crates that crates.txt lists.
+/// The crates that crates.txt lists: `NAME: LIBRARY ..`, or `NAME staticlib: LIBRARY ..`.
 fn crates() -> Vec<String> {
     let listed = read("crates.txt");
     let lines = listed.lines().filter(|line| !line.starts_with('#'));
     let names = lines.filter_map(|line| line.split_once(':'));
-    names.map(|(name, _)| name.to_string()).collect()
+    let names = names.filter_map(|(name, _)| name.split(' ').next());
+    names.map(str::to_string).collect()
 }
 
 /// The code of a crate: its src/*.rt in one.
@@ -34,15 +35,15 @@ fn code(name: &str) -> String {
     files.iter().map(text).collect()
 }
 
-/// The theorems that the `claims()` of a crate ensures: what stands between the brackets, one `×` after another.
+/// The theorems that the `claims()` of a crate ensures: what stands in the braces of its clauses, one `×` after another.
 fn claimed(name: &str) -> BTreeSet<String> {
     let code = code(name);
     let Some((_, claims)) = code.split_once("pub fn claims()") else {
         return BTreeSet::new();
     };
     let contract = claims.split("\n{").next().expect("a contract");
-    let facts = contract.split('⌜').skip(1);
-    let facts = facts.map(|fact| fact.split('⌝').next().expect("its end"));
+    let facts = contract.split('{').skip(1);
+    let facts = facts.map(|fact| fact.split('}').next().expect("its end"));
     facts
         .flat_map(|fact| fact.split('×'))
         .map(|theorem| theorem.trim().to_string())

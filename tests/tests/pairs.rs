@@ -28,12 +28,12 @@ const INGRESS_HEAD: usize = 68;
 /// The least that is kept for the frame.
 const FRAME: usize = 30;
 
-/// The program, which `rt check replay` and the gate build.
+/// The program, which `make target/bin/replay` and the gate build.
 fn program() -> PathBuf {
     let program = Path::new(env!("SHINGLEBAR_ARCHIVE")).with_file_name("../bin/replay");
     assert!(
         program.is_file(),
-        "{} is missing: run `rt check replay` first",
+        "{} is missing: run `make target/bin/replay` first",
         program.display()
     );
     program

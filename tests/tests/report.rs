@@ -309,12 +309,12 @@ fn root() -> PathBuf {
     Path::new(env!("CARGO_MANIFEST_DIR")).join("..")
 }
 
-/// The program, which `rt check morning_report` and the gate build.
+/// The program, which `make target/bin/morning_report` and the gate build.
 fn program() -> PathBuf {
     let program = Path::new(env!("SHINGLEBAR_ARCHIVE")).with_file_name("../bin/morning_report");
     assert!(
         program.is_file(),
-        "{} is missing: run `rt check morning_report` first",
+        "{} is missing: run `make target/bin/morning_report` first",
         program.display()
     );
     program
