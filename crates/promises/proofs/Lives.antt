@@ -36,7 +36,7 @@ module _ (s : Settings) where
   calls_as_before : (t : List ℕ) (cs : List Call) → run_with default_life (passing 300 s) t cs ≡ run_with old_life (passing 0 s) t cs
   unfolding run_with
   calls_as_before t [] = refl
-  calls_as_before t (c ∷ cs) = rw (call_as_before t c) (ap (λ (r : List Seen). called_with old_life (passing 0 s) t c ∷ r) (calls_as_before _ cs))
+  calls_as_before t (c ∷ cs) = rw (call_as_before t c) (ap (λ (r : List Seen). called_with old_life (passing 0 s) t c ∷ r) (calls_as_before (called_with old_life (passing 0 s) t c).table cs))
 
   compaction_as_before : (f area : List ℕ) → compacted (passing 300 s) f area ≡ compacted (passing 0 s) f area
   unfolding compacted compacting general_fields stays_general front_of settings_good addresses_good numbers_good later_good seconds_good both either between
@@ -82,7 +82,7 @@ module _ (s : Settings) (some : s.seconds ≡ 0 → ⊥) where
   calls_stay : (t : List ℕ) (cs : List Call) → run_with default_life s t cs ≡ run_with old_life s t cs
   unfolding run_with
   calls_stay t [] = refl
-  calls_stay t (c ∷ cs) = rw (call_stays t c) (ap (λ (r : List Seen). called_with old_life s t c ∷ r) (calls_stay _ cs))
+  calls_stay t (c ∷ cs) = rw (call_stays t c) (ap (λ (r : List Seen). called_with old_life s t c ∷ r) (calls_stay (called_with old_life s t c).table cs))
 
 pub other_lives_stay : OtherLivesStay
 unfolding run

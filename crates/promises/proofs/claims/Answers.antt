@@ -89,34 +89,16 @@ stays-configured = record {
 }
 
 pub returns : goal.returns
-returns c = (
-  (interchange, example_holds, expand_compacted, compact-expanded, refusals, validity, flush_exact, read_flush_exact, padded_flush, padded_read, reads_exactly, homes, widened_same, unmarked_as_before, none_as_before, homes_examples, marked_read, free_slot-found, stays-spoilt, stays-configured, sends_exactly, room_for_compaction, send_room, chosen-sent, control_never_compact, life_as_before, other_lives_stay, search_inverse, no_map_no_change, map_round_trip, smart_port, cases_hold, control_cases, map_cases),
-  (
-    (read_refusal, flush_refusal, ageing_refusal, widening_refusal, convert_refusals, ingress_refusal, reading-apart, flushing_keeps_apart, ageing_apart, learning_apart, reading_leaves_alone, flushing_leaves_alone, ageing_leaves_alone, learning_leaves_alone),
-    (
-      (portion_exact, portions_whole, portions_reach, portions_end, later, passed, portion_refusal, portion_keeps_apart, portion_leaves_alone),
-      (
-        (full_model, vlan_only, not_promised),
-        (
-          (why_exact, why_first, why_places, why_refusals, why_cases),
-          (
-            (blocks_hold, maps_hold, unpack_packed, pack_unpacked, kept_writes_nothing, header_local, label_local, labels_good, reads_same, reads_parsed),
-            (
-              (writer_exact, writer_clears, writer_length, writer_calls, writer_cases),
-              (
-                (report_adds_up, report_rising, report_case, digits_read_back, report_fits),
-                (
-                  (stop_never_shortened, stop_runs_out, sending_while_stopped, refused_watch_stays, watch_cases),
-                  (
-                    (written_hello_reads, read_hello_writes, read_is_writable, written_are_bytes, written_is_plain, area_is, calls_undo, hello_refusal, entries_are, worked.cases_hold),
-                    pair_bytes_lem,
-                  ),
-                ),
-              ),
-            ),
-          ),
-        ),
-      ),
-    ),
-  ),
-)
+returns c = record {
+  demands = (interchange, example_holds, expand_compacted, compact-expanded, refusals, validity, flush_exact, read_flush_exact, padded_flush, padded_read, reads_exactly, homes, widened_same, unmarked_as_before, none_as_before, homes_examples, marked_read, free_slot-found, stays-spoilt, stays-configured, sends_exactly, room_for_compaction, send_room, chosen-sent, control_never_compact, life_as_before, other_lives_stay, search_inverse, no_map_no_change, map_round_trip, smart_port, cases_hold, control_cases, map_cases);
+  calls = (read_refusal, flush_refusal, ageing_refusal, widening_refusal, convert_refusals, ingress_refusal, reading-apart, flushing_keeps_apart, ageing_apart, learning_apart, reading_leaves_alone, flushing_leaves_alone, ageing_leaves_alone, learning_leaves_alone);
+  portions = (portion_exact, portions_whole, portions_reach, portions_end, later, passed, portion_refusal, portion_keeps_apart, portion_leaves_alone);
+  models = (full_model, vlan_only, not_promised);
+  reasons = (why_exact, why_first, why_places, why_refusals, why_cases);
+  laws = (blocks_hold, maps_hold, unpack_packed, pack_unpacked, kept_writes_nothing, header_local, label_local, labels_good, reads_same, reads_parsed);
+  writing = (writer_exact, writer_clears, writer_length, writer_calls, writer_cases);
+  reporting = (report_adds_up, report_rising, report_case, digits_read_back, report_fits);
+  watching = (stop_never_shortened, stop_runs_out, sending_while_stopped, refused_watch_stays, watch_cases);
+  hellos = (written_hello_reads, read_hello_writes, read_is_writable, written_are_bytes, written_is_plain, area_is, calls_undo, hello_refusal, entries_are, worked.cases_hold);
+  pairs = pair_bytes_lem;
+}
