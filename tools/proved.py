@@ -132,7 +132,7 @@ def try_programs(crate, programs):
 
 # An error is none of a fact if it says that a name is gone, that something else was not admitted, or that a search broke off.
 NO_FACT = re.compile(r"has no field|has no `|is not in scope|can be named|was not admitted|was rejected|was refused, and|give the call less to do|ran out of|broke off")
-# A goal that a callee's `requires` makes is none either.
+# A goal that a callee's `requires` makes is none either where a search leaves it open; an answer of the file's own that fails there is one.
 DEMAND = re.compile(r"-requires\b")
 ERROR = re.compile(r"(?:\./)?proofs/(\S+)/(?:Answers|Invariants|Proof)\.antt:\d+:\d+: error: (?:`([^`]*)`: )?(.*)")
 # What a search did not prove, above the line of the function.
@@ -144,7 +144,8 @@ def facts(crate, said):
     found, left = {}, []
     for line in said.split("\n"):
         error, goal, function = ERROR.match(line), OPEN.match(line), re.match(r"fn (\S+): (\w+ \w+|\w+)", line)
-        if error and not NO_FACT.search(error[3]) and not DEMAND.search(error[2] or ""):
+        searched = error and re.match(r"`?search`?: ", error[3])
+        if error and not NO_FACT.search(error[3]) and not (searched and DEMAND.search(error[2] or "")):
             found.setdefault(error[1].replace("/", "::"), []).append(error[2] or error[3])
         elif goal:
             left.append(goal[1])
