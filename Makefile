@@ -1,10 +1,10 @@
 # Shinglebar. `make test` is the gate that every change passes.
 .PHONY: test run driver report install lab fuzz fuzzer bench archive vectors captures outside outside-write fmt
 
-# What `make run` says first: the minutes that `make archive` takes from nothing on two cores.
-PROVING_MINUTES = 9
-# What `make test` says first: the minutes of the whole gate on two cores.
-GATE_MINUTES = 40
+# What `make run` says first: about the minutes that `make archive` takes on two cores where nothing is proved yet.
+PROVING_MINUTES = 30
+# What `make test` says first: about the minutes of the whole gate on two cores where nothing is proved yet.
+GATE_MINUTES = 60
 
 ARCHIVE = target/staticlib/libshinglebar.a
 DRIVER = target/driver/shinglebar-port
@@ -22,9 +22,9 @@ LIBDIR = $(PREFIX)/lib
 INCLUDEDIR = $(PREFIX)/include
 MANDIR = $(PREFIX)/share/man
 
-# Proves every crate from nothing, tries every must-fail edit and runs the tests.
+# Proves every crate, tries every must-fail edit and runs the tests.
 test:
-	@echo "make test: proving, wrong programs and tests take about $(GATE_MINUTES) minutes"
+	@echo "make test: proving, wrong programs and tests take about $(GATE_MINUTES) minutes the first time"
 	@.ci/run
 
 # Proves the crates and writes the static library target/staticlib/libshinglebar.a.
@@ -37,7 +37,7 @@ $(ARCHIVE):
 
 # Builds everything and runs the port driver on the captures of driver/data.
 run:
-	@echo "make run: proving the library takes about $(PROVING_MINUTES) minutes, the rest a few seconds"
+	@echo "make run: proving the library takes about $(PROVING_MINUTES) minutes the first time, the rest a few seconds"
 	@$(MAKE) --no-print-directory archive
 	@$(MAKE) --no-print-directory driver
 	@driver/run.sh
