@@ -4,7 +4,7 @@
 # What `make run` says first: about the minutes that `make archive` takes on two cores where nothing is proved yet.
 PROVING_MINUTES = 30
 # What `make test` says first: about the minutes of the whole gate on two cores where nothing is proved yet.
-GATE_MINUTES = 60
+GATE_MINUTES = 75
 
 ARCHIVE = target/staticlib/libshinglebar.a
 DRIVER = target/driver/shinglebar-port
