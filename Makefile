@@ -1,9 +1,9 @@
 # Shinglebar. `make test` is the gate that every change passes.
 .PHONY: test run driver report install lab fuzz fuzzer bench archive vectors captures outside outside-write fmt
 
-# What `make run` says first: about the minutes that `make archive` takes on two cores where nothing is proved yet.
+# What `make run` says first: about the minutes that `make archive` takes on two cores where nothing is proved yet, reckoned and not measured.
 PROVING_MINUTES = 30
-# What `make test` says first: about the minutes of the whole gate on two cores where nothing is proved yet.
+# What `make test` says first: the same of the whole gate.
 GATE_MINUTES = 75
 
 ARCHIVE = target/staticlib/libshinglebar.a
