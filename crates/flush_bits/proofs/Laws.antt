@@ -2,7 +2,7 @@
 -- Assumes nothing.
 use Prim.Native.Nat.{ℕ, zero, suc, ◌+◌, ◌-◌, ◌*◌, ◌/◌, ◌%◌, ◌^◌, ◌≤◌, ◌<◌, max}
 use mathlib.Core.Bool.{Bool, true, false}
-use mathlib.Core.List.{List}
+use mathlib.Core.List.{List, ◌++◌}
 use mathlib.Core.Logic.{◌⊎◌, inl, inr}
 use mathlib.Core.Path.{◌≡◌, refl, sym, ap, ◌∙◌}
 use native.Mathlib.Decide.{ℕ_discrete}
@@ -10,11 +10,13 @@ use native.Mathlib.Nat.{mod-lt, zero-div}
 use native.Mathlib.Omega.{arith}
 use lib.Bits.{bit_or, or_shr, or_step}
 use lib.Dec.{leb, eqb}
-use lib.ListN.{length, get_or, set, length-set}
-use lib.Seq.{get_or-set_same, get_or-set_other}
+use lib.ListN.{length, take, drop, get_or, set, replicate, length-set, length-append, length-drop, get_or-append}
+use lib.Seq.{get_or-set_same, get_or-set_other, length-take-le}
+use Rattle.std.proofs.lemmas.List.{get_or-take, get_or-drop, get_or-append_right, get_or-replicate, length-replicate}
 use borrow.Author.Tests.{le-leb, lt-leb, leb-true, leb-false, eqb-true}
 use Rattle.numbers.specs.Tests.{both, either}
 use Rattle.numbers.specs.Numberings.{bit_of, bit_at}
+use Rattle.numbers.proofs.Bytes.{length_part}
 use Rattle.numbers.proofs.Truth.{both_true, both_right, either_none, either-all}
 use Rattle.flush_bits.specs.Ranged.{mask_of, Ranged}
 
@@ -152,24 +154,58 @@ range_join s t u a b c h g p q = record {
     go x k l true e = q.inside x (leb-true b x e) l
     go x k l false e = let n = leb-false b x e in q.below x (omega arith) ∙ p.inside x k (omega arith)
 
--- a whole byte
+-- whole bytes
 full : every 8 (bit_of 255) ≡ true
 unfolding bit_of both
 full = refl
 
-module _ (s : List ℕ) (a w : ℕ) (u : List ℕ) where
-  byte_filled : w < length u → Ranged u (set u w 255) (8 * w) (8 * (w + 1))
-  byte_filled h = record {
-    long = length-set u w 255;
-    below = λ x k. byte_other u w 255 x (λ e. omega arith);
-    inside = λ x k l. byte_same u w 255 x h (omega arith) ∙ every_at 8 (bit_of 255) full (x % 8) (omega arith);
-    above = λ x k. byte_other u w 255 x (λ e. omega arith);
-  }
+byte_kept : (s t : List ℕ) (x : ℕ) → get_or t (x / 8) 0 ≡ get_or s (x / 8) 0 → bit_at x t ≡ bit_at x s
+unfolding bit_at
+byte_kept s t x e = ap (λ (n : ℕ). bit_of n (x % 8)) e
 
-  pub fill_next : Ranged s u (8 * a) (8 * w) → a ≤ w → (b : ℕ) → w < b → b ≤ length s → Ranged s (set u w 255) (8 * a) (8 * (w + 1))
-  fill_next r h b g k =
-      let l = r.long in
-      range_join s u (set u w 255) (8 * a) (8 * w) (8 * (w + 1)) (omega arith) (omega arith) r (byte_filled (omega arith))
+byte_full : (t : List ℕ) (x : ℕ) → get_or t (x / 8) 0 ≡ 255 → bit_at x t ≡ true
+unfolding bit_at
+byte_full t x e = ap (λ (n : ℕ). bit_of n (x % 8)) e ∙ every_at 8 (bit_of 255) full (x % 8) (omega arith)
+
+module _ (s m : List ℕ) (a b : ℕ) (h : a ≤ b) (g : b ≤ length s) (e : m ≡ replicate (length (take (b - a) (drop a s))) 255) where
+  abbrev back : List ℕ
+  back = drop (b - a) (drop a s)
+
+  full_part : m ≡ replicate (b - a) 255
+  full_part = rw (length_part s a (b - a) (omega arith)) at e
+
+  front_long : length (take a s) ≡ a
+  front_long = length-take-le a s (omega arith)
+
+  middle_long : length m ≡ b - a
+  middle_long = ap length full_part ∙ length-replicate (b - a) 255
+
+  front_byte : (k : ℕ) → k < a → get_or (take a s ++ (m ++ back)) k 0 ≡ get_or s k 0
+  front_byte k l = let f = front_long in get_or-append (take a s) (m ++ back) 0 k (omega arith) ∙ get_or-take a s k 0 l
+
+  middle_byte : (k : ℕ) → a ≤ k → k < b → get_or (take a s ++ (m ++ back)) k 0 ≡ 255
+  middle_byte k l u =
+      let n = middle_long in
+      get_or-append_right (take a s) (m ++ back) a k 0 front_long l
+      ∙ get_or-append m back 0 (k - a) (omega arith)
+      ∙ rw full_part (get_or-replicate (b - a) (k - a) 255 0 (omega arith))
+
+  back_byte : (k : ℕ) → b ≤ k → get_or (take a s ++ (m ++ back)) k 0 ≡ get_or s k 0
+  back_byte k l =
+      let same : a + (b - a + (k - a - (b - a))) ≡ k = omega arith in
+      get_or-append_right (take a s) (m ++ back) a k 0 front_long (omega arith)
+      ∙ get_or-append_right m back (b - a) (k - a) 0 middle_long (omega arith)
+      ∙ get_or-drop (b - a) (drop a s) (k - a - (b - a)) 0
+      ∙ get_or-drop a s (b - a + (k - a - (b - a))) 0
+      ∙ ap (λ (n : ℕ). get_or s n 0) same
+
+  pub filled : Ranged s (take a s ++ (m ++ back)) (8 * a) (8 * b)
+  filled = record {
+    long = simp (length-append, length-drop) (let f = front_long in let n = middle_long in omega arith);
+    below = λ x k. byte_kept s _ x (front_byte (x / 8) (omega arith));
+    inside = λ x k l. byte_full _ x (middle_byte (x / 8) (omega arith) (omega arith));
+    above = λ x k. byte_kept s _ x (back_byte (x / 8) (omega arith));
+  }
 
 -- a part of a byte
 module _ (s : List ℕ) (first past : ℕ) (some : first ≤ past) (room : first < 8 * length s) (near : past ≤ first / 8 * 8 + 8) where

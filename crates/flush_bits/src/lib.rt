@@ -45,11 +45,7 @@ pub fn fill(s: &mut [u8], a: usize, b: usize)
     requires { (a ≤ b) × (b ≤ length s.old) }
     ensures { Ranged s.old s.new (8 * a) (8 * b) }
 {
-    let mut w = a;
-    while w < b {
-        s[w] = 0xff;
-        w += 1;
-    }
+    s[a..b].fill(0xff);
 }
 
 // Adds the numbers from first to before past that share a byte.
