@@ -2,13 +2,13 @@
 -- Assumes nothing.
 use Prim.Native.Nat.{ℕ, suc, ◌+◌, ◌-◌, ◌%◌, ◌^◌, ◌<◌, ◌≤◌}
 use mathlib.Core.Bool.{Bool, true, false}
-use mathlib.Core.List.{List}
+use mathlib.Core.List.{List, ◌++◌}
 use mathlib.Core.Path.{◌≡◌, refl, sym, ap, ◌∙◌}
 use native.Mathlib.Nat.{mod-eq_of_lt}
 use native.Mathlib.Omega.{arith}
 use lib.Dec.{leb, eqb}
-use lib.ListN.{length, take, drop, length-drop}
-use lib.Seq.{take-take, drop-drop}
+use lib.ListN.{length, take, drop, length-drop, length-append}
+use lib.Seq.{take-take, drop-drop, take_at, drop_at}
 use borrow.Author.Tests.{le-leb, lt-leb, leb-true, leb-false, eq-eqb, ne_eqb, eqb-true, eqb-false}
 use Rattle.numbers.specs.Tests.{pick, both, either, any_of, between}
 use Rattle.numbers.specs.Bytes.{num, parts}
@@ -16,7 +16,7 @@ use Rattle.numbers.specs.Numberings.{vlans, nicknames, number_of, at_least, at_m
 use Rattle.numbers.proofs.Truth.{between_none, either_none, either_assoc}
 use Rattle.numbers.proofs.Parts.{parts_end, parts_more}
 use Rattle.flush.specs.Meaning.{nickname_meant}
-use Rattle.flush_members.proofs.Laws.{Near, item_near, block_near}
+use Rattle.flush_members.proofs.Laws.{Near, item_near}
 use Rattle.flush_bits.specs.Ranged.{Ranged}
 use Rattle.flush_bits.proofs.Laws.{range_tells}
 use Rattle.flush_sets.specs.Gains.{Gains, in_nicknames, in_vlan_block, in_vlan_blocks}
@@ -78,6 +78,35 @@ module _ (k : ℕ) (p : ℕ → List ℕ → Bool) (v s₀ : List ℕ) where
               (sym (either_assoc (bit_at x s) (p x (drop at v)) (any_of (p x) (parts k (drop (at + k) v)))));
         }
 
+-- the same of a loop over the parts themselves
+pub record Parted (k : ℕ) (p : ℕ → List ℕ → Bool) (v s₀ s rest : List ℕ) : Type 0 where
+  pub long : length s ≡ length s₀
+  pub each : (x : ℕ) → either (bit_at x s₀) (any_of (p x) (parts k v)) ≡ either (bit_at x s) (any_of (p x) (parts k rest))
+
+module _ (k : ℕ) (p : ℕ → List ℕ → Bool) (v s₀ : List ℕ) where
+  pub parted_start : Parted k p v s₀ s₀ v
+  parted_start = record { long = refl; each = λ x. refl }
+
+  module _ (s rest : List ℕ) (g : Parted k p v s₀ s rest) (some : 0 < k) where
+    parted_end : length rest < k → (q : ℕ → Bool) → ((x : ℕ) → any_of (p x) (parts k v) ≡ q x) → Gains s₀ s q
+    unfolding any_of
+    parted_end h q e = record {
+      long = g.long;
+      each = λ x. sym (ap (either (bit_at x s₀)) (sym (e x)) ∙ g.each x ∙ rw (parts_end k some rest h) (either_none (bit_at x s)));
+    }
+
+    parted_next : (b more : List ℕ) → rest ≡ b ++ more → length b ≡ k → (t : List ℕ) → Gains s t (λ x. p x b) → Parted k p v s₀ t more
+    unfolding any_of
+    parted_next b more e n t a =
+        let room : k ≤ length (b ++ more) = simp length-append (omega arith) in
+        record {
+          long = a.long ∙ g.long;
+          each = λ x.
+              g.each x
+              ∙ rw (e, parts_more k some (b ++ more) room, take_at b more k n, drop_at b more k n, a.each x)
+              (sym (either_assoc (bit_at x s) (p x b) (any_of (p x) (parts k more))));
+        }
+
 -- ---- nicknames
 
 abbrev pub names : ℕ → List ℕ → Bool
@@ -118,34 +147,34 @@ pub leb_next : (x e : ℕ) (t : Bool) → leb x e ≡ t → leb (suc x) (e + 1) 
 leb_next x e true h = let p = leb-true x e h in le-leb (suc x) (e + 1) (omega arith)
 leb_next x e false h = let p = leb-false x e h in lt-leb (suc x) (e + 1) (omega arith)
 
-module _ (v s : List ℕ) (at a b f l : ℕ) (ea : a ≡ num (take 2 (drop at v))) (eb : b ≡ num (take 2 (drop (at + 2) v))) (ef : f ≡ at_least 1 (a % 4096)) (el : l ≡ at_most 0xFFE (b % 4096)) where
-  start_is : start_of vlans (drop at v) ≡ f
+module _ (v s : List ℕ) (a b f l : ℕ) (ea : a ≡ num (take 2 (drop 0 v))) (eb : b ≡ num (take 2 (drop 2 v))) (ef : f ≡ at_least 1 (a % 4096)) (el : l ≡ at_most 0xFFE (b % 4096)) where
+  start_is : start_of vlans v ≡ f
   unfolding start_of number_of
   start_is = sym (ef ∙ rw ea)
 
-  end_is : end_of vlans (drop at v) ≡ l
+  end_is : end_of vlans v ≡ l
   unfolding end_of number_of
-  end_is = rw (drop-drop 2 at v) (sym (el ∙ rw eb))
+  end_is = sym (el ∙ rw eb)
 
-  pub block_added : (t : List ℕ) → Ranged s t f (l + 1) → Gains s t (in_vlan_block (drop at v))
+  pub block_added : (t : List ℕ) → Ranged s t f (l + 1) → Gains s t (in_vlan_block v)
   unfolding in_vlan_block in_block between
   block_added t r = record {
     long = r.long;
     each = λ x. range_tells s t f (l + 1) r x ∙ rw (leb_next x l (leb x l) refl, start_is, end_is);
   }
 
-  pub block_empty : l < f → Gains s s (in_vlan_block (drop at v))
+  pub block_empty : l < f → Gains s s (in_vlan_block v)
   unfolding in_vlan_block in_block
   block_empty h = gains_none s _ (λ x. rw (start_is, end_is) (between_none f l x h))
 
 abbrev pub covers : ℕ → List ℕ → Bool
 covers x b = in_block vlans x b
 
-module _ (v s₀ s : List ℕ) (at : ℕ) (g : Going 4 covers v s₀ s at) where
-  pub blocks_done : length v - at < 4 → Gains s₀ s (in_vlan_blocks v)
+module _ (v s₀ s : List ℕ) (rest : List ℕ) (g : Parted 4 covers v s₀ s rest) where
+  pub blocks_done : length rest < 4 → Gains s₀ s (in_vlan_blocks v)
   unfolding in_vlan_blocks in_blocks
-  blocks_done h = going_end 4 covers v s₀ s at g (omega arith) h _ (λ x. refl)
+  blocks_done h = parted_end 4 covers v s₀ s rest g (omega arith) h _ (λ x. refl)
 
-  pub blocks_next : 4 ≤ length v - at → (t : List ℕ) → Gains s t (in_vlan_block (drop at v)) → Going 4 covers v s₀ t (at + 4)
+  pub blocks_next : (b more : List ℕ) → rest ≡ b ++ more → length b ≡ 4 → (t : List ℕ) → Gains s t (in_vlan_block b) → Parted 4 covers v s₀ t more
   unfolding in_vlan_block
-  blocks_next h t a = going_next 4 covers v s₀ s at g (omega arith) h t (block_near vlans) a
+  blocks_next b more e n t a = parted_next 4 covers v s₀ s rest g (omega arith) b more e n t a

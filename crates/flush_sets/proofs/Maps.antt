@@ -10,7 +10,7 @@ use native.Mathlib.Omega.{arith}
 use lib.Bits.{bit_or}
 use lib.Dec.{leb, eqb}
 use lib.ListN.{length, take, drop, get_or, set, length-drop, length-set}
-use lib.Seq.{get_or-drop}
+use lib.Seq.{take_all, get_or-drop}
 use borrow.Author.Tests.{le-leb, lt-leb, leb-true, leb-false, eq-eqb, ne_eqb}
 use Rattle.numbers.specs.Tests.{both, either, between}
 use Rattle.numbers.specs.Bytes.{num}
@@ -221,58 +221,57 @@ module _ (v : List ℕ) (at n x : ℕ) where
           rw (e, f, lt-leb (suc x) (n + 8) (omega arith), z, r)
           (ap (λ (b : ℕ). bit_of b ((x - (n + 8)) % 8)) (get_or-drop at v (1 + (x - (n + 8)) / 8) 0 ∙ rw k (sym (get_or-drop (at + 1) v ((x - (n + 8)) / 8) 0))))
 
+-- what follows the start, as the slice after it
+pub map_rest : (v : List ℕ) → take (length v - 2) (drop 2 v) ≡ drop 2 v
+map_rest v = take_all (length v - 2) (drop 2 v) (simp length-drop (omega arith))
+
 pub record Mapping (v s₀ s : List ℕ) (n at : ℕ) : Type 0 where
-  pub place : at ≤ length v
   pub number : n < 4104
   pub long : length s ≡ length s₀
-  pub each : (x : ℕ) → either (bit_at x s₀) (in_map vlans x v) ≡ either (bit_at x s) (both (between 1 0xFFE x) (from n (drop at v) x))
+  pub each : (x : ℕ) → either (bit_at x s₀) (in_map vlans x v) ≡ either (bit_at x s) (both (between 1 0xFFE x) (from n (drop at (drop 2 v)) x))
 
 module _ (v s₀ : List ℕ) where
   pub map_none : length v < 2 → Gains s₀ s₀ (in_vlan_map v)
   unfolding in_vlan_map in_map
   map_none h = gains_none s₀ _ (λ x. both_left _ _ (lt-leb 2 (length v) h))
 
-  pub map_start : 2 ≤ length v → (a : ℕ) → a ≡ num (take 2 (drop 0 v)) → Mapping v s₀ s₀ (a % 4096) 2
+  pub map_start : 2 ≤ length v → (a : ℕ) → a ≡ num (take 2 (drop 0 v)) → Mapping v s₀ s₀ (a % 4096) 0
   unfolding in_map number_of from both
   map_start h a e = record {
-    place = h;
     number = omega arith;
     long = refl;
     each = λ x. rw (le-leb 2 (length v) h, e);
   }
 
   module _ (s : List ℕ) (n at : ℕ) (g : Mapping v s₀ s n at) where
-    pub map_next : at < length v → n ≤ 0xFFF → (t : List ℕ) → Gains s t (vlan_in_shifted n (get_or v at 0)) → Mapping v s₀ t (n + 8) (at + 1)
+    pub map_next : n ≤ 0xFFF → (t : List ℕ) → Gains s t (vlan_in_shifted n (get_or (drop 2 v) at 0)) → Mapping v s₀ t (n + 8) (at + 1)
     unfolding vlan_in_shifted
-    map_next h few t a =
-        let p = g.place in
-        record {
-          place = omega arith;
-          number = omega arith;
-          long = a.long ∙ g.long;
-          each = λ x.
-              g.each x
-              ∙ rw (from_next v at n x, ← both-either (between 1 0xFFE x) (in_shifted n (get_or v at 0) x) (from (n + 8) (drop (at + 1) v) x), a.each x)
-              (sym (either_assoc (bit_at x s) _ _));
-        }
+    map_next few t a = record {
+      number = omega arith;
+      long = a.long ∙ g.long;
+      each = λ x.
+          g.each x
+          ∙ rw (from_next (drop 2 v) at n x, ← both-either (between 1 0xFFE x) (in_shifted n (get_or (drop 2 v) at 0) x) (from (n + 8) (drop (at + 1) (drop 2 v)) x), a.each x)
+          (sym (either_assoc (bit_at x s) _ _));
+    }
 
     -- what is left lies past the last VLAN
     pub map_past : 0xFFF < n → Gains s₀ s (in_vlan_map v)
     unfolding in_vlan_map from
     map_past h = record { long = g.long; each = λ x. sym (g.each x ∙ ap (either (bit_at x s)) (go x (leb n x) refl) ∙ either_none (bit_at x s)) }
       where
-        go : (x : ℕ) (a : Bool) → leb n x ≡ a → both (between 1 0xFFE x) (both (leb n x) (bit_at (x - n) (drop at v))) ≡ false
+        go : (x : ℕ) (a : Bool) → leb n x ≡ a → both (between 1 0xFFE x) (both (leb n x) (bit_at (x - n) (drop at (drop 2 v)))) ≡ false
         go x true e = let q = leb-true n x e in both_left _ _ (between_above 1 0xFFE x (omega arith))
         go x false e = both_right (between 1 0xFFE x) _ (both_left _ _ e)
 
-    pub map_done : length v ≤ at → Gains s₀ s (in_vlan_map v)
+    pub map_done : length (drop 2 v) ≤ at → Gains s₀ s (in_vlan_map v)
     unfolding in_vlan_map from
     map_done h = record {
       long = g.long;
       each = λ x.
-          let d : length (drop at v) ≡ length v - at = length-drop at v in
+          let d : length (drop at (drop 2 v)) ≡ length (drop 2 v) - at = length-drop at (drop 2 v) in
           sym
           (g.each x
-          ∙ ap (either (bit_at x s)) (both_right (between 1 0xFFE x) _ (both_right (leb n x) _ (bit_past (x - n) (drop at v) (omega arith))))
+          ∙ ap (either (bit_at x s)) (both_right (between 1 0xFFE x) _ (both_right (leb n x) _ (bit_past (x - n) (drop at (drop 2 v)) (omega arith))))
           ∙ either_none (bit_at x s));
     }

@@ -4,13 +4,13 @@
 ghost use Rattle.std.specs.Prelude.{ℕ, ◌+◌, ◌-◌, ◌*◌, ◌^◌, ◌≤◌, ◌<◌, ◌≡◌, length, drop};
 ghost use Rattle.flush_sets.specs.Gains.{Gains, in_vlan_block, in_vlan_blocks, in_vlan_map, Edged, vlan_in_byte, vlan_in_shifted};
 
-// Adds the VLANs of the block at a place.
-fn add_block(v: &[u8], at: usize, s: &mut [u8])
-    requires { (at + 4 ≤ length v.now) × (length s.old ≡ 512) }
-    ensures { Gains s.old s.new (in_vlan_block (drop at v.now)) }
+// Adds the VLANs of a block.
+fn add_block(block: &[u8], s: &mut [u8])
+    requires { (4 ≤ length block.now) × (length s.old ≡ 512) }
+    ensures { Gains s.old s.new (in_vlan_block block.now) }
 {
-    let first = numbers::at_least(1, numbers::be2(v, at) % 0x1000);
-    let last = numbers::at_most(0xffe, numbers::be2(v, at + 2) % 0x1000);
+    let first = numbers::at_least(1, numbers::be2(block, 0) % 0x1000);
+    let last = numbers::at_most(0xffe, numbers::be2(block, 2) % 0x1000);
     if first <= last {
         flush_bits::add_range(s, first as usize, last as usize + 1);
     }
@@ -21,10 +21,8 @@ pub fn add_blocks(v: &[u8], s: &mut [u8])
     requires { length s.old ≡ 512 }
     ensures { Gains s.old s.new (in_vlan_blocks v.now) }
 {
-    let mut at = 0;
-    while 4 <= v.len() - at {
-        add_block(v, at, s);
-        at += 4;
+    for block in v.chunks_exact(4) {
+        add_block(block, s);
     }
 }
 
@@ -80,13 +78,11 @@ pub fn add_map(v: &[u8], s: &mut [u8])
         return;
     }
     let mut n = (numbers::be2(v, 0) % 0x1000) as usize;
-    let mut at = 2;
-    while at < v.len() {
+    for m in &v[2..] {
         if 0xfff < n {
             return;
         }
-        add_shifted(s, n, v[at]);
+        add_shifted(s, n, *m);
         n += 8;
-        at += 1;
     }
 }
