@@ -7,38 +7,24 @@ ghost use Rattle.frame.specs.Formats.{longest_frame};
 ghost use Rattle.frame.specs.Front.{address_bytes};
 ghost use Rattle.frame_copy.specs.Areas.{pasted};
 
-use frame::{ADDRESS_BYTES, LONGEST_FRAME};
+use frame::ADDRESS_BYTES;
 
-// Copies all of src into out from an offset on.
+// Copies all of src into out from an offset on, by the byte.
 pub fn copy_at(src: &[u8], out: &mut [u8], at: usize)
     requires { at + length src.now ≤ length out.old }
     ensures { out.new ≡ pasted out.old at src.now }
 {
-    let mut i = 0;
-    while i < src.len() {
-        out[at + i] = src[i];
-        i += 1;
+    for (i, b) in src.iter().enumerate() {
+        out[at + i] = *b;
     }
 }
 
-// The same of a part of a frame by way of an array: since that overlaps neither, the compiler makes one block move of both loops and
-// needs no array. Where the length is known, the move is a load and a store.
+// The same of a part of a frame, as one block move. Where the length is known, it is a load and a store.
 pub fn copy_block(src: &[u8], out: &mut [u8], at: usize)
     requires { (at + length src.now ≤ length out.old) × (length src.now ≤ longest_frame) }
     ensures { out.new ≡ pasted out.old at src.now }
 {
-    let mut block = [0u8; LONGEST_FRAME];
-    let n = src.len();
-    let mut i = 0;
-    while i < n {
-        block[i] = src[i];
-        i += 1;
-    }
-    let mut j = 0;
-    while j < n {
-        out[at + j] = block[j];
-        j += 1;
-    }
+    out[at..at + src.len()].copy_from_slice(src);
 }
 
 // Copies a part of len bytes: the first k, which it always has, as a block, and the few that may follow by the byte.
