@@ -22,6 +22,7 @@ fn find_after(t: &[u8], key: u64, kind: u64, label: u64, mac: u64) -> Place
     let round_key = table_fields::round_key_of(mac);
     let n = t.len() / SLOT_BYTES;
     let mut i = 1;
+    // A `while`: each step passes by the rounds without the key.
     while i < n {
         if table_pairs::holds_at(t, SLOT_BYTES * i, key, kind, label, mac) {
             return Place::At(i);
@@ -49,17 +50,14 @@ pub fn find_pair(t: &[u8], kind: u64, label: u64, mac: u64) -> Place
     find_after(t, key, kind, label, mac)
 }
 
-// The lowest spoilt slot. A slot is tested at its offset a.
+// The lowest spoilt slot.
 fn find_spoilt(t: &[u8]) -> Place
     ensures { result ≡ lowest spoilt_slot t.now }
 {
-    let n = t.len() / SLOT_BYTES * SLOT_BYTES;
-    let mut a = 0;
-    while a < n {
-        if table_states::spoilt_at(t, a) {
-            return Place::At(a / SLOT_BYTES);
+    for i in 0..t.len() / SLOT_BYTES {
+        if table_states::spoilt_at(t, SLOT_BYTES * i) {
+            return Place::At(i);
         }
-        a += SLOT_BYTES;
     }
     Place::Nowhere
 }

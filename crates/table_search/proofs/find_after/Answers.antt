@@ -1,5 +1,5 @@
 -- `table_search::find_after` meets its contract. The invariant: none of the first `i` slots holds the label and the address.
-use Prim.Native.Nat.{◌-◌, ◌+◌}
+use Prim.Native.Nat.{◌+◌}
 use native.Mathlib.Omega.{arith}
 use Rattle.table.proofs.Slots.{search_next, search_hit, search_end}
 use Rattle.table.specs.Record.{label_from}

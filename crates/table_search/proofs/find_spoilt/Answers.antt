@@ -1,42 +1,23 @@
--- `table_search::find_spoilt` meets its contract. The invariant: none of the slots below offset `a` is spoilt.
-use Prim.Native.Nat.{ℕ, ◌-◌, ◌+◌, ◌*◌, ◌/◌}
-use mathlib.Core.Path.{◌≡◌, refl, ap, ◌∙◌}
+-- `table_search::find_spoilt` meets its contract. The invariant: none of the slots below slot `i` is spoilt.
+use mathlib.Core.Path.{refl}
 use native.Mathlib.Omega.{arith}
-use lib.ListN.{drop}
-use Rattle.table.specs.Slots.{slot_bytes, first_slot}
+use Rattle.table.specs.Slots.{first_slot}
 use Rattle.table.proofs.Slots.{search_next, search_hit, search_end}
 use Rattle.table.specs.Table.{spoilt_slot}
 use Rattle.table.proofs.Contents.{spoilt_near}
-use borrow.Author.Rules.{rules}
 use Rattle.table_search.proofs.find_spoilt.Goals as goal
 
-pub loop-a-init : goal.loop-a-init
+pub loop-i-init : goal.loop-i-init
 unfolding first_slot
-loop-a-init c = (refl, (search rules, refl))
-
-pub spoilt_at-requires : goal.spoilt_at-requires
-spoilt_at-requires c = let aligned = c.loop-a.invariant.0 in omega arith
+loop-i-init c = refl
 
 pub returns-then-spoilt_at : goal.returns-then-spoilt_at
 returns-then-spoilt_at c =
-    let t = c.args.t.now in
-    let at = c.loop-a in
-    let aligned = at.invariant.0 in
-    let offset : at.a ≡ slot_bytes * (at.a / slot_bytes) = omega arith in
-    search_hit spoilt_slot spoilt_near t (at.a / slot_bytes) at.invariant.1.1 _ (c.spoilt_at.ensures ∙ ap (λ (m : ℕ). spoilt_slot (drop m t)) offset) (omega arith) c.if-spoilt_at.true
+    search_hit spoilt_slot spoilt_near c.args.t.now c.loop-i.i c.loop-i.invariant _ c.spoilt_at.ensures (omega arith) c.if-spoilt_at.true
 
-pub loop-a-preserved : goal.loop-a-preserved
-loop-a-preserved c =
-    let t = c.args.t.now in
-    let at = c.loop-a in
-    let aligned = at.invariant.0 in
-    let offset : at.a ≡ slot_bytes * (at.a / slot_bytes) = omega arith in
-    let next : (at.a + slot_bytes) / slot_bytes ≡ at.a / slot_bytes + 1 = omega arith in
-    let more = search_next spoilt_slot spoilt_near t (at.a / slot_bytes) at.invariant.1.1 _ (c.spoilt_at.ensures ∙ ap (λ (m : ℕ). spoilt_slot (drop m t)) offset) c.if-spoilt_at.false in
-    (omega arith, (omega arith, rw next more))
+pub loop-i-preserved : goal.loop-i-preserved
+loop-i-preserved c =
+    search_next spoilt_slot spoilt_near c.args.t.now c.loop-i.i c.loop-i.invariant _ c.spoilt_at.ensures c.if-spoilt_at.false
 
 pub returns : goal.returns
-returns c =
-    let at = c.loop-a in
-    let aligned = at.invariant.0 in
-    search_end spoilt_slot spoilt_near c.args.t.now (at.a / slot_bytes) (omega arith) (omega arith) at.invariant.1.1
+returns c = search_end spoilt_slot spoilt_near c.args.t.now c.loop-i.i (omega arith) (omega arith) c.loop-i.invariant
