@@ -65,11 +65,8 @@ fn widen_slots(old: &[u8], out: &mut [u8])
     requires { slot_bytes * old_slots old.now ≤ length out.old }
     ensures { out.new ≡ laid (wide old.now) out.old }
 {
-    let n = old.len() / RECORD_BYTES;
-    let mut i = 0;
-    while i < n {
+    for i in 0..old.len() / RECORD_BYTES {
         widen_record(old, RECORD_BYTES * i, out, SLOT_BYTES * i);
-        i += 1;
     }
 }
 
