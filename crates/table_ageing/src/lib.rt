@@ -28,15 +28,14 @@ fn next_learned(t: &[u8], from: usize) -> usize
     requires { (from % slot_bytes ≡ 0) × (from ≤ length t.now) }
     ensures { (result % slot_bytes ≡ 0) × ((from ≤ result) × ((result ≤ length t.now) × Passed (InState learned_state) (from / slot_bytes) (result / slot_bytes) t.now)) }
 {
-    let n = t.len();
-    let mut a = from;
-    while FOUR_SLOTS <= n - a {
+    let left = t.len() - from;
+    for r in 0..left / FOUR_SLOTS {
+        let a = from + FOUR_SLOTS * r;
         if !table_rounds::none_in_state(t, a, LEARNED_STATE) {
             return a;
         }
-        a += FOUR_SLOTS;
     }
-    a
+    t.len() - left % FOUR_SLOTS
 }
 
 // Ages every slot, each at its offset a.
@@ -45,6 +44,7 @@ fn age_slots(table: &mut [u8], s: u16)
 {
     let n = table.len() / SLOT_BYTES * SLOT_BYTES;
     let mut a = 0;
+    // A `while`: a step may pass by the rounds without a learned slot.
     while a < n {
         if table_states::learned_at(table, a) {
             let e = a + SLOT_BYTES;
