@@ -44,6 +44,7 @@ pub fn find_free(t: &[u8]) -> FreeSearch
     let n = t.len() / SLOT_BYTES;
     let mut j = 0;
     let mut unpacked = 0;
+    // A `while`: a step may pass by whole rounds, whose slots are counted.
     while j < n {
         let step = free_step(t, SLOT_BYTES * j, unpacked);
         let before = unpacked;

@@ -113,6 +113,7 @@ fn gathered(t: &[u8], key: u64, kind: u64, label: u64, e: Entry) -> Homes
     let n = t.len() / SLOT_BYTES;
     let mut h = no_homes();
     let mut i = 0;
+    // A `while`: each step passes by the rounds without the key.
     while i < n {
         h = with_slot(t, i, key, kind, label, e, h);
         i = table_rounds::next_keyed(t, i + 1, round_key);

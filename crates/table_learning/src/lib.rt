@@ -39,6 +39,7 @@ fn clear_slots(table: &mut [u8], from: usize, key: u64, kind: u64, label: u64, e
     let round_key = table_fields::round_key_of(e.mac);
     let n = table.len() / SLOT_BYTES;
     let mut i = from;
+    // A `while`: each step passes by the rounds without the key.
     while i < n {
         let a = SLOT_BYTES * i;
         let b = a + SLOT_BYTES;
