@@ -4,10 +4,13 @@ use Prim.Native.Nat.{ℕ, ◌+◌, ◌-◌, ◌≤◌, ◌<◌}
 use native.Mathlib.Omega.{arith}
 use native.Mathlib.Numerals.{add-one}
 use mathlib.Core.Path.{◌≡◌, refl, ap, ◌∙◌}
+use mathlib.Core.Bool.{Bool, true, false}
 use mathlib.Core.List.{List, ◌++◌, append_assoc}
+use lib.Dec.{leb}
 use lib.ListN.{length, take, drop, get_or, set, length-drop, length-append}
 use native.Mathlib.Nat.{zero-add}
-use lib.Seq.{take-add, take_at, drop-append-add, drop-drop, paste, paste-suc, take-length, length-take-le}
+use lib.Seq.{take-add, take_at, drop-append-add, drop-drop, paste, paste-suc, take-length, length-take-le, get_or-set_same, get_or-set_other}
+use borrow.Author.Tests.{leb-true, leb-false}
 use Rattle.numbers.specs.Bytes.{laid}
 use Rattle.frame_copy.specs.Areas.{pasted}
 
@@ -65,6 +68,32 @@ unfolding pasted
 part_pasted o y at n e =
     let k : at + n - at ≡ length y = omega arith in
     rw (k, drop-drop (length y) at o) (simp append_assoc)
+
+-- ---- by way of an array
+
+-- the array has the first n bytes of the list
+abbrev pub Taken : ℕ → List ℕ → List ℕ → Type 0
+Taken n block s = (k : ℕ) → k < n → get_or block k 0 ≡ get_or s k 0
+
+pub take_next : (block s : List ℕ) (i : ℕ) → i < length block → Taken i block s → Taken (i + 1) (set block i (get_or s i 0)) s
+take_next block s i room t k h = go (leb i k) refl
+  where
+    go : (b : Bool) → leb i k ≡ b → get_or (set block i (get_or s i 0)) k 0 ≡ get_or s k 0
+    go true e =
+        let l = leb-true i k e in
+        let same : k ≡ i = omega arith in
+        rw same (get_or-set_same block i (get_or s i 0) 0 room)
+    go false e =
+        let l = leb-false i k e in
+        get_or-set_other block i k (get_or s i 0) 0 (λ q. omega arith) ∙ t k (omega arith)
+
+pub give_next : (d : List ℕ) (at : ℕ) (s : List ℕ) (j : ℕ) (o block : List ℕ)
+    → Taken (length s) block s
+    → o ≡ paste d at s j
+    → at + length s ≤ length d
+    → j < length s
+    → set o (at + j) (get_or block j 0) ≡ paste d at s (j + 1)
+give_next d at s j o block t e h k = ap (set o (at + j)) (t j k) ∙ paste_step d at s j o e h k
 
 -- ---- in two parts
 
