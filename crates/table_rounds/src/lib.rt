@@ -71,13 +71,15 @@ fn next_round<F: Fn(usize) -> bool>(n: usize, from: usize, test: F) -> usize
     ensures bounds { (from ≤ result) × (result ≤ n) }
     ensures rounds { (r : ℕ) → from + 8 * r < result → (from + 8 * r + 8 ≤ result) × F.post test (from + 8 * r) true }
 {
-    for r in 0..(n - from) / ROUND {
-        let i = from + ROUND * r;
+    let mut i = from;
+    // A `while`: as a `for` over the rounds, learning in eight slots takes 1.12 times as long, and the search for a free one 1.5 times.
+    while ROUND <= n - i {
         if !test(i) {
             return i;
         }
+        i += ROUND;
     }
-    n - (n - from) % ROUND
+    i
 }
 
 // The lowest slot from a slot on in whose round some slot has a key, or that is one of those after the last whole round.
