@@ -1,10 +1,10 @@
 -- Laws of reading at a place: a part says the same as the bytes from its place on, and what is left of a list decides.
 -- Assumes nothing.
-use Prim.Native.Nat.{ℕ, ◌+◌, ◌-◌, ◌*◌, ◌/◌, ◌%◌, ◌<◌, ◌≤◌}
+use Prim.Native.Nat.{ℕ, suc, ◌+◌, ◌-◌, ◌*◌, ◌/◌, ◌%◌, ◌<◌, ◌≤◌}
 use mathlib.Core.Bool.{Bool, true, false, ◌&&◌}
 use mathlib.Core.List.{List, [], ◌∷◌}
 use mathlib.Core.Path.{◌≡◌, refl, sym, ap, ◌∙◌}
-use native.Mathlib.Nat.{mod-eq_of_lt}
+use native.Mathlib.Nat.{mod-eq_of_lt, mul-le-mul_right, suc-mul, zero-mul}
 use native.Mathlib.Omega.{arith}
 use lib.Dec.{leb, eqb}
 use lib.ListN.{length, take, drop, get_or, length-drop}
@@ -140,6 +140,35 @@ module _ (p : List ℕ → Bool) (k : ℕ) (near : Near k p) (some : 0 < k) (v :
     pub part_next : h ≡ false → x ≡ any_of p (parts k (drop (at + k) v))
     unfolding either
     part_next t = rw t at part_here
+
+-- ---- a loop over the numbers of the parts
+
+part_room : (k n i : ℕ) → i < n / k → k ≤ n - i * k
+part_room k n i h = let m : suc i * k ≤ n / k * k = mul-le-mul_right k h in let t = suc-mul i k in omega arith
+
+-- whether some part of the whole passes: whether one from part i on does
+pub record Seeking (p : List ℕ → Bool) (k : ℕ) (whole : Bool) (v : List ℕ) (i : ℕ) : Type 0 where
+  pub some : 0 < k
+  pub left : whole ≡ any_of p (parts k (drop (i * k) v))
+
+pub seek_start : (p : List ℕ → Bool) (k : ℕ) (v : List ℕ) → 0 < k → Seeking p k (any_of p (parts k v)) v 0
+seek_start p k v some = record { some = some; left = rw (zero-mul k) }
+
+module _ (p : List ℕ → Bool) (k : ℕ) (near : Near k p) (whole : Bool) (v : List ℕ) (i : ℕ) (g : Seeking p k whole v i) where
+  pub seek_done : length v / k ≤ i → false ≡ whole
+  seek_done h =
+      let some = g.some in
+      let m : length v / k * k ≤ i * k = mul-le-mul_right k h in
+      parts_done p k near some v (i * k) whole g.left (omega arith)
+
+  module _ (more : i < length v / k) (h : Bool) (here : h ≡ p (drop (i * k) v)) where
+    pub seek_hit : h ≡ true → true ≡ whole
+    seek_hit t = part_hit p k near g.some v (i * k) whole g.left (part_room k (length v) i more) h here t
+
+    pub seek_next : h ≡ false → Seeking p k whole v (i + 1)
+    seek_next t =
+        let e : i * k + k ≡ (i + 1) * k = omega arith in
+        record { some = g.some; left = rw e at (part_next p k near g.some v (i * k) whole g.left (part_room k (length v) i more) h here t) }
 
 -- ---- a bit map
 

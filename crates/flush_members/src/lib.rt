@@ -63,14 +63,6 @@ pub fn number_at(v: &[u8], at: usize, w: Numbering) -> u64
     n % w.modulus
 }
 
-// Whether the number at a place is x.
-fn number_is(v: &[u8], at: usize, w: Numbering, x: u64) -> bool
-    requires { Sound w × (at + w.size ≤ length v.now) }
-    ensures { result ≡ eqb (number_of w (drop at v.now)) x }
-{
-    number_at(v, at, w) == x
-}
-
 // Whether x, a number that there is, is in the block at a place: both ends belong to it.
 fn block_has(v: &[u8], at: usize, w: Numbering, x: u64) -> bool
     requires { (Sound w × (at + 2 * w.size ≤ length v.now)) × ((w.low ≤ x) × (x ≤ w.high)) }
@@ -110,12 +102,10 @@ fn in_blocks(v: &[u8], size: usize, modulus: u64, low: u64, high: u64, x: u64) -
         high,
     };
     let k = 2 * size;
-    let mut at = 0;
-    while k <= v.len() - at {
-        if block_has(v, at, w, x) {
+    for i in 0..v.len() / k {
+        if block_has(v, i * k, w, x) {
             return true;
         }
-        at += k;
     }
     false
 }
@@ -131,12 +121,10 @@ fn in_list(v: &[u8], size: usize, modulus: u64, low: u64, high: u64, x: u64) -> 
         low,
         high,
     };
-    let mut at = 0;
-    while size <= v.len() - at {
-        if number_is(v, at, w, x) {
+    for i in 0..v.len() / size {
+        if number_at(v, i * size, w) == x {
             return true;
         }
-        at += size;
     }
     false
 }
@@ -190,12 +178,11 @@ pub fn in_map(v: &[u8], w: Numbering, x: u64) -> bool
 pub fn some_mac_block(v: &[u8]) -> bool
     ensures { result ≡ some_filled macs v.now }
 {
-    let mut at = 0;
-    while 12 <= v.len() - at {
-        if mac_block_filled(v, at) {
+    let k = 2 * MACS.size;
+    for i in 0..v.len() / k {
+        if mac_block_filled(v, i * k) {
             return true;
         }
-        at += 12;
     }
     false
 }

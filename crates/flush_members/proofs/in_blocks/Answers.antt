@@ -1,7 +1,6 @@
--- `flush_members::in_blocks` meets its contract. The invariant: some block has x in it exactly if one from `at` on has.
-use mathlib.Core.Path.{refl}
+-- `flush_members::in_blocks` meets its contract. The invariant: some block has x in it exactly if one from block i on has.
 use Rattle.numbers.specs.Numberings.{in_blocks}
-use Rattle.flush_members.proofs.Laws.{blocks_below, blocks_above, block_near, parts_done, part_hit, part_next}
+use Rattle.flush_members.proofs.Laws.{blocks_below, blocks_above, block_near, seek_start, seek_done, seek_hit, seek_next}
 use borrow.Author.Rules.{rules}
 use Rattle.flush_members.proofs.in_blocks.Goals as goal
 
@@ -11,15 +10,15 @@ returns-then-x-low c = search blocks_below
 pub returns-then-high-x : goal.returns-then-high-x
 returns-then-high-x c = search blocks_above
 
-pub loop-at-init : goal.loop-at-init
+pub loop-i-init : goal.loop-i-init
 unfolding in_blocks
-loop-at-init c = (search rules, (search rules, refl))
+loop-i-init c = search (seek_start, rules)
 
 pub returns-then-block_has : goal.returns-then-block_has
-returns-then-block_has c = search (part_hit, block_near)
+returns-then-block_has c = search (seek_hit, block_near)
 
-pub loop-at-preserved : goal.loop-at-preserved
-loop-at-preserved c = (search rules, (search rules, search (part_next, block_near)))
+pub loop-i-preserved : goal.loop-i-preserved
+loop-i-preserved c = search (seek_next, block_near)
 
 pub returns : goal.returns
-returns c = search (parts_done, block_near)
+returns c = search (seek_done, block_near)

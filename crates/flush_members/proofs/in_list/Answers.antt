@@ -1,19 +1,24 @@
--- `flush_members::in_list` meets its contract. The invariant: the list has x in it exactly if it has it from `at` on.
-use mathlib.Core.Path.{refl}
+-- `flush_members::in_list` meets its contract. The invariant: the list has x in it exactly if one from number i on is x.
+use Prim.Native.Nat.{ℕ}
+use mathlib.Core.Path.{ap}
+use lib.Dec.{eqb}
+use borrow.Author.Tests.{eq-eqb, ne_eqb}
 use Rattle.numbers.specs.Numberings.{in_list}
-use Rattle.flush_members.proofs.Laws.{item_near, parts_done, part_hit, part_next}
+use Rattle.flush_members.proofs.Laws.{item_near, seek_start, seek_done, seek_hit, seek_next}
 use borrow.Author.Rules.{rules}
 use Rattle.flush_members.proofs.in_list.Goals as goal
 
-pub loop-at-init : goal.loop-at-init
+pub loop-i-init : goal.loop-i-init
 unfolding in_list
-loop-at-init c = (search rules, (search rules, refl))
+loop-i-init c = search (seek_start, rules)
 
-pub returns-then-number_is : goal.returns-then-number_is
-returns-then-number_is c = search (part_hit, item_near)
+pub returns-then-number_at-x : goal.returns-then-number_at-x
+returns-then-number_at-x c =
+    seek_hit _ _ (item_near _ _) _ _ _ c.loop-i.invariant (search rules) _ (ap (λ (n : ℕ). eqb n c.args.x) c.number_at.ensures) (eq-eqb _ _ c.if-number_at-x.true)
 
-pub loop-at-preserved : goal.loop-at-preserved
-loop-at-preserved c = (search rules, (search rules, search (part_next, item_near)))
+pub loop-i-preserved : goal.loop-i-preserved
+loop-i-preserved c =
+    seek_next _ _ (item_near _ _) _ _ _ c.loop-i.invariant (search rules) _ (ap (λ (n : ℕ). eqb n c.args.x) c.number_at.ensures) (ne_eqb _ _ c.if-number_at-x.false)
 
 pub returns : goal.returns
-returns c = search (parts_done, item_near)
+returns c = search (seek_done, item_near)

@@ -1,20 +1,18 @@
--- `flush_members::some_mac_block` meets its contract. The invariant: some block is not empty exactly if one from `at` on is not.
-use mathlib.Core.Path.{refl}
-use lib.Dec.{lit<}
+-- `flush_members::some_mac_block` meets its contract. The invariant: some block is not empty exactly if one from block i on is not.
 use Rattle.numbers.specs.Numberings.{macs, some_filled}
-use Rattle.flush_members.proofs.Laws.{filled_near, parts_done, part_hit, part_next}
+use Rattle.flush_members.proofs.Laws.{filled_near, seek_start, seek_done, seek_hit, seek_next}
 use borrow.Author.Rules.{rules}
 use Rattle.flush_members.proofs.some_mac_block.Goals as goal
 
-pub loop-at-init : goal.loop-at-init
+pub loop-i-init : goal.loop-i-init
 unfolding some_filled
-loop-at-init c = (search rules, refl)
+loop-i-init c = search (seek_start, rules)
 
 pub returns-then-mac_block_filled : goal.returns-then-mac_block_filled
-returns-then-mac_block_filled c = search (part_hit, filled_near macs, lit<)
+returns-then-mac_block_filled c = search (seek_hit, filled_near macs)
 
-pub loop-at-preserved : goal.loop-at-preserved
-loop-at-preserved c = (search rules, search (part_next, filled_near macs, lit<))
+pub loop-i-preserved : goal.loop-i-preserved
+loop-i-preserved c = search (seek_next, filled_near macs)
 
 pub returns : goal.returns
-returns c = search (parts_done, filled_near macs, lit<)
+returns c = search (seek_done, filled_near macs)
