@@ -1,10 +1,10 @@
 // The TLVs of a flush payload: what one of them says, and whether some of them says it.
 #![tactic(auto)]
 
-ghost use Rattle.std.specs.Prelude.{◌+◌, ◌<◌, ◌≡◌, length, drop};
+ghost use Rattle.std.specs.Prelude.{◌+◌, ◌<◌, ◌≡◌, ℕ, Bool, false, length, drop};
 ghost use Rattle.numbers.specs.Tests.{any_of};
 ghost use Rattle.table.specs.Record.{label_from};
-ghost use Rattle.flush.specs.Payload.{every_type, tlv, tlv_end, tlvs};
+ghost use Rattle.flush.specs.Payload.{every_type, Piece, tlv, stump, tlv_end, tlvs};
 ghost use Rattle.flush.specs.Meaning.{vlan_in, fine_in, brings_label, brings_mac, gathers_mac};
 
 // Whether a TLV brings a VLAN: type 1 VLAN blocks, type 2 a VLAN bit map, type 6 all labels.
@@ -90,59 +90,44 @@ pub fn end_of(l: &[u8], at: usize) -> usize
     s + numbers::wide(l[at + 1]) as usize
 }
 
-// Whether some TLV brings a label.
-pub fn some_label(l: &[u8], kind: u64, x: u64) -> bool
-    ensures { result ≡ any_of (brings_label every_type (label_from kind x)) (tlvs l.now) }
+// Whether some TLV passes a test of its type and its value. Where the TLVs are cut, what is left passes none.
+fn some_tlv<F: Fn(u8, &[u8]) -> bool>(l: &[u8], test: F) -> bool
+    requires { F.IsAlwaysCallable test }
+    ensures { (ask : Piece → Bool) → ask stump ≡ false → ((k : ℕ) (v : _) (r : Bool) → F.post test k v r → r ≡ ask (tlv k v.now)) → result ≡ any_of ask (tlvs l.now) }
 {
     let mut at = 0;
+    // A `while`: the step is the length of the TLV.
     while at < l.len() {
         let e = end_of(l, at);
         if l.len() < e {
             return false;
         }
         let s = at + 2;
-        if brings_label(kind, x, l[at], &l[s..e]) {
+        if test(l[at], &l[s..e]) {
             return true;
         }
         at = e;
     }
     false
+}
+
+// Whether some TLV brings a label.
+pub fn some_label(l: &[u8], kind: u64, x: u64) -> bool
+    ensures { result ≡ any_of (brings_label every_type (label_from kind x)) (tlvs l.now) }
+{
+    some_tlv(l, |k, v| brings_label(kind, x, k, v))
 }
 
 // Whether some TLV brings a MAC.
 pub fn some_mac(l: &[u8], m: u64) -> bool
     ensures { result ≡ any_of (brings_mac every_type m) (tlvs l.now) }
 {
-    let mut at = 0;
-    while at < l.len() {
-        let e = end_of(l, at);
-        if l.len() < e {
-            return false;
-        }
-        let s = at + 2;
-        if brings_mac(m, l[at], &l[s..e]) {
-            return true;
-        }
-        at = e;
-    }
-    false
+    some_tlv(l, |k, v| brings_mac(m, k, v))
 }
 
 // Whether some TLV gathers a MAC.
 pub fn some_gathers(l: &[u8]) -> bool
     ensures { result ≡ any_of (gathers_mac every_type) (tlvs l.now) }
 {
-    let mut at = 0;
-    while at < l.len() {
-        let e = end_of(l, at);
-        if l.len() < e {
-            return false;
-        }
-        let s = at + 2;
-        if gathers_mac(l[at], &l[s..e]) {
-            return true;
-        }
-        at = e;
-    }
-    false
+    some_tlv(l, gathers_mac)
 }

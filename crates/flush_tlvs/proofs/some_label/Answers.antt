@@ -1,23 +1,11 @@
--- `flush_tlvs::some_label` meets its contract. The invariant: some TLV brings the label exactly if one from `at` on does.
-use Prim.Native.Nat.{◌-◌}
+-- `flush_tlvs::some_label` meets its contract, by the test of one TLV.
 use mathlib.Core.Path.{refl}
+use Rattle.table.specs.Record.{label_from}
+use Rattle.flush.specs.Payload.{every_type}
 use Rattle.flush.specs.Meaning.{brings_label}
-use Rattle.flush_tlvs.proofs.Laws.{tlvs_done_lem, tlv_cut, tlv_hit, tlv_next}
 use borrow.Author.Rules.{rules}
 use Rattle.flush_tlvs.proofs.some_label.Goals as goal
 
-pub loop-at-init : goal.loop-at-init
-loop-at-init c = (search rules, refl)
-
-pub returns-then-l-e : goal.returns-then-l-e
-unfolding brings_label
-returns-then-l-e c = search tlv_cut
-
-pub returns-then-brings_label : goal.returns-then-brings_label
-returns-then-brings_label c = search tlv_hit
-
-pub loop-at-preserved : goal.loop-at-preserved
-loop-at-preserved c = (search rules, search tlv_next)
-
 pub returns : goal.returns
-returns c = search tlvs_done_lem
+unfolding brings_label
+returns c = c.some_tlv.ensures (brings_label every_type (label_from c.args.kind c.args.x)) refl (λ k v r p. search rules)
