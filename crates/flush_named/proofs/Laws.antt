@@ -1,10 +1,10 @@
 -- Laws of what a message names: a loop in which the bits and what is left hold every number, and the names of a value and of TLVs.
 -- Assumes nothing.
-use Prim.Native.Nat.{ℕ, suc, ◌+◌, ◌-◌, ◌≤◌, ◌<◌}
+use Prim.Native.Nat.{ℕ, suc, ◌+◌, ◌-◌, ◌*◌, ◌/◌, ◌≤◌, ◌<◌}
 use mathlib.Core.Bool.{Bool, true, false, ◌&&◌}
 use mathlib.Core.List.{List}
 use mathlib.Core.Path.{◌≡◌, refl, sym, ◌∙◌}
-use native.Mathlib.Nat.{add-zero}
+use native.Mathlib.Nat.{add-zero, suc-mul, zero-mul, mul-le-mul_right}
 use native.Mathlib.Omega.{arith}
 use lib.Dec.{leb, eqb}
 use lib.ListN.{length, take, drop, get_or, length-drop}
@@ -89,20 +89,41 @@ module _ (whole : ℕ → Bool) (s : List ℕ) where
 -- ---- the parts of a value
 
 module _ (t : Bool) (w : Numbering) (v s b : List ℕ) (at : ℕ) (g : Adding (parts_hit t w v) (parts_hit t w (drop at v)) s b) (k : ℕ) (span : k ≡ span_for t w) (some : 0 < k) where
-  pub parts_done : length v - at < k → Names (parts_hit t w v) s b false
+  parts_done : length v - at < k → Names (parts_hit t w v) s b false
   unfolding parts_hit any_of
   parts_done h =
       let d : length (drop at v) ≡ length v - at = length-drop at v in
       adding_done (parts_hit t w v) s (parts_hit t w (drop at v)) b g
       (λ x. rw (parts_end (span_for t w) (omega arith) (drop at v) (omega arith)))
 
-  pub parts_next : k ≤ length v - at → (m e : ℕ) → m ≡ low_for t w (drop at v) → e ≡ past_for t w (drop at v)
+  parts_next : k ≤ length v - at → (m e : ℕ) → m ≡ low_for t w (drop at v) → e ≡ past_for t w (drop at v)
       → (u : List ℕ) (full : Bool) → Names (λ x. both (leb m x) (leb (suc x) e)) b u full → Adding (parts_hit t w v) (parts_hit t w (drop (at + k) v)) s u
   unfolding parts_hit any_of
   parts_next room m e em ee u full n =
       let d : length (drop at v) ≡ length v - at = length-drop at v in
       adding_next (parts_hit t w v) s (parts_hit t w (drop at v)) b g _ u full n (parts_hit t w (drop (at + k) v))
       (λ x. rw (parts_more (span_for t w) (omega arith) (drop at v) (omega arith), hit_near t w x (drop at v) (omega arith), hit_is t w x (drop at v), ← em, ← ee, ← span, drop-drop k at v))
+
+-- ---- the same, by the number of the part
+
+pub part_room : (k n i : ℕ) → i < n / k → i * k + k ≤ n
+part_room k n i h = let m : suc i * k ≤ n / k * k = mul-le-mul_right k h in let t = suc-mul i k in omega arith
+
+pub items_start : (t : Bool) (w : Numbering) (v s : List ℕ) (k : ℕ) → Adding (parts_hit t w v) (parts_hit t w (drop (0 * k) v)) s s
+items_start t w v s k = rw (zero-mul k) (adding_start (parts_hit t w v) s)
+
+module _ (t : Bool) (w : Numbering) (v s b : List ℕ) (k i : ℕ) (g : Adding (parts_hit t w v) (parts_hit t w (drop (i * k) v)) s b) (span : k ≡ span_for t w) (some : 0 < k) where
+  pub items_done : length v / k ≤ i → Names (parts_hit t w v) s b false
+  items_done h =
+      let m : length v / k * k ≤ i * k = mul-le-mul_right k h in
+      parts_done t w v s b (i * k) g k span some (omega arith)
+
+  pub items_next : i < length v / k → (m e : ℕ) → m ≡ low_for t w (drop (i * k) v) → e ≡ past_for t w (drop (i * k) v)
+      → (u : List ℕ) (full : Bool) → Names (λ x. both (leb m x) (leb (suc x) e)) b u full → Adding (parts_hit t w v) (parts_hit t w (drop ((i + 1) * k) v)) s u
+  items_next h m e em ee u full n =
+      let room = part_room k (length v) i h in
+      let next : i * k + k ≡ (i + 1) * k = omega arith in
+      rw next at (parts_next t w v s b (i * k) g k span some (omega arith) m e em ee u full n)
 
 -- ---- a bit map
 

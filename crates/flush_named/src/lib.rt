@@ -17,14 +17,12 @@ fn add_blocks(v: &[u8], w: Numbering, bits: &mut [u8]) -> bool
     ensures { Names (parts_hit true w v.now) bits.old bits.new result }
 {
     let k = flush_parts::span_for(true, w);
-    let mut at = 0;
-    while k <= v.len() - at {
-        let s = flush_parts::low_at(v, at, true, w);
-        let e = flush_parts::past_at(v, at, true, w);
+    for i in 0..v.len() / k {
+        let s = flush_parts::low_at(v, i * k, true, w);
+        let e = flush_parts::past_at(v, i * k, true, w);
         if flush_buckets::add(s, e, bits) {
             return true;
         }
-        at += k;
     }
     false
 }
@@ -35,11 +33,9 @@ fn add_singles(v: &[u8], w: Numbering, bits: &mut [u8])
     ensures { Names (parts_hit false w v.now) bits.old bits.new false }
 {
     let k = flush_parts::span_for(false, w);
-    let mut at = 0;
-    while k <= v.len() - at {
-        let x = flush_parts::low_at(v, at, false, w);
+    for i in 0..v.len() / k {
+        let x = flush_parts::low_at(v, i * k, false, w);
         flush_buckets::add_single(x, bits);
-        at += k;
     }
 }
 
@@ -81,6 +77,7 @@ fn add_named(l: &[u8], naming: Naming, bits: &mut [u8])
     ensures { HasBits (named_of naming (tlvs l.now)) bits.new }
 {
     let mut at = 0;
+    // A `while`: the step is the length of the TLV.
     while at < l.len() {
         let e = flush_tlvs::end_of(l, at);
         if l.len() < e {

@@ -1,12 +1,9 @@
-use Prim.Native.Nat.{◌-◌, ◌≤◌}
+use Prim.Native.Nat.{◌*◌}
 use mathlib.Core.Bool.{true}
-use lib.ListN.{length, drop}
+use lib.ListN.{drop}
 use Rattle.flush_parts.specs.Parts.{parts_hit}
 use Rattle.flush_named.proofs.Laws.{Adding}
 use Rattle.flush_named.proofs.add_blocks.Given as goal
 
-abbrev pub invariant-loop-at : goal.invariant-loop-at
-invariant-loop-at l = (l.at ≤ length l.v) × Adding (parts_hit true l.w l.v) (parts_hit true l.w (drop l.at l.v)) l.initial.bits l.bits
-
-abbrev pub decreases-loop-at : goal.decreases-loop-at
-decreases-loop-at l = length l.v - l.at
+abbrev pub invariant-loop-i : goal.invariant-loop-i
+invariant-loop-i l = Adding (parts_hit true l.w l.v) (parts_hit true l.w (drop (l.i * l.k) l.v)) l.initial.bits l.bits

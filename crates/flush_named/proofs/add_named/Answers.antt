@@ -1,5 +1,4 @@
 -- `flush_named::add_named` meets its contract. The invariant: a number that the TLVs name has its bit, or is named from `at` on.
-use Prim.Native.Nat.{◌-◌}
 use Rattle.flush_named.proofs.Laws.{adding_start, adding_long, tlvs_done_lem, tlvs-cut, tlvs_full, tlvs_next}
 use borrow.Author.Rules.{rules}
 use Rattle.flush_named.proofs.add_named.Goals as goal
