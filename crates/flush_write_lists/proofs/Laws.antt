@@ -1,18 +1,18 @@
 -- Laws of writing one part after the other: what is left, with a cursor.
 -- Assumes nothing.
-use Prim.Native.Nat.{ℕ, ◌+◌, ◌-◌, ◌*◌, ◌/◌, ◌%◌, ◌^◌, ◌<◌, ◌≤◌}
+use Prim.Native.Nat.{ℕ, suc, min, ◌+◌, ◌-◌, ◌*◌, ◌/◌, ◌%◌, ◌^◌, ◌<◌, ◌≤◌}
 use mathlib.Core.Bool.{Bool, true, false, ◌&&◌}
 use mathlib.Core.List.{List, [], ◌∷◌, ◌++◌, flat_map, append-nil}
 use mathlib.Core.Path.{◌≡◌, refl, sym, ap, ◌∙◌, subst}
-use native.Mathlib.Nat.{mul_comm, mul-le-mul_left, mul-le-mul_right}
+use native.Mathlib.Decide.{dec_lt}
+use native.Mathlib.Nat.{add-zero, mul_comm, suc-mul, zero-mul, mul-le-mul_left, mul-le-mul_right}
 use native.Mathlib.Omega.{arith}
 use lib.Dec.{leb, eqb}
 use lib.ListN.{length, take, drop, length-append, length-drop, length-take, take-append-drop, drop_of_length-le}
 use lib.Seq.{drop-drop, take_all, length-take-le}
-use borrow.Author.Tests.{le-leb, lt-leb, leb-true, leb-false, eqb-true, ne_eqb, eq-eqb}
-use Rattle.numbers.specs.Tests.{pick, both, all_of}
+use borrow.Author.Tests.{le-leb, lt-leb, eqb-true, ne_eqb, eq-eqb}
+use Rattle.numbers.specs.Tests.{both, all_of}
 use Rattle.numbers.specs.Bytes.{AreBytes, num, bytes_of}
-use Rattle.numbers.specs.Numberings.{at_most}
 use Rattle.numbers.specs.declared.Numbering.{Numbering}
 use Rattle.numbers.proofs.Bytes.{length-bytes_of, num-add, num_part_lt, bytes_of_low}
 use Rattle.numbers.proofs.Truth.{and_both, both_true}
@@ -47,7 +47,7 @@ too_many k low high item l w h = rw (eq-eqb (length l % (2 * k)) 0 w, blocks_cou
 abbrev pub Judged : ℕ → ℕ → ℕ → List ℕ → ℕ → Bool → Type 0
 Judged k low high l at good = list_good k low high l ≡ both good (all_of (block_good low high) (blocks_in k (drop at l)))
 
-pub judge_start : (k low high : ℕ) → Item k → (l : List ℕ) → length l % (2 * k) ≡ 0 → length l / (2 * k) ≤ 255 → Judged k low high l 0 true
+judge_start : (k low high : ℕ) → Item k → (l : List ℕ) → length l % (2 * k) ≡ 0 → length l / (2 * k) ≤ 255 → Judged k low high l 0 true
 unfolding list_good items_whole both blocks_good
 judge_start k low high item l w h = rw (eq-eqb (length l % (2 * k)) 0 w, blocks_count k (some_item k item) l, le-leb (length l / (2 * k)) most_listed h)
 
@@ -62,17 +62,37 @@ both_true_right true = refl
 both_true_right false = refl
 
 module _ (k low high : ℕ) (item : Item k) (l : List ℕ) (at : ℕ) (good : Bool) (inv : Judged k low high l at good) where
-  pub judge_next : 2 * k ≤ length l - at → (b : Bool) → b ≡ block_good low high (block_in k (drop at l)) → Judged k low high l (at + 2 * k) (good && b)
+  judge_next : 2 * k ≤ length l - at → (b : Bool) → b ≡ block_good low high (block_in k (drop at l)) → Judged k low high l (at + 2 * k) (good && b)
   unfolding all_of
   judge_next h b e =
       let d : length (drop at l) ≡ length l - at = length-drop at l in
       inv ∙ rw (blocks_more k (some_item k item) (drop at l) (omega arith), drop-drop (2 * k) at l, ← e) (both_and good b _)
 
-  pub judge_end : length l - at < 2 * k → good ≡ list_good k low high l
+  judge_end : length l - at < 2 * k → good ≡ list_good k low high l
   unfolding all_of
   judge_end h =
       let d : length (drop at l) ≡ length l - at = length-drop at l in
       sym (inv ∙ rw (blocks_end k (some_item k item) (drop at l) (omega arith)) (both_true_right good))
+
+-- the same, by the number of the block
+block_room : (k n i : ℕ) → i < n / (2 * k) → i * (2 * k) + 2 * k ≤ n
+block_room k n i h = let m : suc i * (2 * k) ≤ n / (2 * k) * (2 * k) = mul-le-mul_right (2 * k) h in let t = suc-mul i (2 * k) in omega arith
+
+last_short : (k n i : ℕ) → 0 < k → n / (2 * k) ≤ i → n - i * (2 * k) < 2 * k
+last_short k n i some h = let m : n / (2 * k) * (2 * k) ≤ i * (2 * k) = mul-le-mul_right (2 * k) h in omega arith
+
+pub blocks_judged : (k low high : ℕ) → Item k → (l : List ℕ) → length l % (2 * k) ≡ 0 → length l / (2 * k) ≤ 255 → Judged k low high l (0 * (2 * k)) true
+blocks_judged k low high item l w h = rw (zero-mul (2 * k)) (judge_start k low high item l w h)
+
+module _ (k low high : ℕ) (item : Item k) (l : List ℕ) (i : ℕ) (good : Bool) (inv : Judged k low high l (i * (2 * k)) good) where
+  pub judged_more : i < length l / (2 * k) → (b : Bool) → b ≡ block_good low high (block_in k (drop (i * (2 * k)) l)) → Judged k low high l ((i + 1) * (2 * k)) (good && b)
+  judged_more h b e =
+      let room = block_room k (length l) i h in
+      let next : i * (2 * k) + 2 * k ≡ (i + 1) * (2 * k) = omega arith in
+      rw next at (judge_next k low high item l (i * (2 * k)) good inv (omega arith) b e)
+
+  pub judged_all : length l / (2 * k) ≤ i → good ≡ list_good k low high l
+  judged_all h = judge_end k low high item l (i * (2 * k)) good inv (last_short k (length l) i (some_item k item) h)
 
 -- ---- what is left to write
 
@@ -184,20 +204,17 @@ pub record Blocking (l : List ℕ) (k size : ℕ) (out₀ : List ℕ) (at : ℕ)
   pub room : at + length (blocks_bytes size (blocks_in k l)) ≤ length out₀
   pub left : Left out₀ at (blocks_bytes size (blocks_in k l)) out to (blocks_from k size l from)
 
-pub blocks_start : (l : List ℕ) (k size : ℕ) (out : List ℕ) (at : ℕ) → Item k → at + length (blocks_bytes size (blocks_in k l)) ≤ length out → Blocking l k size out at out 0 at
+blocks_start : (l : List ℕ) (k size : ℕ) (out : List ℕ) (at : ℕ) → Item k → at + length (blocks_bytes size (blocks_in k l)) ≤ length out → Blocking l k size out at out 0 at
 blocks_start l k size out at item room = record { item = item; inside = omega arith; room = room; left = left_start out at (blocks_bytes size (blocks_in k l)) }
 
 module _ (l : List ℕ) (k size : ℕ) (out₀ : List ℕ) (at : ℕ) (out : List ℕ) (from to : ℕ) (b : Blocking l k size out₀ at out from to) where
-  pub blocks_inside : 2 * k ≤ length l - from → from + 2 * k ≤ length l
-  blocks_inside h = let i = b.inside in omega arith
-
-  pub blocks_room : 2 * k ≤ length l - from → to + 2 * size ≤ length out
+  blocks_room : 2 * k ≤ length l - from → to + 2 * size ≤ length out
   blocks_room h =
       let n = length-one size (block_in k (drop from l)) in
       let r = left_room out₀ at _ out to _ b.room b.left (block_bytes size (block_in k (drop from l))) _ (blocks_left k size b.item l from h) in
       omega arith
 
-  pub blocks_next : 2 * k ≤ length l - from → (o : List ℕ) → o ≡ pasted out to (block_bytes size (block_in k (drop from l))) → Blocking l k size out₀ at o (from + 2 * k) (to + 2 * size)
+  blocks_next : 2 * k ≤ length l - from → (o : List ℕ) → o ≡ pasted out to (block_bytes size (block_in k (drop from l))) → Blocking l k size out₀ at o (from + 2 * k) (to + 2 * size)
   blocks_next h o w =
       let i = b.inside in
       let n = left_next out₀ at (blocks_bytes size (blocks_in k l)) out to (blocks_from k size l from) b.room b.left (block_bytes size (block_in k (drop from l))) (blocks_from k size l (from + 2 * k)) o (blocks_left k size b.item l from h) w in
@@ -208,8 +225,29 @@ module _ (l : List ℕ) (k size : ℕ) (out₀ : List ℕ) (at : ℕ) (out : Lis
         left = subst (λ (m : ℕ). Left out₀ at (blocks_bytes size (blocks_in k l)) o (to + m) (blocks_from k size l (from + 2 * k))) (length-one size (block_in k (drop from l))) n;
       }
 
-  pub blocks_done : length l - from < 2 * k → out ≡ pasted out₀ at (blocks_bytes size (blocks_in k l))
+  blocks_done : length l - from < 2 * k → out ≡ pasted out₀ at (blocks_bytes size (blocks_in k l))
   blocks_done h = (left_end out₀ at _ out to _ b.room b.left (blocks_none k size b.item l from h)).0
+
+-- the same, by the number of the block
+pub items_start : (l : List ℕ) (k size : ℕ) (out : List ℕ) (at : ℕ) → Item k → at + length (blocks_bytes size (blocks_in k l)) ≤ length out → Blocking l k size out at out (0 * (2 * k)) (at + 0 * (2 * size))
+items_start l k size out at item room = rw (zero-mul (2 * k), zero-mul (2 * size), add-zero at) (blocks_start l k size out at item room)
+
+module _ (l : List ℕ) (k size : ℕ) (out₀ : List ℕ) (at : ℕ) (out : List ℕ) (i : ℕ) (b : Blocking l k size out₀ at out (i * (2 * k)) (at + i * (2 * size))) where
+  pub items_inside : i < length l / (2 * k) → i * (2 * k) + 2 * k ≤ length l
+  items_inside h = block_room k (length l) i h
+
+  pub items_room : i < length l / (2 * k) → at + i * (2 * size) + 2 * size ≤ length out
+  items_room h = let r = block_room k (length l) i h in blocks_room l k size out₀ at out (i * (2 * k)) (at + i * (2 * size)) b (omega arith)
+
+  pub items_next : i < length l / (2 * k) → (o : List ℕ) → o ≡ pasted out (at + i * (2 * size)) (block_bytes size (block_in k (drop (i * (2 * k)) l))) → Blocking l k size out₀ at o ((i + 1) * (2 * k)) (at + (i + 1) * (2 * size))
+  items_next h o w =
+      let r = block_room k (length l) i h in
+      let f : i * (2 * k) + 2 * k ≡ (i + 1) * (2 * k) = omega arith in
+      let t : at + i * (2 * size) + 2 * size ≡ at + (i + 1) * (2 * size) = omega arith in
+      rw (f, t) at (blocks_next l k size out₀ at out (i * (2 * k)) (at + i * (2 * size)) b (omega arith) o w)
+
+  pub items_done : length l / (2 * k) ≤ i → out ≡ pasted out₀ at (blocks_bytes size (blocks_in k l))
+  items_done h = blocks_done l k size out₀ at out (i * (2 * k)) (at + i * (2 * size)) b (last_short k (length l) i (some_item k b.item) h)
 
 -- ---- TLVs
 
@@ -243,36 +281,25 @@ tlv_put out o₁ o₂ v at kind n h g e room w₁ w₂ = (
 abbrev pub tlvs_from : ℕ → ℕ → ℕ → List ℕ → ℕ → List ℕ
 tlvs_from kind size k l from = tlvs_bytes kind size (blocks_in k (drop from l))
 
-pub at_most_first : (m n : ℕ) → m < n → m ≡ at_most m n
-unfolding at_most pick
-at_most_first m n h = rw (lt-leb n m h)
-
 drop_past : (n : ℕ) (l : List ℕ) → length l ≤ n → drop n l ≡ []
 drop_past n l h = drop_of_length-le l h
 
 -- the smaller of what fills a TLV and what is left
-cut_alike : (full n : ℕ) (l : List ℕ) (b : Bool) → leb (length l) full ≡ b → n ≡ pick b (length l) full → (take full l ≡ take n l) × ((drop full l ≡ drop n l) × (n ≤ length l))
-unfolding pick
-cut_alike full n l true e m =
-    let h = leb-true (length l) full e in (
-      take_all full l h ∙ sym (take_all n l (omega arith)),
-      (drop_past full l h ∙ sym (drop_past n l (omega arith)), omega arith),
+cut_alike : (full n : ℕ) (l : List ℕ) → Dec (length l < full) → n ≡ min full (length l) → (take full l ≡ take n l) × ((drop full l ≡ drop n l) × (n ≤ length l))
+cut_alike full n l (yes h) m =
+    let e : n ≡ length l = omega arith in (
+      take_all full l (omega arith) ∙ sym (take_all n l (omega arith)),
+      (drop_past full l (omega arith) ∙ sym (drop_past n l (omega arith)), omega arith),
     )
-cut_alike full n l false e m =
-    let h = leb-false (length l) full e in
-    rw m (refl, (refl, omega arith))
+cut_alike full n l (no h) m =
+    let e : n ≡ full = omega arith in
+    rw e (refl, (refl, omega arith))
 
-smaller_some : (m n r : ℕ) (b : Bool) → r ≡ pick b n m → 0 < m → 0 < n → 0 < r
-unfolding pick
-smaller_some m n r true e p q = omega arith
-smaller_some m n r false e p q = omega arith
-
-module _ (kind size k full : ℕ) (fill : Filling k size full) (l : List ℕ) (from n : ℕ) (is : n ≡ at_most full (length l - from)) where
+module _ (kind size k full : ℕ) (fill : Filling k size full) (l : List ℕ) (from n : ℕ) (is : n ≡ min full (length l - from)) where
   smaller_cut : (take full (drop from l) ≡ take n (drop from l)) × ((drop full (drop from l) ≡ drop n (drop from l)) × (n ≤ length (drop from l)))
-  unfolding at_most
   smaller_cut =
       let d : length (drop from l) ≡ length l - from = length-drop from l in
-      cut_alike full n (drop from l) (leb (length (drop from l)) full) refl (rw d is)
+      cut_alike full n (drop from l) (dec_lt (length (drop from l)) full) (rw d is)
 
   pub cut_inside : from ≤ length l → n ≤ length l - from
   cut_inside h =
@@ -281,12 +308,11 @@ module _ (kind size k full : ℕ) (fill : Filling k size full) (l : List ℕ) (f
       omega arith
 
   pub cut_some : 2 * k ≤ length l - from → 0 < n
-  unfolding at_most
   cut_some h =
       let o = fill.item.least in
       let f = fill.full_is in
       let q : 1 * (2 * k) ≤ per_tlv size * (2 * k) = mul-le-mul_right (2 * k) fill.some in
-      smaller_some full (length l - from) n (leb (length l - from) full) is (omega arith) (omega arith)
+      omega arith
 
   pub tlvs_left : 2 * k ≤ length l - from → tlvs_from kind size k l from ≡ tlv_bytes kind (blocks_bytes size (blocks_in k (take n (drop from l)))) ++ tlvs_from kind size k l (from + n)
   tlvs_left h =
@@ -328,7 +354,7 @@ module _ (l : List ℕ) (k size full kind : ℕ) (out₀ : List ℕ) (at : ℕ) 
   pub tlvs_end : length l - from < 2 * k → to ≡ at + length (tlvs_bytes kind size (blocks_in k l))
   tlvs_end h = (tlvs_done_lem h).1
 
-  module _ (h : 2 * k ≤ length l - from) (n : ℕ) (is : n ≡ at_most full (length l - from)) where
+  module _ (h : 2 * k ≤ length l - from) (n : ℕ) (is : n ≡ min full (length l - from)) where
     pub part_inside : from + n ≤ length l
     part_inside =
         let i = t.inside in

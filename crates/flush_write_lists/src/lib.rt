@@ -4,7 +4,6 @@
 
 ghost use Rattle.std.specs.Prelude.{◌+◌, ◌*◌, ◌<◌, ◌≤◌, ◌≡◌, length, take, drop};
 ghost use Rattle.numbers.specs.Bytes.{num, bytes_of};
-ghost use Rattle.numbers.specs.Numberings.{at_most};
 ghost use Rattle.frame_copy.specs.Areas.{pasted};
 ghost use Rattle.flush_write.specs.Writing.{block_good, block_bytes, blocks_bytes, tlv_bytes, tlvs_bytes};
 ghost use Rattle.flush_write.specs.Areas.{block_in, blocks_in};
@@ -80,10 +79,8 @@ pub fn list_good(l: &[u8], k: usize, low: u64, high: u64) -> bool
         return false;
     }
     let mut good = true;
-    let mut at = 0;
-    while n <= l.len() - at {
-        good = good & block_good(l, at, k, low, high);
-        at += n;
+    for i in 0..l.len() / n {
+        good = good & block_good(l, i * n, k, low, high);
     }
     good
 }
@@ -116,12 +113,8 @@ pub fn put_blocks(l: &[u8], k: usize, size: usize, out: &mut [u8], at: usize)
 {
     let n = 2 * k;
     let m = 2 * size;
-    let mut from = 0;
-    let mut to = at;
-    while n <= l.len() - from {
-        put_block(l, from, k, size, out, to);
-        from += n;
-        to += m;
+    for i in 0..l.len() / n {
+        put_block(l, i * n, k, size, out, at + i * m);
     }
 }
 
@@ -134,15 +127,6 @@ fn put_tlv(l: &[u8], k: usize, size: usize, kind: u64, out: &mut [u8], at: usize
     frame_copy::put_number(kind * 0x100 + n as u64, 2, out, at);
     put_blocks(l, k, size, out, at + 2);
     at + 2 + n
-}
-
-fn smaller(m: usize, n: usize) -> usize
-    ensures { result ≡ at_most m n }
-{
-    if n <= m {
-        return n;
-    }
-    m
 }
 
 // Writes a list as TLVs of a type, each with as much of the list as fills it, and gives where they end.
@@ -160,8 +144,9 @@ pub fn put_tlvs(
 {
     let mut from = 0;
     let mut to = at;
+    // A `while`: the last TLV takes less of the list than the others.
     while 2 * k <= l.len() - from {
-        let n = smaller(full, l.len() - from);
+        let n = full.min(l.len() - from);
         to = put_tlv(frame_copy::part(l, from, n), k, size, kind, out, to);
         from += n;
     }
