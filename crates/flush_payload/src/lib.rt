@@ -110,6 +110,7 @@ fn pass_empty(l: &[u8], from: usize) -> usize
     ensures { EmptyPassed l.now from result }
 {
     let mut at = from;
+    // A `while`: the place where it stops is the answer, at the end of the bytes too, where a `for` would reckon it once more.
     while 2 <= l.len() - at {
         if l[at + 1] != 0 {
             return at;
@@ -138,6 +139,7 @@ fn judge_tlvs(model: Model, l: &[u8]) -> Judged
 {
     let mut f = blocks_alone(0);
     let mut at = 0;
+    // A `while`: the step is the length of the TLV, and of the empty ones behind it.
     while at < l.len() {
         let e = flush_tlvs::end_of(l, at);
         if l.len() < e {

@@ -31,6 +31,7 @@ fn add_tlvs(l: &[u8], s: &mut [u8])
     ensures { Gains s.old s.new (vlans_of (tlvs l.now)) }
 {
     let mut at = 0;
+    // A `while`: the step is the length of the TLV.
     while at < l.len() {
         let e = flush_tlvs::end_of(l, at);
         if l.len() < e {
