@@ -80,9 +80,9 @@ fn tlvs_length(v: usize, f: usize, m: usize) -> usize
     requires { (v ≤ 255) × ((f ≤ 255) × (m ≤ 255)) }
     ensures { (result ≡ tlvs_length 2 v + (tlvs_length 3 f + tlvs_length 6 m)) × (result ≤ 5660) }
 {
-    let a = VLAN_BLOCK * v + 2 * ((v + (VLANS_PER_TLV - 1)) / VLANS_PER_TLV);
-    let b = FINE_BLOCK * f + 2 * ((f + (FINES_PER_TLV - 1)) / FINES_PER_TLV);
-    let c = MAC_BLOCK * m + 2 * ((m + (MACS_PER_TLV - 1)) / MACS_PER_TLV);
+    let a = VLAN_BLOCK * v + 2 * v.div_ceil(VLANS_PER_TLV);
+    let b = FINE_BLOCK * f + 2 * f.div_ceil(FINES_PER_TLV);
+    let c = MAC_BLOCK * m + 2 * m.div_ceil(MACS_PER_TLV);
     a + (b + c)
 }
 
