@@ -5,7 +5,7 @@ use mathlib.Core.Bool.{Bool, true, false, ◌&&◌}
 use mathlib.Core.List.{List, [], ◌∷◌, ◌++◌, flat_map, append-nil}
 use mathlib.Core.Path.{◌≡◌, refl, sym, ap, ◌∙◌, subst}
 use native.Mathlib.Decide.{dec_lt}
-use native.Mathlib.Nat.{add-zero, mul_comm, suc-mul, zero-mul, mul-le-mul_left, mul-le-mul_right}
+use native.Mathlib.Nat.{mul_comm, suc-mul, zero-mul, mul-le-mul_left, mul-le-mul_right}
 use native.Mathlib.Omega.{arith}
 use lib.Dec.{leb, eqb}
 use lib.ListN.{length, take, drop, length-append, length-drop, length-take, take-append-drop, drop_of_length-le}
@@ -204,17 +204,20 @@ pub record Blocking (l : List ℕ) (k size : ℕ) (out₀ : List ℕ) (at : ℕ)
   pub room : at + length (blocks_bytes size (blocks_in k l)) ≤ length out₀
   pub left : Left out₀ at (blocks_bytes size (blocks_in k l)) out to (blocks_from k size l from)
 
-blocks_start : (l : List ℕ) (k size : ℕ) (out : List ℕ) (at : ℕ) → Item k → at + length (blocks_bytes size (blocks_in k l)) ≤ length out → Blocking l k size out at out 0 at
+pub blocks_start : (l : List ℕ) (k size : ℕ) (out : List ℕ) (at : ℕ) → Item k → at + length (blocks_bytes size (blocks_in k l)) ≤ length out → Blocking l k size out at out 0 at
 blocks_start l k size out at item room = record { item = item; inside = omega arith; room = room; left = left_start out at (blocks_bytes size (blocks_in k l)) }
 
 module _ (l : List ℕ) (k size : ℕ) (out₀ : List ℕ) (at : ℕ) (out : List ℕ) (from to : ℕ) (b : Blocking l k size out₀ at out from to) where
-  blocks_room : 2 * k ≤ length l - from → to + 2 * size ≤ length out
+  pub blocks_inside : 2 * k ≤ length l - from → from + 2 * k ≤ length l
+  blocks_inside h = let i = b.inside in omega arith
+
+  pub blocks_room : 2 * k ≤ length l - from → to + 2 * size ≤ length out
   blocks_room h =
       let n = length-one size (block_in k (drop from l)) in
       let r = left_room out₀ at _ out to _ b.room b.left (block_bytes size (block_in k (drop from l))) _ (blocks_left k size b.item l from h) in
       omega arith
 
-  blocks_next : 2 * k ≤ length l - from → (o : List ℕ) → o ≡ pasted out to (block_bytes size (block_in k (drop from l))) → Blocking l k size out₀ at o (from + 2 * k) (to + 2 * size)
+  pub blocks_next : 2 * k ≤ length l - from → (o : List ℕ) → o ≡ pasted out to (block_bytes size (block_in k (drop from l))) → Blocking l k size out₀ at o (from + 2 * k) (to + 2 * size)
   blocks_next h o w =
       let i = b.inside in
       let n = left_next out₀ at (blocks_bytes size (blocks_in k l)) out to (blocks_from k size l from) b.room b.left (block_bytes size (block_in k (drop from l))) (blocks_from k size l (from + 2 * k)) o (blocks_left k size b.item l from h) w in
@@ -225,29 +228,8 @@ module _ (l : List ℕ) (k size : ℕ) (out₀ : List ℕ) (at : ℕ) (out : Lis
         left = subst (λ (m : ℕ). Left out₀ at (blocks_bytes size (blocks_in k l)) o (to + m) (blocks_from k size l (from + 2 * k))) (length-one size (block_in k (drop from l))) n;
       }
 
-  blocks_done : length l - from < 2 * k → out ≡ pasted out₀ at (blocks_bytes size (blocks_in k l))
+  pub blocks_done : length l - from < 2 * k → out ≡ pasted out₀ at (blocks_bytes size (blocks_in k l))
   blocks_done h = (left_end out₀ at _ out to _ b.room b.left (blocks_none k size b.item l from h)).0
-
--- the same, by the number of the block
-pub items_start : (l : List ℕ) (k size : ℕ) (out : List ℕ) (at : ℕ) → Item k → at + length (blocks_bytes size (blocks_in k l)) ≤ length out → Blocking l k size out at out (0 * (2 * k)) (at + 0 * (2 * size))
-items_start l k size out at item room = rw (zero-mul (2 * k), zero-mul (2 * size), add-zero at) (blocks_start l k size out at item room)
-
-module _ (l : List ℕ) (k size : ℕ) (out₀ : List ℕ) (at : ℕ) (out : List ℕ) (i : ℕ) (b : Blocking l k size out₀ at out (i * (2 * k)) (at + i * (2 * size))) where
-  pub items_inside : i < length l / (2 * k) → i * (2 * k) + 2 * k ≤ length l
-  items_inside h = block_room k (length l) i h
-
-  pub items_room : i < length l / (2 * k) → at + i * (2 * size) + 2 * size ≤ length out
-  items_room h = let r = block_room k (length l) i h in blocks_room l k size out₀ at out (i * (2 * k)) (at + i * (2 * size)) b (omega arith)
-
-  pub items_next : i < length l / (2 * k) → (o : List ℕ) → o ≡ pasted out (at + i * (2 * size)) (block_bytes size (block_in k (drop (i * (2 * k)) l))) → Blocking l k size out₀ at o ((i + 1) * (2 * k)) (at + (i + 1) * (2 * size))
-  items_next h o w =
-      let r = block_room k (length l) i h in
-      let f : i * (2 * k) + 2 * k ≡ (i + 1) * (2 * k) = omega arith in
-      let t : at + i * (2 * size) + 2 * size ≡ at + (i + 1) * (2 * size) = omega arith in
-      rw (f, t) at (blocks_next l k size out₀ at out (i * (2 * k)) (at + i * (2 * size)) b (omega arith) o w)
-
-  pub items_done : length l / (2 * k) ≤ i → out ≡ pasted out₀ at (blocks_bytes size (blocks_in k l))
-  items_done h = blocks_done l k size out₀ at out (i * (2 * k)) (at + i * (2 * size)) b (last_short k (length l) i (some_item k b.item) h)
 
 -- ---- TLVs
 

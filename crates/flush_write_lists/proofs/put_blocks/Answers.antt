@@ -1,16 +1,16 @@
--- `flush_write_lists::put_blocks` meets its contract. The invariant: the blocks that are left, each at its place, make the area that is asked for.
-use Rattle.flush_write_lists.proofs.Laws.{items_start, items_inside, items_room, items_next, items_done}
+-- `flush_write_lists::put_blocks` meets its contract. The invariant: the blocks that are left, written at `to`, make the area that is asked for.
+use Rattle.flush_write_lists.proofs.Laws.{blocks_start, blocks_inside, blocks_room, blocks_next, blocks_done}
 use borrow.Author.Rules.{rules}
 use Rattle.flush_write_lists.proofs.put_blocks.Goals as goal
 
-pub loop-i-init : goal.loop-i-init
-loop-i-init c = search items_start
+pub loop-from-init : goal.loop-from-init
+loop-from-init c = search blocks_start
 
 pub put_block-requires : goal.put_block-requires
-put_block-requires c = ((search rules, search items_inside), search items_room)
+put_block-requires c = ((search rules, search blocks_inside), search blocks_room)
 
-pub loop-i-preserved : goal.loop-i-preserved
-loop-i-preserved c = search items_next
+pub loop-from-preserved : goal.loop-from-preserved
+loop-from-preserved c = search blocks_next
 
 pub returns : goal.returns
-returns c = search items_done
+returns c = search blocks_done
