@@ -2,7 +2,7 @@
 -- Assumes nothing.
 use Prim.Native.Nat.{ℕ, zero, suc, ◌+◌, ◌-◌, ◌*◌, ◌/◌, ◌%◌, ◌<◌, ◌≤◌}
 use mathlib.Core.Bool.{Bool, true, false}
-use mathlib.Core.List.{List, ◌++◌}
+use mathlib.Core.List.{List}
 use mathlib.Core.Path.{◌≡◌, refl, sym, ap, ◌∙◌}
 use native.Mathlib.Decide.{ℕ_discrete}
 use native.Mathlib.Nat.{add-zero, zero-add}
@@ -19,7 +19,7 @@ use Rattle.numbers.specs.Bytes.{bytes_of}
 use Rattle.table.specs.Slots.{slot_bytes, slots_of, slot_at, put_slot, freed, on_slots, count_slots}
 use Rattle.table.specs.declared.Place.{Place}
 use Rattle.table.specs.declared.Place.TheVariants.{At, Nowhere}
-use Rattle.table.proofs.Slots.{length-put_slot, put_lent, drop-on_slots}
+use Rattle.table.proofs.Slots.{length-put_slot, drop-on_slots}
 use Rattle.flush.specs.Flush.{cleared_slot, cleared_by}
 use Rattle.flush.proofs.Flushing.{cleared_hit, cleared_miss, cleared_keeps}
 use Rattle.flush_marks.specs.Marks.{Unmarked, NextMark, Chosen, count_marks, freed_marks, cleared_marks, AllMarked, freed_from, ClearedTo, cleared_in}
@@ -116,10 +116,6 @@ module _ (m t : List ℕ) where
 
 -- ---- slots that are all marked
 
--- the slot that is lent is put back
-pub slot-freed : (k : ℕ) (u r : List ℕ) → r ≡ freed → take (slot_bytes * k) u ++ (r ++ drop (slot_bytes * k + slot_bytes - slot_bytes * k) (drop (slot_bytes * k) u)) ≡ put_slot k freed u
-slot-freed k u r e = put_lent k r u ∙ ap (λ (s : List ℕ). put_slot k s u) e
-
 module _ (k : ℕ) (t : List ℕ) where
   pub run_none : t ≡ freed_from k 0 t
   unfolding freed_from
@@ -128,9 +124,6 @@ module _ (k : ℕ) (t : List ℕ) where
   pub run_next : (i : ℕ) (u : List ℕ) → u ≡ freed_from k i t → (v : List ℕ) → v ≡ put_slot (k + i) freed u → v ≡ freed_from k (i + 1) t
   unfolding freed_from
   run_next i u so_far v put = put ∙ rw (so_far, add-one i)
-
-  pub run_ends : (i n : ℕ) (u : List ℕ) → u ≡ freed_from k i t → i ≤ n → n ≤ i → u ≡ freed_from k n t
-  run_ends i n u so_far low high = so_far ∙ ap (λ (d : ℕ). freed_from k d t) (omega arith)
 
 module _ (m t : List ℕ) where
   cleared_run : (d i c : ℕ) (u : List ℕ) → ClearedTo m t i c u → AllMarked m i d (slots_of t) → ClearedTo m t (i + d) (c + d) (freed_from i d u)

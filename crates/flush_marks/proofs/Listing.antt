@@ -1,7 +1,7 @@
 -- Laws of a loop over marks that lists the marked slots.
 -- Assumes nothing.
 use Prim.{tt}
-use Prim.Native.Nat.{ℕ, ◌+◌, ◌*◌, ◌/◌, ◌<◌, ◌≤◌}
+use Prim.Native.Nat.{ℕ, ◌+◌, ◌<◌, ◌≤◌}
 use mathlib.Core.Bool.{Bool, true, false}
 use mathlib.Core.List.{List, [], ◌∷◌, ◌++◌}
 use mathlib.Core.Path.{◌≡◌, refl, sym, ap, ◌∙◌}
@@ -18,8 +18,7 @@ use Rattle.numbers.specs.Numberings.{bit_at}
 use Rattle.numbers.proofs.Truth.{either_none}
 use Rattle.flush_sort.specs.Sorting.{All}
 use Rattle.flush_sort.proofs.Laws.{any_append, all_append}
-use Rattle.flush_marks.specs.Marks.{Unmarked, Listed, Listing}
-use Rattle.flush_marks.specs.declared.Room.TheVariants.{Held, Full}
+use Rattle.flush_marks.specs.Marks.{Unmarked}
 
 -- so far: the first c numbers of the list u are the marked slots before slot k
 pub record ListedTo (m : List ℕ) (n : ℕ) (s : List ℕ) (k c : ℕ) (u : List ℕ) : Type 0 where
@@ -102,26 +101,3 @@ module _ (m : List ℕ) (n : ℕ) (s : List ℕ) where
         go : (b : Bool) → bit_at k m ≡ b → c < length u → ListedTo m n s (k + 1) (c + pick b 1 0) (set u c k)
         go true marked room = listed_put inside marked room
         go false clear room = rw (add-zero c) (listed_pass clear room)
-
-    -- a byte without a mark is passed over
-    pub listed_byte : (b : Bool) → (b ≡ true → (x : ℕ) → k / 8 ≡ x / 8 → bit_at x m ≡ false) → b ≡ true → ListedTo m n s (k / 8 * 8 + 8) c u
-    listed_byte b none e = listed_skip (k / 8 * 8 + 8) (omega arith) (record { none = λ j l h. none e j (omega arith) })
-
-    pub listed_full : k < n → c ≡ length u → Listing m n s u Full
-    listed_full h e =
-        let few = so_far.few in
-        record {
-          long = so_far.long;
-          held = λ d q. let z : ◌≡◌ {A = ℕ} 0 1 = cc in absurd (omega arith);
-          full = λ q. omega arith;
-        }
-
-    pub listed_ends : n ≤ k → Listing m n s u (Held c)
-    listed_ends h = record {
-      long = so_far.long;
-      held = λ d e. let same : c ≡ d = cc in rw same at listed;
-      full = λ e. let z : ◌≡◌ {A = ℕ} 0 1 = cc in absurd (omega arith);
-    }
-      where
-        listed : Listed m n c u
-        listed = record { room = so_far.room; slots = so_far.slots; each = λ j l. so_far.done j (omega arith) }

@@ -9,7 +9,6 @@ use native.Mathlib.Omega.{arith}
 use lib.Count.{count_leading_zeros}
 use Rattle.numbers.specs.Numberings.{bit_at}
 use Rattle.numbers.proofs.Truth.{false_true}
-use Rattle.table.specs.declared.Place.{Place}
 use Rattle.table.specs.declared.Place.TheVariants.{At, Nowhere}
 use Rattle.flush_marks.specs.Marks.{high_bit, RestOf, Unmarked, Found, NextMark}
 use Rattle.flush_marks.proofs.Words.{zero_high, top_high, first_high}
@@ -79,7 +78,3 @@ module _ (m : List ℕ) (from k : ℕ) (passed : Unmarked m from k) (order : fro
     tail_hit n h =
         let f = z_found in
         next_found m from (k + z) (tail-passed z (omega (arith, f.0)) f.1.1) n (omega arith) h true (sym (sym (rest.bits z f.0) ∙ f.1.0)) refl
-
--- what a search that found nothing tells
-pub none_told : (m : List ℕ) (n : ℕ) (p : Place) → NextMark m 0 n p → p ≡ Nowhere → (r : Bool) → r ≡ false → Unmarked m 0 n
-none_told m n p next e r f = next.miss e

@@ -47,6 +47,7 @@ pub fn next_marked(marks: &[u8], from: usize, n: usize) -> Place
     ensures { NextMark marks.now from n result }
 {
     let mut k = from;
+    // A `while`: the step goes on to the next word.
     while k < n {
         let w = rest_of(marks, k);
         if FIRST_BIT <= w {
@@ -87,10 +88,8 @@ pub fn weight(marks: &[u8]) -> usize
     ensures { result ≤ most_slots }
 {
     let mut sum = 0;
-    let mut i = 0;
-    while i + 8 <= marks.len() {
-        sum += ones(numbers::be8(marks, i));
-        i += 8;
+    for word in marks.chunks_exact(8) {
+        sum += ones(numbers::be8(word, 0));
     }
     sum
 }
@@ -124,10 +123,8 @@ fn clear_run(table: &mut [u8], k: usize, n: usize)
     requires { k + n ≤ slots_of table.old }
     ensures { table.new ≡ freed_from k n table.old }
 {
-    let mut i = 0;
-    while i < n {
+    for i in 0..n {
         clear_slot(table, k + i);
-        i += 1;
     }
 }
 
@@ -140,6 +137,7 @@ pub fn clear_marked(table: &mut [u8], marks: &[u8]) -> usize
     let n = table.len() / SLOT_BYTES;
     let mut count = 0;
     let mut k = 0;
+    // A `while`: the step is eight slots, one, or up to the next mark.
     while k < n {
         if eight_marked(marks, k, n) {
             clear_run(table, k, 8);
@@ -180,6 +178,7 @@ pub fn list_marked(marks: &[u8], n: usize, slots: &mut [u64]) -> Room
 {
     let mut c = 0;
     let mut k = 0;
+    // A `while`: the step is one slot, or up to the next byte.
     while k < n {
         if flush_bits::none_at(marks, (k / 8) as u64) {
             k = k / 8 * 8 + 8;
@@ -200,9 +199,5 @@ pub fn remove_all(marks: &mut [u8])
     requires { length marks.old ≡ mark_bytes }
     ensures { NoMarks marks.new }
 {
-    let mut i = 0;
-    while i < marks.len() {
-        marks[i] = 0;
-        i += 1;
-    }
+    marks.fill(0);
 }

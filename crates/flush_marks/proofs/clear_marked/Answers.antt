@@ -1,5 +1,4 @@
 -- `flush_marks::clear_marked` meets its contract. The invariant: the marked ones of the first `k` slots are cleared and counted.
-use Prim.Native.Nat.{◌-◌}
 use native.Mathlib.Omega.{arith}
 use Rattle.flush_marks.proofs.Clearing.{cleared_none, cleared_next, cleared_eight, cleared_found, cleared_rest, cleared_ends}
 use borrow.Author.Rules.{rules}

@@ -1,5 +1,4 @@
 -- `flush_marks::next_marked` meets its contract. The invariant: no slot from `from` on and before `k` is marked.
-use Prim.Native.Nat.{◌-◌}
 use Rattle.flush_marks.proofs.Walks.{unmarked_none, tail_here, tail_none, tail_past, tail_hit, next_nowhere}
 use borrow.Author.Rules.{rules}
 use Rattle.flush_marks.proofs.next_marked.Goals as goal
