@@ -70,20 +70,15 @@ pub fn clear_walked(
     ensures { on_table result table.new ≡ swept_in (slot_noted f nicks.now (pieces_of f.blocks rest.now) ingress) from count table.old }
 {
     let mut cleared = 0;
-    let mut i = 0;
-    while i < count {
+    let mut examined = 0;
+    for i in 0..count {
+        examined += 1;
         let a = SLOT_BYTES * (from + i);
         if meant_at(ingress, nicks, rest, f, table, a) {
             let e = a + SLOT_BYTES;
             table_records::clear(&mut table[a..e]);
             cleared += 1;
-            i += 1;
-        } else {
-            i += 1;
         }
     }
-    Sweep {
-        cleared,
-        examined: i,
-    }
+    Sweep { cleared, examined }
 }
