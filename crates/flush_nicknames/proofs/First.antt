@@ -9,9 +9,9 @@ use native.Mathlib.Decide.{dec_lt, ℕ_discrete}
 use native.Mathlib.Nat.{mod-eq_of_lt}
 use native.Mathlib.Omega.{arith}
 use lib.Bits.{bit_or}
-use lib.Dec.{leb, eqb}
+use lib.Dec.{eqb}
 use lib.ListN.{length, take, drop, get_or, set, replicate, length-replicate}
-use borrow.Author.Tests.{eq-eqb, ne_eqb, eqb-true, leb-true, not-true, not-false}
+use borrow.Author.Tests.{eq-eqb, ne_eqb, eqb-true, eqb-false, not-true}
 use Rattle.numbers.specs.Tests.{pick, both, either, any_of}
 use Rattle.numbers.specs.Bytes.{num}
 use Rattle.numbers.specs.Numberings.{bit_at}
@@ -30,8 +30,6 @@ use Rattle.flush_payload.specs.Judging.{every_kind, of_kind}
 use Rattle.flush_payload.specs.declared.Kinds.{Kinds}
 use Rattle.flush_payload.proofs.Laws.{none_brought}
 use Rattle.flush_parts.specs.Named.{fine_naming, named_in, named_of}
-use Rattle.flush_parts.specs.Parts.{Narrow}
-use Rattle.flush_parts.specs.declared.Naming.{Naming}
 use Rattle.flush_buckets.specs.Buckets.{bucket_bytes, bucket_of, HasBits}
 use Rattle.flush_vlans.specs.Vlans.{vlan_bytes, VlansNoted, VlansMeant}
 use Rattle.flush_vlans.proofs.Laws.{every_meant, added_none, set_named}
@@ -93,51 +91,34 @@ module _ (vlans : List ℕ) (near : ℕ → Bool) (r : List ℕ) where
       go false = sym (each (label_of (record_of r)))
 
   module _ (p : ℕ → Bool) where
-    pub other_nickname : p (nickname_of (record_of r)) ≡ false → false ≡ slot_marked p vlans near r
+    other_nickname : p (nickname_of (record_of r)) ≡ false → false ≡ slot_marked p vlans near r
     unfolding slot_marked slot_named
     other_nickname h = sym (both_left _ _ (both_right (is_learned (unpacked r)) _ h))
+
+    -- another byte of the nickname
+    pub ruled_out : (b : Bool) → (b ≡ true → slot_names p r ≡ false) → b ≡ true → false ≡ slot_marked p vlans near r
+    unfolding slot_names
+    ruled_out b none e = other_nickname (none e)
 
     pub other_label_lem : (a : Bool) → a ≡ label_part vlans near r → a ≡ false → false ≡ slot_marked p vlans near r
     unfolding slot_marked
     other_label_lem a e h = sym (both_right (slot_named p r) _ (sym e ∙ h))
 
-    that_nickname : p (nickname_of (record_of r)) ≡ true → (a : Bool) → a ≡ label_part vlans near r → a ≡ true → (b : Bool) → b ≡ is_learned (unpacked r) → b ≡ slot_marked p vlans near r
-    unfolding slot_marked slot_named
-    that_nickname h a e t b f = f ∙ rw (h, ← e, t) (sym (both-all (both (is_learned (unpacked r)) true) ∙ both-all (is_learned (unpacked r))))
+    -- another nickname, or one that passes
+    module _ (x : ℕ) (field : x ≡ nickname_of (record_of r)) (c : Bool) (told : c ≡ p x) where
+      here : p (nickname_of (record_of r)) ≡ c
+      here = sym (told ∙ ap p field)
 
-  -- one nickname: another byte, another nickname, or this one
-  module _ (one : ℕ) where
-    pub not_middle : (m : ℕ) → m ≡ nickname_of (record_of r) / 2 ^ 3 % 2 ^ 8 → (m ≡ one / 8 % 256 → ⊥) → false ≡ slot_marked (λ x. eqb x one) vlans near r
-    not_middle m field h = other_nickname (λ x. eqb x one) (ne_eqb (nickname_of (record_of r)) one (λ e. h (field ∙ ap (λ (x : ℕ). x / 8 % 256) e)))
+      pub not_passed : c ≡ false → false ≡ slot_marked p vlans near r
+      not_passed h = other_nickname (here ∙ h)
 
-    pub not_single : (x : ℕ) → x ≡ nickname_of (record_of r) → (x ≡ one → ⊥) → false ≡ slot_marked (λ x. eqb x one) vlans near r
-    not_single x field h = other_nickname (λ x. eqb x one) (ne_eqb (nickname_of (record_of r)) one (λ e. h (field ∙ e)))
-
-    pub by_single : (x : ℕ) → x ≡ nickname_of (record_of r) → x ≡ one → (a : Bool) → a ≡ label_part vlans near r → a ≡ true → (b : Bool) → b ≡ is_learned (unpacked r) → b ≡ slot_marked (λ x. eqb x one) vlans near r
-    by_single x field same a e t b f = that_nickname (λ x. eqb x one) (eq-eqb (nickname_of (record_of r)) one (sym field ∙ same)) a e t b f
-
-  -- a set of them: no nickname of the byte, another nickname, or one of the set
-  module _ (names : List ℕ) where
-    pub not_byte : (h : ℕ) → h ≡ nickname_of (record_of r) / 2 ^ 3 → (b : Bool) → (b ≡ true → (x : ℕ) → h ≡ x / 8 → bit_at x names ≡ false) → b ≡ true → false ≡ slot_marked (λ x. bit_at x names) vlans near r
-    not_byte h field b none e = other_nickname (λ x. bit_at x names) (none e (nickname_of (record_of r)) field)
-
-    module _ (x : ℕ) (field : x ≡ nickname_of (record_of r)) (c : Bool) (told : c ≡ bit_at x names) where
-      here : bit_at (nickname_of (record_of r)) names ≡ c
-      here = sym (told ∙ ap (λ (n : ℕ). bit_at n names) field)
-
-      pub not_listed : c ≡ false → false ≡ slot_marked (λ x. bit_at x names) vlans near r
-      not_listed h = other_nickname (λ x. bit_at x names) (here ∙ h)
-
-      pub by_list : c ≡ true → (a : Bool) → a ≡ label_part vlans near r → a ≡ true → (b : Bool) → b ≡ is_learned (unpacked r) → b ≡ slot_marked (λ x. bit_at x names) vlans near r
-      by_list h a e t b f = that_nickname (λ x. bit_at x names) (here ∙ h) a e t b f
+      pub by_passed : c ≡ true → (a : Bool) → a ≡ label_part vlans near r → a ≡ true → (b : Bool) → b ≡ is_learned (unpacked r) → b ≡ slot_marked p vlans near r
+      unfolding slot_marked slot_named
+      by_passed h a e t b f = f ∙ rw (here ∙ h, ← e, t) (sym (both-all (both (is_learned (unpacked r)) true) ∙ both-all (is_learned (unpacked r))))
 
 -- the label by the tests of the code
-module _ (every : Bool) (vlans : List ℕ) (told : EveryMeant every vlans) (bits r : List ℕ) where
-  pub part_every : every ≡ true → true ≡ label_part vlans (may_pass every bits) r
-  part_every e = part_all vlans (may_pass every bits) r (told.all e) (by_every every e bits)
-
-  pub part_bits : every ≡ false → (k : ℕ) → k ≡ kind_of (record_of r) → (x : ℕ) → x ≡ label_of (record_of r) → (h : Bool) → h ≡ bit_at (x % 4096) vlans → (g : Bool) → g ≡ near_bit bits x → (eqb k 0 && h) || (not (eqb k 0) && g) ≡ label_part vlans (may_pass every bits) r
-  part_bits e k a x b h c g d = part_told vlans (may_pass every bits) r k a x b h c g (d ∙ sym (by_near every e bits x))
+pub part_bits : (vlans bits r : List ℕ) (k : ℕ) → k ≡ kind_of (record_of r) → (x : ℕ) → x ≡ label_of (record_of r) → (h : Bool) → h ≡ bit_at (x % 4096) vlans → (g : Bool) → g ≡ near_bit bits x → (eqb k 0 && h) || (not (eqb k 0) && g) ≡ label_part vlans (may_pass false bits) r
+part_bits vlans bits r k a x b h c g d = part_told vlans (may_pass false bits) r k a x b h c g (d ∙ sym (by_near false refl bits x))
 
 -- and where no fine-grained label is named
 or_none : (a h g : Bool) → g ≡ false → a && h ≡ (a && h) || (not a && g)
@@ -163,29 +144,20 @@ part_fine bits r k a x b g d = and_fine (eqb k 0) g ∙ part_told [] (may_pass f
 -- ---- the search for the first nickname
 
 module _ (r : List ℕ) where
-  pub names_middle : (one m : ℕ) → m ≡ nickname_of (record_of r) / 2 ^ 3 % 2 ^ 8 → (m ≡ one / 8 % 256 → ⊥) → false ≡ slot_names (λ x. eqb x one) r
+  -- another byte of one nickname, or no nickname of a byte of a set
+  pub middle_out : (one m : ℕ) → m ≡ nickname_of (record_of r) / 2 ^ 3 % 2 ^ 8 → not (eqb m (one / 8 % 256)) ≡ true → slot_names (λ x. eqb x one) r ≡ false
   unfolding slot_names
-  names_middle one m field h = sym (ne_eqb (nickname_of (record_of r)) one (λ e. h (field ∙ ap (λ (x : ℕ). x / 8 % 256) e)))
+  middle_out one m field h = ne_eqb (nickname_of (record_of r)) one (λ e. eqb-false m (one / 8 % 256) (not-true _ h) (field ∙ ap (λ (x : ℕ). x / 8 % 256) e))
 
-  pub names_single : (one x : ℕ) → x ≡ nickname_of (record_of r) → eqb x one ≡ slot_names (λ x. eqb x one) r
+  pub byte_out : (names : List ℕ) (h : ℕ) → h ≡ nickname_of (record_of r) / 2 ^ 3 → (b : Bool) → (b ≡ true → (x : ℕ) → h ≡ x / 8 → bit_at x names ≡ false) → b ≡ true → slot_names (λ x. bit_at x names) r ≡ false
   unfolding slot_names
-  names_single one x field = rw field
+  byte_out names h field b none e = none e (nickname_of (record_of r)) field
 
-  pub names_byte : (names : List ℕ) (h : ℕ) → h ≡ nickname_of (record_of r) / 2 ^ 3 → (b : Bool) → (b ≡ true → (x : ℕ) → h ≡ x / 8 → bit_at x names ≡ false) → b ≡ true → false ≡ slot_names (λ x. bit_at x names) r
+  pub names_it : (p : ℕ → Bool) (x : ℕ) → x ≡ nickname_of (record_of r) → (c : Bool) → c ≡ p x → c ≡ slot_names p r
   unfolding slot_names
-  names_byte names h field b none e = sym (none e (nickname_of (record_of r)) field)
-
-  pub passed_by : (names : List ℕ) (h : ℕ) → h ≡ nickname_of (record_of r) / 2 ^ 3 → (b : Bool) → (b ≡ true → (x : ℕ) → h ≡ x / 8 → bit_at x names ≡ false) → b ≡ true → slot_names (λ x. bit_at x names) r ≡ false
-  passed_by names h field b none e = sym (names_byte names h field b none e)
-
-  pub names_listed : (names : List ℕ) (x : ℕ) → x ≡ nickname_of (record_of r) → (c : Bool) → c ≡ bit_at x names → c ≡ slot_names (λ x. bit_at x names) r
-  unfolding slot_names
-  names_listed names x field c told = told ∙ rw field
+  names_it p x field c told = told ∙ ap p field
 
 module _ (p : ℕ → Bool) (t : List ℕ) (from e : ℕ) where
-  pub first_start : from ≤ e → FirstNamed p t from e from
-  first_start h = record { behind = omega arith; within = h; none = λ j a b. absurd (omega arith) }
-
   module _ (k : ℕ) (so_far : FirstNamed p t from e k) where
     pub first_next : k < e → (b : Bool) → b ≡ slot_names p (drop (slot_bytes * k) t) → b ≡ false → FirstNamed p t from e (k + 1)
     first_next h b here miss = let f = so_far.behind in record { behind = omega arith; within = omega arith; none = λ j a l. go j a l (ℕ_discrete j k) }
@@ -194,7 +166,8 @@ module _ (p : ℕ → Bool) (t : List ℕ) (from e : ℕ) where
         go j a l (yes q) = rw q (names_near p (drop (slot_bytes * k) t) ∙ sym here ∙ miss)
         go j a l (no d) = so_far.none j a (omega arith)
 
-    first_round : k + round_slots ≤ e → NoneOfRound p t k → FirstNamed p t from e (k + round_slots)
+    -- a round that is passed by
+    pub first_round : k + round_slots ≤ e → NoneOfRound p t k → FirstNamed p t from e (k + round_slots)
     first_round h f = let b = so_far.behind in record { behind = omega arith; within = omega arith; none = λ j a l. go j a l (ℕ_discrete j k) (ℕ_discrete j (k + 1)) (ℕ_discrete j (k + 2)) (ℕ_discrete j (k + 3)) }
       where
         go : (j : ℕ) → from ≤ j → j < k + round_slots → Dec (j ≡ k) → Dec (j ≡ k + 1) → Dec (j ≡ k + 2) → Dec (j ≡ k + 3) → slot_names p (slot_at j t) ≡ false
@@ -203,23 +176,6 @@ module _ (p : ℕ → Bool) (t : List ℕ) (from e : ℕ) where
         go j a l (no x) (no y) (yes q) w = rw q (names_near p (drop (slot_bytes * (k + 2)) t) ∙ f.third)
         go j a l (no x) (no y) (no z) (yes q) = rw q (names_near p (drop (slot_bytes * (k + 3)) t) ∙ f.fourth)
         go j a l (no x) (no y) (no z) (no w) = so_far.none j a (omega arith)
-
-    -- a round that is passed by
-    pub round_next : round_slots ≤ e - k → (b : Bool) → (b ≡ true → NoneOfRound p t k) → not b ≡ false → FirstNamed p t from e (k + round_slots)
-    round_next h b none passed = let w = so_far.within in first_round (omega arith) (none (not-false b passed))
-
--- all four tests pass
-pub round_none : (p : ℕ → Bool) (t : List ℕ) (k : ℕ) (a b c d : Bool)
-    → (a ≡ true → slot_names p (drop (slot_bytes * k) t) ≡ false)
-    → (b ≡ true → slot_names p (drop (slot_bytes * (k + 1)) t) ≡ false)
-    → (c ≡ true → slot_names p (drop (slot_bytes * (k + 2)) t) ≡ false)
-    → (d ≡ true → slot_names p (drop (slot_bytes * (k + 3)) t) ≡ false)
-    → (a && b) && (c && d) ≡ true → NoneOfRound p t k
-round_none p t k true true true true x y z w e = record { first = x refl; second = y refl; third = z refl; fourth = w refl }
-round_none p t k true true true false x y z w e = false_true e
-round_none p t k true true false d x y z w e = false_true e
-round_none p t k true false c d x y z w e = false_true e
-round_none p t k false b c d x y z w e = false_true e
 
 -- ---- the nicknames meant
 
@@ -253,49 +209,47 @@ module _ (ps : List Piece) (vlans : List ℕ) (told : VlansMeant ps vlans) (near
       rw (e, mod-eq_of_lt few) (told.each (label_of (record_of r)) few)
   same_label_lem l false e = rw e
 
-  first_case : (p q : ℕ → Bool) → p (nickname_of (record_of r)) ≡ q (nickname_of (record_of r)) → (b : Bool) → is_learned (unpacked r) ≡ b → slot_marked p vlans near r ≡ slot_first q ps near r
+  first_case : (p : ℕ → Bool) (b : Bool) → is_learned (unpacked r) ≡ b → slot_marked p vlans near r ≡ slot_first p ps near r
   unfolding slot_marked slot_first slot_named both
-  first_case p q e true h = rw (h, e, same_label_lem h _ refl)
-  first_case p q e false h = rw h
+  first_case p true h = rw (h, same_label_lem h _ refl)
+  first_case p false h = rw h
 
-module _ (p q : ℕ → Bool) (same : (x : ℕ) → x < 2 ^ 16 → p x ≡ q x) (ps : List Piece) (near : ℕ → Bool) (t : List ℕ) (from count k : ℕ) (first : FirstNamed p t from (from + count) k) where
-  not_named : (r : List ℕ) → slot_names p r ≡ false → slot_first q ps near r ≡ false
+first_chosen : (p : ℕ → Bool) (ps : List Piece) (near : ℕ → Bool) (t : List ℕ) (from count : ℕ) (vlans : List ℕ) → VlansMeant ps vlans → (m : List ℕ) → Chosen (slot_marked p vlans near) from count t m → Chosen (slot_first p ps near) from count t m
+first_chosen p ps near t from count vlans told m c = chosen_same _ _ from count t m (λ r. first_case ps vlans told near r p _ refl) c
+
+-- the slots before the first with a nickname are none that the pass would mark
+module _ (p q : ℕ → Bool) (same : (x : ℕ) → x < 2 ^ 16 → p x ≡ q x) (ps : List Piece) (fine : Bool) (t : List ℕ) (from count k : ℕ) (first : FirstNamed p t from (from + count) k) (m : List ℕ) where
+  named_same : (near : ℕ → Bool) (r : List ℕ) → slot_first p ps near r ≡ slot_first q ps near r
+  unfolding slot_first slot_named
+  named_same near r = rw (same (nickname_of (record_of r)) (omega arith))
+
+  not_named : (near : ℕ → Bool) (r : List ℕ) → slot_names p r ≡ false → slot_first q ps near r ≡ false
   unfolding slot_names slot_first slot_named
-  not_named r e = both_left _ _ (both_right (is_learned (unpacked r)) _ (sym (same (nickname_of (record_of r)) (omega arith)) ∙ e))
+  not_named near r e = both_left _ _ (both_right (is_learned (unpacked r)) _ (sym (same (nickname_of (record_of r)) (omega arith)) ∙ e))
 
-  passed_over_lem : (j : ℕ) → from ≤ j → j < k → slot_first q ps near (slot_at j t) ≡ false
-  passed_over_lem j a b = not_named (slot_at j t) (first.none j a b)
-
-  none_chosen : from + count ≤ k → (m : List ℕ) → NoMarks m → Chosen (slot_first q ps near) from count t m
-  none_chosen h m e = record {
-    long = e.long;
-    inside = λ j a b. e.none j ∙ sym (passed_over_lem j a (omega arith));
-    below = λ j a. e.none j;
-    above = λ j a b. e.none j;
-  }
-
-  first_chosen : (vlans : List ℕ) → VlansMeant ps vlans → (m : List ℕ) → Chosen (slot_marked p vlans near) k (from + count - k) t m → Chosen (slot_first q ps near) from count t m
-  first_chosen vlans told m c =
+  pub passed_first : FirstPass p ps fine k (from + count - k) t m → FirstPass q ps fine from count t m
+  passed_first c =
       let a = first.behind in
       let b = first.within in
       record {
-        long = c.long;
-        inside = λ j l h. go j l h (dec_lt j k);
-        below = λ j l. c.below j (omega arith);
-        above = λ j l h. c.above j (omega arith) h;
+        near = c.near;
+        chosen = record {
+          long = c.chosen.long;
+          inside = λ j l h. go j l h (dec_lt j k);
+          below = λ j l. c.chosen.below j (omega arith);
+          above = λ j l h. c.chosen.above j (omega arith) h;
+        };
+        all = c.all;
+        none = c.none;
       }
     where
-      go : (j : ℕ) → from ≤ j → j < from + count → Dec (j < k) → bit_at j m ≡ slot_first q ps near (slot_at j t)
-      go j l h (yes s) = c.below j s ∙ sym (passed_over_lem j l s)
+      go : (j : ℕ) → from ≤ j → j < from + count → Dec (j < k) → bit_at j m ≡ slot_first q ps c.near (slot_at j t)
+      go j l h (yes s) = c.chosen.below j s ∙ sym (not_named c.near (slot_at j t) (first.none j l s))
       go j l h (no s) =
-          let a = first.within in
-          c.inside j (omega arith) (omega arith)
-          ∙ first_case ps vlans told near (slot_at j t) p q (same (nickname_of (record_of (slot_at j t))) (omega arith)) _ refl
+          let b = first.within in
+          c.chosen.inside j (omega arith) (omega arith) ∙ named_same c.near (slot_at j t)
 
 -- ---- which fine-grained labels may be meant
-
-pub by_naming : (d : Naming) → (d ≡ fine_naming) × Narrow d.numbering → (ps : List Piece) (bits : List ℕ) → HasBits (named_of d ps) bits → HasBits (named_of fine_naming ps) bits
-by_naming d e ps bits has = rw (← e.0) has
 
 -- a piece that brings a label and does not mean every one names it
 piece_named : (x : ℕ) (p : Piece) → of_kind every_type every_kind p ≡ false → brings_label every_type (Fine x) p ≡ true → named_in fine_naming p x ≡ true
@@ -337,29 +291,29 @@ module _ (n : ℕ) (l : List ℕ) (f : Kinds) (noted : VlansNoted (pieces_of n l
       go (yes z) = rw (eq-eqb (length bits) bucket_bytes has.long) (has.each x (rw (pieces-tlvs z) at (some_named x (pieces_of n l) (sym noted.every ∙ e) h)))
       go (no d) = false_true (none_brought (brings_label every_type (Fine x)) n l d (block_fine x) ∙ h)
 
-  module _ (p q : ℕ → Bool) (same : (x : ℕ) → x < 2 ^ 16 → p x ≡ q x) (t : List ℕ) (from count k : ℕ) (first : FirstNamed p t from (from + count) k) where
-    -- where no slot has such a nickname nothing is marked
-    pub none_first : from + count ≤ k → (m : List ℕ) → NoMarks m → FirstPass q (pieces_of n l) (fine_noted f) from count t m
+  module _ (p : ℕ → Bool) (t : List ℕ) (from count : ℕ) where
+    -- where no slot is left nothing is marked
+    pub none_first : count ≡ 0 → (m : List ℕ) → NoMarks m → FirstPass p (pieces_of n l) (fine_noted f) from count t m
     none_first h m e = record {
       near = λ x. fine_noted f;
-      chosen = none_chosen p q same (pieces_of n l) (λ x. fine_noted f) t from count k first h m e;
+      chosen = record { long = e.long; inside = λ j a b. absurd (omega arith); below = λ j a. e.none j; above = λ j a b. e.none j };
       all = λ a x b. a;
       none = λ a x. a;
     }
 
     module _ (vlans : List ℕ) (told : VlansMeant (pieces_of n l) vlans) (m : List ℕ) where
-      -- else those from the first on are marked: by filter bits
-      pub near_first : not f.every && (f.lists || f.maps) ≡ true → (bits : List ℕ) → HasBits (named_of fine_naming (tlvs l)) bits → Chosen (slot_marked p vlans (may_pass false bits)) k (from + count - k) t m → FirstPass q (pieces_of n l) (fine_noted f) from count t m
+      -- else they are marked by filter bits
+      pub near_first : not f.every && (f.lists || f.maps) ≡ true → (bits : List ℕ) → HasBits (named_of fine_naming (tlvs l)) bits → Chosen (slot_marked p vlans (may_pass false bits)) from count t m → FirstPass p (pieces_of n l) (fine_noted f) from count t m
       unfolding either
       near_first e bits has c = go f.every refl
         where
-          go : (b : Bool) → f.every ≡ b → FirstPass q (pieces_of n l) (fine_noted f) from count t m
+          go : (b : Bool) → f.every ≡ b → FirstPass p (pieces_of n l) (fine_noted f) from count t m
           go true g = false_true (rw g at e)
           go false g =
               let some : f.lists || f.maps ≡ true = rw g at e in
               record {
                 near = may_pass false bits;
-                chosen = first_chosen p q same (pieces_of n l) (may_pass false bits) t from count k first vlans told m c;
+                chosen = first_chosen p (pieces_of n l) (may_pass false bits) t from count vlans told m c;
                 all = λ a x b. meant_bit g bits has x b;
                 none = λ a x. false_true (sym (rw (g, ← or_either f.lists f.maps) at a) ∙ some);
               }
@@ -370,24 +324,16 @@ module _ (n : ℕ) (l : List ℕ) (f : Kinds) (noted : VlansNoted (pieces_of n l
       flagged e true g a = g
       flagged e false g a = false_true (sym (rw g at e) ∙ or_either f.lists f.maps ∙ rw g at a)
 
-      pub flag_first : not f.every && (f.lists || f.maps) ≡ false → (bits : List ℕ) → (length bits ≡ bucket_bytes → ⊥) → Chosen (slot_marked p vlans (may_pass f.every bits)) k (from + count - k) t m → FirstPass q (pieces_of n l) (fine_noted f) from count t m
-      flag_first e bits gone c = record {
-        near = may_pass f.every bits;
-        chosen = first_chosen p q same (pieces_of n l) (may_pass f.every bits) t from count k first vlans told m c;
-        all = λ a x b. by_every f.every (flagged e f.every refl a) bits x;
-        none = λ a x. by_near f.every (either_neither f.every (either f.lists f.maps) a).0 bits x ∙ sym (no_bits bits x gone);
-      }
-
-      pub plain_first : not f.every && (f.lists || f.maps) ≡ false → Chosen (slot_marked p vlans (λ x. f.every)) k (from + count - k) t m → FirstPass q (pieces_of n l) (fine_noted f) from count t m
+      pub plain_first : not f.every && (f.lists || f.maps) ≡ false → Chosen (slot_marked p vlans (λ x. f.every)) from count t m → FirstPass p (pieces_of n l) (fine_noted f) from count t m
       plain_first e c = record {
         near = λ x. f.every;
-        chosen = first_chosen p q same (pieces_of n l) (λ x. f.every) t from count k first vlans told m c;
+        chosen = first_chosen p (pieces_of n l) (λ x. f.every) t from count vlans told m c;
         all = λ a x b. flagged e f.every refl a;
         none = λ a x. (either_neither f.every (either f.lists f.maps) a).0;
       }
 
     -- or by filter bits alone, since no VLAN is named
-    pub fine_first : (m : List ℕ) → not f.every && (f.lists || f.maps) ≡ true → eqb n 0 && not f.vlans ≡ true → (bits : List ℕ) → HasBits (named_of fine_naming (tlvs l)) bits → Chosen (slot_marked p [] (may_pass false bits)) k (from + count - k) t m → FirstPass q (pieces_of n l) (fine_noted f) from count t m
+    pub fine_first : (m : List ℕ) → not f.every && (f.lists || f.maps) ≡ true → eqb n 0 && not f.vlans ≡ true → (bits : List ℕ) → HasBits (named_of fine_naming (tlvs l)) bits → Chosen (slot_marked p [] (may_pass false bits)) from count t m → FirstPass p (pieces_of n l) (fine_noted f) from count t m
     fine_first m e none bits has c =
         let every-not = (and_true (not f.every) _ e).0 in
         let parts = and_true (eqb n 0) (not f.vlans) none in
@@ -395,42 +341,22 @@ module _ (n : ℕ) (l : List ℕ) (f : Kinds) (noted : VlansNoted (pieces_of n l
         let told : VlansMeant (pieces_of n l) zeros =
         set_named n l f noted zeros (length-replicate {A = ℕ} vlan_bytes 0) (zeros_none vlan_bytes) (not-true f.every every-not) zeros (added_none n l f noted zeros (eqb-true n 0 parts.0) (not-true f.vlans parts.1))
         in
-        near_first zeros told m e bits has (chosen_same _ _ k (from + count - k) t m (same_none p (may_pass false bits)) c)
+        near_first zeros told m e bits has (chosen_same _ _ from count t m (same_none p (may_pass false bits)) c)
 
 -- the set of VLANs of a message that means every label
 pub every_passes : (ps : List Piece) (f : Kinds) → VlansNoted ps f → (vlans : List ℕ) → VlansMeant ps vlans → EveryMeant f.every vlans
 every_passes ps f noted vlans told = record { long = told.long; all = λ e x few. told.each x few ∙ every_meant ps f noted e x }
-
--- a byte alone is no filter bits
-pub one_byte : length (replicate {A = ℕ} 1 0) ≡ bucket_bytes → ⊥
-one_byte e = let z : length (replicate {A = ℕ} 1 0) ≡ 1 = length-replicate {A = ℕ} 1 0 in omega arith
-
--- or of another
-pub bits_pass : (ps : List Piece) (vlans : List ℕ) → VlansMeant ps vlans → EveryMeant false vlans
-bits_pass ps vlans told = record { long = told.long; all = λ e. false_true e }
 
 -- the nicknames of a list as a set
 pub listed_same : (nicks s t : List ℕ) → None s → Gains s t (in_nicknames nicks) → (x : ℕ) → bit_at x t ≡ in_nicknames nicks x
 unfolding either
 listed_same nicks s t none g x = g.each x ∙ rw (none x)
 
--- another test of nicknames that says the same
-pub first_named : (p q : ℕ → Bool) (ps : List Piece) (fine : Bool) (from count : ℕ) (t m : List ℕ) → ((x : ℕ) → p x ≡ q x) → FirstPass p ps fine from count t m → FirstPass q ps fine from count t m
-unfolding slot_first slot_named
-first_named p q ps fine from count t m e c = record { near = c.near; chosen = chosen_same _ _ from count t m (λ r. rw (e (nickname_of (record_of r)))) c.chosen; all = c.all; none = c.none }
-
 -- ---- one mark
 
 one_computed : every 8 (λ i. eqb (128 / 2 ^ i) (mask_of i (i + 1))) ≡ true
 unfolding both mask_of
 one_computed = refl
-
-few_computed : every 8 (λ i. leb (128 / 2 ^ i) 255) ≡ true
-unfolding both
-few_computed = refl
-
-pub bit_few : (i : ℕ) → i < 8 → 128 / 2 ^ i ≤ 255
-bit_few i h = leb-true _ _ (every_at 8 (λ i. leb (128 / 2 ^ i) 255) few_computed i h)
 
 pub mark_added : (s : List ℕ) (k : ℕ) → length s ≡ mark_bytes → k < most_slots → (b : ℕ) → b ≡ 128 / 2 ^ (k % 8) → (t : List ℕ) → t ≡ set s (k / 8) (bit_or (get_or s (k / 8) 0) b) → Ranged s t k (k + 1)
 mark_added s k long few b e t f =

@@ -2,14 +2,14 @@
 // VLAN that is meant, or a fine-grained label that may be: it has a bit in the filter bits of the message.
 #![tactic(auto)]
 
-ghost use Rattle.std.specs.Prelude.{ℕ, ◌+◌, ◌-◌, ◌*◌, ◌/◌, ◌^◌, ◌<◌, ◌≤◌, true, false, [], ◌≡◌, eqb, length, drop};
+ghost use Rattle.std.specs.Prelude.{ℕ, ◌+◌, ◌-◌, ◌*◌, ◌/◌, ◌^◌, ◌<◌, ◌≤◌, Bool, true, false, List, [], ◌≡◌, eqb, length, drop};
 ghost use Rattle.numbers.specs.Numberings.{bit_at};
 ghost use Rattle.table.specs.Record.{record_bytes, record_of, nickname_of};
 ghost use Rattle.table.specs.Slots.{slot_bytes, slots_of, most_slots};
 ghost use Rattle.flush.specs.Payload.{block_bytes, pieces_of, tlvs};
 ghost use Rattle.flush.specs.Meaning.{nickname_meant};
 ghost use Rattle.flush_sets.specs.Gains.{Gains, in_nicknames};
-ghost use Rattle.flush_vlans.specs.Vlans.{VlansNoted};
+ghost use Rattle.flush_vlans.specs.Vlans.{vlan_bytes, VlansNoted};
 ghost use Rattle.flush_bits.specs.Ranged.{Ranged};
 ghost use Rattle.flush_buckets.specs.Buckets.{bucket_bytes, HasBits};
 ghost use Rattle.flush_parts.specs.Named.{fine_naming, named_of};
@@ -53,102 +53,124 @@ fn add_nicknames(nicks: &[u8], s: &mut [u8])
     requires { length s.old ≡ name_bytes }
     ensures { Gains s.old s.new (in_nicknames nicks.now) }
 {
-    let mut at = 0;
-    while 2 <= nicks.len() - at {
-        let x = numbers::be2(nicks, at);
+    for i in 0..nicks.len() / 2 {
+        let x = numbers::be2(nicks, 2 * i);
         flush_bits::add_one(s, x as usize);
-        at += 2;
     }
 }
 
-// Whether the slot at an offset has this nickname, learned or not. One byte of the nickname decides most slots, so it is tested first.
-fn has_nickname(t: &[u8], at: usize, one: u64) -> bool
+// A test of nicknames. One byte of a slot decides most slots, so it is tested first.
+trait NameTest: Copy {
+    ghost names: { Self → ℕ → Bool };
+
+    // Whether one byte of the slot at an offset decides that it has no such nickname, learned or not.
+    fn rules_out(self, t: &[u8], at: usize) -> bool
+        requires { at + record_bytes ≤ length t.now }
+        ensures { result ≡ true → slot_names (names self) (drop at t.now) ≡ false };
+
+    fn has(self, x: u64) -> bool
+        requires { x < 2 ^ 16 }
+        ensures { result ≡ names self x };
+}
+
+// One nickname.
+#[derive(Clone, Copy)]
+struct Single {
+    one: u64,
+}
+
+impl NameTest for Single {
+    ghost names = { λ s x. eqb x s.one };
+
+    fn rules_out(self, t: &[u8], at: usize) -> bool {
+        table_fields::nickname_middle_at(t, at) != self.one / 8 % 0x100
+    }
+
+    fn has(self, x: u64) -> bool {
+        x == self.one
+    }
+}
+
+// A set of nicknames: a byte of the set decides.
+#[derive(Clone, Copy)]
+struct Listed<'a> {
+    names: &'a [u8],
+    ghost long: { length names.now ≡ name_bytes },
+}
+
+impl NameTest for Listed<'_> {
+    ghost names = { λ s x. bit_at x s.names.now };
+
+    fn rules_out(self, t: &[u8], at: usize) -> bool {
+        flush_bits::none_at(self.names, table_fields::nickname_high_at(t, at))
+    }
+
+    fn has(self, x: u64) -> bool {
+        flush_bits::has(self.names, x)
+    }
+}
+
+// Whether the slot at an offset has such a nickname, learned or not.
+fn has_nickname<N: NameTest>(t: &[u8], at: usize, n: N) -> bool
     requires { at + record_bytes ≤ length t.now }
-    ensures { result ≡ slot_names (λ x. eqb x one) (drop at t.now) }
+    ensures { result ≡ slot_names (N.names n) (drop at t.now) }
 {
-    if table_fields::nickname_middle_at(t, at) != one / 8 % 0x100 {
+    if n.rules_out(t, at) {
         return false;
     }
-    table_fields::nickname_at(t, at) == one
+    n.has(table_fields::nickname_at(t, at))
 }
 
-// Whether the slot at an offset has a nickname of a set, learned or not. One byte of the set decides most slots.
-fn has_listed(t: &[u8], at: usize, names: &[u8]) -> bool
-    requires { (at + record_bytes ≤ length t.now) × (length names.now ≡ name_bytes) }
-    ensures { result ≡ slot_names (λ x. bit_at x names.now) (drop at t.now) }
-{
-    if flush_bits::none_at(names, table_fields::nickname_high_at(t, at)) {
-        return false;
-    }
-    flush_bits::has(names, table_fields::nickname_at(t, at))
-}
-
-// The first slot from slot `from` on, and before slot e, that has this nickname; e where none has.
-fn first_single(t: &[u8], from: usize, e: usize, one: u64) -> usize
+// The first slot from slot `from` on, and before slot e, that has such a nickname; e where none has.
+fn first_named<N: NameTest>(t: &[u8], from: usize, e: usize, n: N) -> usize
     requires { Scanning from e t.now }
-    ensures { FirstNamed (λ x. eqb x one) t.now from e result }
+    ensures { FirstNamed (N.names n) t.now from e result }
 {
-    let mut k = from;
-    while k < e {
-        if has_nickname(t, SLOT_BYTES * k, one) {
+    for k in from..e {
+        if has_nickname(t, SLOT_BYTES * k, n) {
             return k;
         }
-        k += 1;
     }
-    k
-}
-
-// Whether one byte of a set decides that the slot at an offset has no nickname of it.
-fn passes_by(t: &[u8], at: usize, names: &[u8]) -> bool
-    requires { (at + record_bytes ≤ length t.now) × (length names.now ≡ name_bytes) }
-    ensures { result ≡ true → slot_names (λ x. bit_at x names.now) (drop at t.now) ≡ false }
-{
-    flush_bits::none_at(names, table_fields::nickname_high_at(t, at))
+    e
 }
 
 // The slots of a round.
 const ROUND: usize = 4;
 
-// The same of the slots of a round, slot k and those after it, without a branch between them.
-fn none_of_round(t: &[u8], k: usize, names: &[u8]) -> bool
-    requires { (k + round_slots ≤ slots_of t.now) × (length names.now ≡ name_bytes) }
-    ensures { result ≡ true → NoneOfRound (λ x. bit_at x names.now) t.now k }
+// Whether one byte each decides that no slot of a round, slot k and those after it, has such a nickname. There is no branch between them.
+fn none_of_round<N: NameTest>(t: &[u8], k: usize, n: N) -> bool
+    requires { k + round_slots ≤ slots_of t.now }
+    ensures { result ≡ true → NoneOfRound (N.names n) t.now k }
 {
-    let a = passes_by(t, SLOT_BYTES * k, names);
-    let b = passes_by(t, SLOT_BYTES * (k + 1), names);
-    let c = passes_by(t, SLOT_BYTES * (k + 2), names);
-    let d = passes_by(t, SLOT_BYTES * (k + 3), names);
+    let a = n.rules_out(t, SLOT_BYTES * k);
+    let b = n.rules_out(t, SLOT_BYTES * (k + 1));
+    let c = n.rules_out(t, SLOT_BYTES * (k + 2));
+    let d = n.rules_out(t, SLOT_BYTES * (k + 3));
     (a & b) & (c & d)
 }
 
-// The first slot of the first round, from slot `from` on, that may have a nickname of a set; or the slot after the last round.
-fn first_round(t: &[u8], from: usize, e: usize, names: &[u8]) -> usize
-    requires { Scanning from e t.now × (length names.now ≡ name_bytes) }
-    ensures { FirstNamed (λ x. bit_at x names.now) t.now from e result }
+// The first slot of the first round, from slot `from` on, that may have such a nickname; or the slot after the last round.
+fn first_round<N: NameTest>(t: &[u8], from: usize, e: usize, n: N) -> usize
+    requires { Scanning from e t.now }
+    ensures { FirstNamed (N.names n) t.now from e result }
 {
-    let mut k = from;
-    while ROUND <= e - k {
-        if !none_of_round(t, k, names) {
+    let rounds = (e - from) / ROUND;
+    for r in 0..rounds {
+        let k = from + ROUND * r;
+        if !none_of_round(t, k, n) {
             return k;
         }
-        k += ROUND;
     }
-    k
+    from + ROUND * rounds
 }
 
-// The same as by one nickname, of a set of them: by rounds, and then slot by slot.
-fn first_listed(t: &[u8], from: usize, e: usize, names: &[u8]) -> usize
-    requires { Scanning from e t.now × (length names.now ≡ name_bytes) }
-    ensures { FirstNamed (λ x. bit_at x names.now) t.now from e result }
+// The same as `first_named`, by rounds, and then slot by slot: for a set.
+fn first_by_rounds<N: NameTest>(t: &[u8], from: usize, e: usize, n: N) -> usize
+    requires { Scanning from e t.now }
+    ensures { FirstNamed (N.names n) t.now from e result }
 {
-    let mut k = first_round(t, from, e, names);
-    while k < e {
-        if has_listed(t, SLOT_BYTES * k, names) {
-            return k;
-        }
-        k += 1;
-    }
-    k
+    let k = first_round(t, from, e, n);
+    first_named(t, k, e, n)
 }
 
 // Whether a fine-grained label may be meant: where there are filter bits its bit is set.
@@ -161,110 +183,94 @@ fn may_be_meant(near: &[u8], x: u64) -> bool
     flush_buckets::has_bit(near, x)
 }
 
-// Whether the label of the slot at an offset passes: a VLAN by a set, a fine-grained label by filter bits. Twelve bits of a VLAN are enough:
-// a record with a higher one is spoilt. Both kinds take the same way, since which kind comes next cannot be foreseen. Where every label is
-// meant none is read.
-fn label_passes(t: &[u8], at: usize, vlans: &[u8], near: &[u8], every: bool) -> bool
-    requires { (at + record_bytes ≤ length t.now) × EveryMeant every vlans.now }
-    ensures { result ≡ label_part vlans.now (may_pass every near.now) (drop at t.now) }
-{
-    if every {
-        return true;
-    }
-    let vlan = table_fields::kind_at(t, at) == 0;
-    let x = table_fields::label_at(t, at);
-    let meant = flush_bits::has(vlans, x % 0x1000);
-    let maybe = may_be_meant(near, x);
-    (vlan & meant) | (!vlan & maybe)
+// A test of the label of the slot at an offset: a VLAN by a set, a fine-grained label by a test.
+trait LabelTest: Copy {
+    ghost vlans: { Self → List ℕ };
+
+    ghost fines: { Self → ℕ → Bool };
+
+    fn passes(self, t: &[u8], at: usize) -> bool
+        requires { at + record_bytes ≤ length t.now }
+        ensures { result ≡ label_part (vlans self) (fines self) (drop at t.now) };
 }
 
-// The same where no fine-grained label is named.
-fn vlan_passes(t: &[u8], at: usize, vlans: &[u8], every: bool) -> bool
-    requires { (at + record_bytes ≤ length t.now) × EveryMeant every vlans.now }
-    ensures { result ≡ label_part vlans.now (λ x. every) (drop at t.now) }
-{
-    if every {
-        return true;
-    }
-    let vlan = table_fields::kind_at(t, at) == 0;
-    let x = table_fields::label_at(t, at);
-    let meant = flush_bits::has(vlans, x % 0x1000);
-    vlan & meant
+// A fine-grained label by filter bits. Twelve bits of a VLAN are enough: a record with a higher one is spoilt. Both kinds take the same way,
+// since which kind comes next cannot be foreseen.
+#[derive(Clone, Copy)]
+struct AnyKind<'a> {
+    vlans: &'a [u8],
+    near: &'a [u8],
+    ghost long: { length vlans.now ≡ vlan_bytes },
 }
 
-// The same where fine-grained labels alone are named. A set of VLANs, which would be empty, is not read.
-fn fine_passes(t: &[u8], at: usize, near: &[u8]) -> bool
-    requires { at + record_bytes ≤ length t.now }
-    ensures { result ≡ label_part [] (may_pass false near.now) (drop at t.now) }
-{
-    let fine = table_fields::kind_at(t, at) != 0;
-    let maybe = may_be_meant(near, table_fields::label_at(t, at));
-    fine & maybe
+impl LabelTest for AnyKind<'_> {
+    ghost vlans = { λ s. s.vlans.now };
+
+    ghost fines = { λ s. may_pass false s.near.now };
+
+    fn passes(self, t: &[u8], at: usize) -> bool {
+        let vlan = table_fields::kind_at(t, at) == 0;
+        let x = table_fields::label_at(t, at);
+        let meant = flush_bits::has(self.vlans, x % 0x1000);
+        let maybe = may_be_meant(self.near, x);
+        (vlan & meant) | (!vlan & maybe)
+    }
 }
 
-// Whether the slot at an offset is to be marked, by one nickname. One byte of it decides most slots, and then the label.
-fn single_at(t: &[u8], at: usize, one: u64, vlans: &[u8], near: &[u8], every: bool) -> bool
-    requires { (at + slot_bytes ≤ length t.now) × EveryMeant every vlans.now }
-    ensures { result ≡ slot_marked (λ x. eqb x one) vlans.now (may_pass every near.now) (drop at t.now) }
-{
-    if table_fields::nickname_middle_at(t, at) != one / 8 % 0x100 {
-        return false;
-    }
-    if !label_passes(t, at, vlans, near, every) {
-        return false;
-    }
-    if table_fields::nickname_at(t, at) != one {
-        return false;
-    }
-    table_states::learned_at(t, at)
+// Where no fine-grained label is named: every label is meant, and none is read, or VLANs alone are.
+#[derive(Clone, Copy)]
+struct VlansAlone<'a> {
+    vlans: &'a [u8],
+    every: bool,
+    ghost meant: { EveryMeant every vlans.now },
 }
 
-// The same where no fine-grained label is named.
-fn plain_at(t: &[u8], at: usize, one: u64, vlans: &[u8], every: bool) -> bool
-    requires { (at + slot_bytes ≤ length t.now) × EveryMeant every vlans.now }
-    ensures { result ≡ slot_marked (λ x. eqb x one) vlans.now (λ x. every) (drop at t.now) }
-{
-    if table_fields::nickname_middle_at(t, at) != one / 8 % 0x100 {
-        return false;
+impl LabelTest for VlansAlone<'_> {
+    ghost vlans = { λ s. s.vlans.now };
+
+    ghost fines = { λ s x. s.every };
+
+    fn passes(self, t: &[u8], at: usize) -> bool {
+        if self.every {
+            return true;
+        }
+        let vlan = table_fields::kind_at(t, at) == 0;
+        let x = table_fields::label_at(t, at);
+        let meant = flush_bits::has(self.vlans, x % 0x1000);
+        vlan & meant
     }
-    if !vlan_passes(t, at, vlans, every) {
-        return false;
-    }
-    if table_fields::nickname_at(t, at) != one {
-        return false;
-    }
-    table_states::learned_at(t, at)
 }
 
-// The same where fine-grained labels alone are named.
-fn fine_at(t: &[u8], at: usize, one: u64, near: &[u8]) -> bool
+// Where fine-grained labels alone are named. A set of VLANs, which would be empty, is not read.
+#[derive(Clone, Copy)]
+struct FinesAlone<'a> {
+    near: &'a [u8],
+}
+
+impl LabelTest for FinesAlone<'_> {
+    ghost vlans = { λ s. [] };
+
+    ghost fines = { λ s. may_pass false s.near.now };
+
+    fn passes(self, t: &[u8], at: usize) -> bool {
+        let fine = table_fields::kind_at(t, at) != 0;
+        let maybe = may_be_meant(self.near, table_fields::label_at(t, at));
+        fine & maybe
+    }
+}
+
+// Whether the slot at an offset is to be marked. One byte of the nickname decides most slots, and then the label.
+fn marked_at<N: NameTest, L: LabelTest>(t: &[u8], at: usize, n: N, l: L) -> bool
     requires { at + slot_bytes ≤ length t.now }
-    ensures { result ≡ slot_marked (λ x. eqb x one) [] (may_pass false near.now) (drop at t.now) }
+    ensures { result ≡ slot_marked (N.names n) (L.vlans l) (L.fines l) (drop at t.now) }
 {
-    if table_fields::nickname_middle_at(t, at) != one / 8 % 0x100 {
+    if n.rules_out(t, at) {
         return false;
     }
-    if !fine_passes(t, at, near) {
+    if !l.passes(t, at) {
         return false;
     }
-    if table_fields::nickname_at(t, at) != one {
-        return false;
-    }
-    table_states::learned_at(t, at)
-}
-
-// By a set of nicknames. One byte of the set decides most slots.
-fn listed_at(t: &[u8], at: usize, names: &[u8], vlans: &[u8], near: &[u8], every: bool) -> bool
-    requires { (at + slot_bytes ≤ length t.now) × ((length names.now ≡ name_bytes) × EveryMeant every vlans.now) }
-    ensures { result ≡ slot_marked (λ x. bit_at x names.now) vlans.now (may_pass every near.now) (drop at t.now) }
-{
-    if flush_bits::none_at(names, table_fields::nickname_high_at(t, at)) {
-        return false;
-    }
-    if !label_passes(t, at, vlans, near, every) {
-        return false;
-    }
-    if !flush_bits::has(names, table_fields::nickname_at(t, at)) {
+    if !n.has(table_fields::nickname_at(t, at)) {
         return false;
     }
     table_states::learned_at(t, at)
@@ -286,98 +292,26 @@ fn add_mark(marks: &mut [u8], k: usize)
     flush_bits::add_byte(marks, k / 8, one_bit(k % 8));
 }
 
-// Marks the slots from slot `from` on, and before slot e, by one nickname. Answers where the pass ended.
-fn mark_single(
+// Marks the slots from slot `from` on, and before slot e, that pass both tests. Answers where the pass ended.
+fn mark_from<N: NameTest, L: LabelTest>(
     table: &[u8],
     from: usize,
     e: usize,
-    one: u64,
-    vlans: &[u8],
-    near: &[u8],
-    every: bool,
+    n: N,
+    l: L,
     marks: &mut [u8],
 ) -> usize
-    requires { ((from ≤ e) × Marking from (e - from) table.now marks.old) × EveryMeant every vlans.now }
-    ensures { (result ≡ e) × Chosen (slot_marked (λ x. eqb x one) vlans.now (may_pass every near.now)) from (e - from) table.now marks.new }
-{
-    let mut k = from;
-    while k < e {
-        if single_at(table, SLOT_BYTES * k, one, vlans, near, every) {
-            add_mark(marks, k);
-            k += 1;
-        } else {
-            k += 1;
-        }
-    }
-    k
-}
-
-// The same where no fine-grained label is named.
-fn mark_plain(
-    table: &[u8],
-    from: usize,
-    e: usize,
-    one: u64,
-    vlans: &[u8],
-    every: bool,
-    marks: &mut [u8],
-) -> usize
-    requires { ((from ≤ e) × Marking from (e - from) table.now marks.old) × EveryMeant every vlans.now }
-    ensures { (result ≡ e) × Chosen (slot_marked (λ x. eqb x one) vlans.now (λ x. every)) from (e - from) table.now marks.new }
-{
-    let mut k = from;
-    while k < e {
-        if plain_at(table, SLOT_BYTES * k, one, vlans, every) {
-            add_mark(marks, k);
-            k += 1;
-        } else {
-            k += 1;
-        }
-    }
-    k
-}
-
-// The same where fine-grained labels alone are named.
-fn mark_fine(table: &[u8], from: usize, e: usize, one: u64, near: &[u8], marks: &mut [u8]) -> usize
     requires { (from ≤ e) × Marking from (e - from) table.now marks.old }
-    ensures { (result ≡ e) × Chosen (slot_marked (λ x. eqb x one) [] (may_pass false near.now)) from (e - from) table.now marks.new }
+    ensures { (result ≡ e) × Chosen (slot_marked (N.names n) (L.vlans l) (L.fines l)) from (e - from) table.now marks.new }
 {
-    let mut k = from;
-    while k < e {
-        if fine_at(table, SLOT_BYTES * k, one, near) {
+    let mut end = from;
+    for k in from..e {
+        end += 1;
+        if marked_at(table, SLOT_BYTES * k, n, l) {
             add_mark(marks, k);
-            k += 1;
-        } else {
-            k += 1;
         }
     }
-    k
-}
-
-// By a set of nicknames.
-fn mark_listed(
-    table: &[u8],
-    from: usize,
-    e: usize,
-    names: &[u8],
-    vlans: &[u8],
-    near: &[u8],
-    every: bool,
-    marks: &mut [u8],
-) -> usize
-    requires { ((from ≤ e) × Marking from (e - from) table.now marks.old) × ((length names.now ≡ name_bytes) × EveryMeant every vlans.now) }
-    ensures { (result ≡ e) × Chosen (slot_marked (λ x. bit_at x names.now) vlans.now (may_pass every near.now)) from (e - from) table.now marks.new }
-{
-    let mut k = from;
-    while k < e {
-        if listed_at(table, SLOT_BYTES * k, names, vlans, near, every) {
-            add_mark(marks, k);
-            k += 1;
-        } else {
-            k += 1;
-        }
-    }
-    k
+    end
 }
 
 // Filter bits of the fine-grained labels that the message names.
@@ -388,8 +322,46 @@ fn add_fine(rest: &[u8], count: usize, near: &mut [u8])
     flush_named::add_where(rest, flush_parts::fine_naming(), FEW_SLOTS < count, near);
 }
 
+// The pass from slot k on, which may be the first that has a nickname that is meant. Where no slot is left nothing is prepared.
+fn mark_found<N: NameTest>(
+    n: N,
+    rest: &[u8],
+    f: Kinds,
+    table: &[u8],
+    k: usize,
+    e: usize,
+    count: usize,
+    marks: &mut [u8],
+) -> usize
+    requires { ((k ≤ e) × Marking k (e - k) table.now marks.old) × ((block_bytes * f.blocks ≤ length rest.now) × VlansNoted (pieces_of f.blocks rest.now) f) }
+    ensures { (result ≡ e) × FirstPass (N.names n) (pieces_of f.blocks rest.now) (fine_noted f) k (e - k) table.now marks.new }
+{
+    if e <= k {
+        return k;
+    }
+    let mut vlans = [0u8; VLAN_BYTES];
+    flush_vlans::vlan_set(rest, f, &mut vlans);
+    if !f.every & (f.lists | f.maps) {
+        let mut near = [0u8; BUCKET_BYTES];
+        add_fine(rest, count, &mut near);
+        if (f.blocks == 0) & !f.vlans {
+            return mark_from(table, k, e, n, FinesAlone { near: &near }, marks);
+        }
+        let l = AnyKind {
+            vlans: &vlans,
+            near: &near,
+        };
+        return mark_from(table, k, e, n, l, marks);
+    }
+    let l = VlansAlone {
+        vlans: &vlans,
+        every: f.every,
+    };
+    mark_from(table, k, e, n, l, marks)
+}
+
 // Marks the slots of a range, by one nickname, and answers where the pass over them ended: the slots before the first that has it are examined
-// by the search, the others by marking. Where no slot has it nothing is prepared.
+// by the search, the others by marking.
 fn mark_one(
     one: u64,
     rest: &[u8],
@@ -403,21 +375,9 @@ fn mark_one(
     ensures { (result ≡ from + count) × FirstPass (λ x. eqb x one) (pieces_of f.blocks rest.now) (fine_noted f) from count table.now marks.new }
 {
     let e = from + count;
-    let k = first_single(table, from, e, one);
-    if e <= k {
-        return k;
-    }
-    let mut vlans = [0u8; VLAN_BYTES];
-    flush_vlans::vlan_set(rest, f, &mut vlans);
-    if !f.every & (f.lists | f.maps) {
-        let mut near = [0u8; BUCKET_BYTES];
-        add_fine(rest, count, &mut near);
-        if (f.blocks == 0) & !f.vlans {
-            return mark_fine(table, k, e, one, &near, marks);
-        }
-        return mark_single(table, k, e, one, &vlans, &near, false, marks);
-    }
-    mark_plain(table, k, e, one, &vlans, f.every, marks)
+    let n = Single { one };
+    let k = first_named(table, from, e, n);
+    mark_found(n, rest, f, table, k, e, count, marks)
 }
 
 // The same, by a list of nicknames.
@@ -436,19 +396,9 @@ fn mark_several(
     let mut names = [0u8; NAME_BYTES];
     add_nicknames(nicks, &mut names);
     let e = from + count;
-    let k = first_listed(table, from, e, &names);
-    if e <= k {
-        return k;
-    }
-    let mut vlans = [0u8; VLAN_BYTES];
-    flush_vlans::vlan_set(rest, f, &mut vlans);
-    if !f.every & (f.lists | f.maps) {
-        let mut near = [0u8; BUCKET_BYTES];
-        add_fine(rest, count, &mut near);
-        return mark_listed(table, k, e, &names, &vlans, &near, false, marks);
-    }
-    let none = [0u8; 1];
-    mark_listed(table, k, e, &names, &vlans, &none, f.every, marks)
+    let n = Listed { names: &names };
+    let k = first_by_rounds(table, from, e, n);
+    mark_found(n, rest, f, table, k, e, count, marks)
 }
 
 // Marks the slots of a range by nickname, state and kind of label, and answers how many it examined. A set of nicknames is made only where there is not one alone.

@@ -1,13 +1,14 @@
 -- `flush_nicknames::add_nicknames` meets its contract. The invariant: what was added and what is left make up the whole.
-use Prim.Native.Nat.{◌-◌}
-use Rattle.flush_sets.proofs.Adding.{going_start, nicknames_next, nicknames_done}
+use Prim.Native.Nat.{◌+◌, ◌*◌}
+use mathlib.Core.Path.{◌≡◌}
+use native.Mathlib.Omega.{arith}
+use Rattle.flush_sets.proofs.Adding.{nicknames_next, nicknames_done}
 use Rattle.flush_nicknames.proofs.add_nicknames.Goals as goal
 
-pub loop-at-init : goal.loop-at-init
-loop-at-init c = search going_start
-
-pub loop-at-preserved : goal.loop-at-preserved
-loop-at-preserved c = search nicknames_next
+pub loop-i-preserved : goal.loop-i-preserved
+loop-i-preserved c =
+    let next : 2 * (c.loop-i.i + 1) ≡ 2 * c.loop-i.i + 2 = omega arith in
+    rw next (nicknames_next _ _ _ _ c.loop-i.invariant (omega arith) _ c.be2-x.ensures.0 (omega arith) _ c.add_one.ensures)
 
 pub returns : goal.returns
-returns c = search nicknames_done
+returns c = nicknames_done _ _ _ _ c.loop-i.invariant (omega arith)

@@ -1,10 +1,11 @@
--- `flush_nicknames::first_round` meets its contract. The invariant: no slot from `from` on and before `k` has such a nickname.
-use Prim.Native.Nat.{◌-◌}
-use Rattle.flush_nicknames.proofs.First.{first_start, round_next}
+-- `flush_nicknames::first_round` meets its contract. The invariant: no slot of the first `r` rounds has such a nickname.
+use Prim.Native.Nat.{◌+◌, ◌*◌}
+use mathlib.Core.Path.{◌≡◌}
+use native.Mathlib.Omega.{arith}
+use Rattle.flush_nicknames.proofs.First.{first_round}
 use Rattle.flush_nicknames.proofs.first_round.Goals as goal
 
-pub loop-k-init : goal.loop-k-init
-loop-k-init c = search first_start
-
-pub loop-k-preserved : goal.loop-k-preserved
-loop-k-preserved c = search round_next
+pub loop-r-preserved : goal.loop-r-preserved
+loop-r-preserved g c =
+    let next : c.args.from + 4 * (c.loop-r.r + 1) ≡ c.args.from + 4 * c.loop-r.r + 4 = omega arith in
+    rw next (first_round _ _ _ _ _ c.loop-r.invariant (omega arith) (c.none_of_round.ensures c.if-not-none_of_round.false))
