@@ -4,7 +4,6 @@ use Prim.Native.Nat.{ℕ, ◌+◌, ◌*◌, ◌/◌, ◌%◌, ◌<◌, ◌≤◌
 use mathlib.Core.Bool.{Bool, true, false, not}
 use mathlib.Core.List.{List}
 use mathlib.Core.Path.{◌≡◌, refl, sym, ap, ◌∙◌}
-use native.Mathlib.Decide.{ℕ_discrete}
 use native.Mathlib.Omega.{arith}
 use lib.Dec.{eqb}
 use lib.ListN.{length, drop, get_or}
@@ -12,7 +11,7 @@ use Rattle.numbers.specs.Tests.{both, either, any_of}
 use Rattle.numbers.specs.Numberings.{bit_at}
 use Rattle.numbers.proofs.Truth.{both_right, either_none, either_assoc}
 use Rattle.table.specs.Slots.{slot_bytes, slot_at}
-use Rattle.flush_buckets.specs.Buckets.{bucket_bytes, bucket_of, alone_of, Keeps, Nears, key_slots}
+use Rattle.flush_buckets.specs.Buckets.{bucket_bytes, bucket_of, alone_of, key_slots}
 use Rattle.flush_bits.specs.Ranged.{Widened}
 use Rattle.flush_keys.specs.Keys.{applies_to, keyed, Hit, Marked, Joined}
 use Rattle.flush_keys.specs.declared.Field.{Field}
@@ -90,21 +89,6 @@ pub record Noting (keys bits : List ℕ) (i : ℕ) : Type 0 where
   pub long : length bits ≡ bucket_bytes
   pub done : (k : ℕ) → k < i → (bit_at (bucket_of (get_or keys k 0 / key_slots)) bits ≡ true) × (bit_at (alone_of (get_or keys k 0 / key_slots)) bits ≡ true)
 
-module _ (keys bits : List ℕ) where
-  pub noting_start : length bits ≡ bucket_bytes → Noting keys bits 0
-  noting_start h = record { place = omega arith; long = h; done = λ k l. absurd (omega arith) }
-
-  module _ (i : ℕ) (so_far : Noting keys bits i) where
-    pub noting_done : length keys ≤ i → Nears keys bits
-    noting_done h = record { long = so_far.long; each = λ k l. (so_far.done k (omega arith)).0; alone = λ k l. (so_far.done k (omega arith)).1 }
-
-    pub noting_next : i < length keys → (u : List ℕ) → Keeps bits u × ((bit_at (bucket_of (get_or keys i 0 / key_slots)) u ≡ true) × (bit_at (alone_of (get_or keys i 0 / key_slots)) u ≡ true)) → Noting keys u (i + 1)
-    noting_next h u g = record { place = omega arith; long = g.0.long ∙ so_far.long; done = λ k l. go k l (ℕ_discrete k i) }
-      where
-        go : (k : ℕ) → k < i + 1 → Dec (k ≡ i) → (bit_at (bucket_of (get_or keys k 0 / key_slots)) u ≡ true) × (bit_at (alone_of (get_or keys k 0 / key_slots)) u ≡ true)
-        go k l (yes e) = rw e g.1
-        go k l (no d) = let before = so_far.done k (omega arith) in (g.0.kept _ before.0, g.0.kept _ before.1)
-
 -- ---- the slots of keys
 
 -- so far: the keys from key i on are left
@@ -114,9 +98,6 @@ pub record Collecting (keys hits s : List ℕ) (i : ℕ) (u : List ℕ) : Type 0
   pub each : (q : ℕ → Bool) → Hit q keys hits → (j : ℕ) → either (bit_at j u) (any_of (keyed q j) (drop i keys)) ≡ either (bit_at j s) (any_of (keyed q j) keys)
 
 module _ (keys hits s : List ℕ) where
-  pub collecting_start : Collecting keys hits s 0 s
-  collecting_start = record { place = omega arith; long = refl; each = λ q h j. refl }
-
   module _ (i : ℕ) (u : List ℕ) (so_far : Collecting keys hits s i u) where
     pub collecting_done : length keys ≤ i → (q : ℕ → Bool) → Hit q keys hits → Marked q keys s u
     collecting_done h q hit = record {

@@ -46,14 +46,11 @@ pub fn keys_of(table: &[u8], field: Field, slots: &[u64], named: &[u8], keys: &m
     ensures { (result ≤ length slots.now) × KeysOf (λ j. applies_to field (slot_at j table.now)) (λ j. number_in field (slot_at j table.now)) slots.now named.now (take result keys.new) }
 {
     let mut n = 0;
-    let mut i = 0;
-    while i < slots.len() {
-        let j = slots[i];
+    for &j in slots {
         let at = SLOT_BYTES * j as usize;
         let x = number_at(table, at, field);
         keys[n] = x * KEY_SLOTS + j;
         n += flush_sort::one(applies_at(table, at, field) & flush_buckets::has_bit(named, x));
-        i += 1;
     }
     n
 }
@@ -66,14 +63,10 @@ pub fn keep_others(table: &[u8], field: Field, slots: &[u64], marks: &mut [u8])
     let Field::Fine = field else {
         return;
     };
-    let mut i = 0;
-    while i < slots.len() {
-        let j = slots[i] as usize;
-        if applies_at(table, SLOT_BYTES * j, field) {
-            i += 1;
-        } else {
-            flush_bits::add_if(marks, j, true);
-            i += 1;
+    for &j in slots {
+        let k = j as usize;
+        if !applies_at(table, SLOT_BYTES * k, field) {
+            flush_bits::add_if(marks, k, true);
         }
     }
 }
@@ -83,10 +76,8 @@ pub fn note(keys: &[u64], bits: &mut [u8])
     requires { length bits.old ≡ bucket_bytes }
     ensures { Nears keys.now bits.new }
 {
-    let mut i = 0;
-    while i < keys.len() {
-        flush_buckets::add_twice(keys[i] / KEY_SLOTS, bits);
-        i += 1;
+    for &key in keys {
+        flush_buckets::add_twice(key / KEY_SLOTS, bits);
     }
 }
 
@@ -95,10 +86,8 @@ pub fn collect(keys: &[u64], hits: &[u8], marks: &mut [u8])
     requires { (length keys.now ≤ 8 * length hits.now) × (length marks.old ≡ mark_bytes) }
     ensures { (q : ℕ → Bool) → Hit q keys.now hits.now → Marked q keys.now marks.old marks.new }
 {
-    let mut i = 0;
-    while i < keys.len() {
+    for (i, &key) in keys.iter().enumerate() {
         let hit = flush_bits::has(hits, i as u64);
-        flush_bits::add_if(marks, (keys[i] % KEY_SLOTS) as usize, hit);
-        i += 1;
+        flush_bits::add_if(marks, (key % KEY_SLOTS) as usize, hit);
     }
 }
