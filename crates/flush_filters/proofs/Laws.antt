@@ -114,11 +114,3 @@ kept_all test t before after f = record { done = λ e. f; same = λ e. false_tru
 pub room_for_all : (r : Bool) (test : List ℕ → Bool) (t a b : List ℕ) → Kept r test t a b → (n : ℕ) → (r ≡ false → n < slots_of t) → slots_of t ≤ n → Filtered test t a b
 room_for_all true test t a b kept n full few = kept.done refl
 room_for_all false test t a b kept n full few = let z = full refl in absurd (omega arith)
-
--- what did nothing leaves all to the next
-module _ (r : Bool) (test : List ℕ → Bool) (t a b : List ℕ) (kept : Kept r test t a b) where
-  pub full_filtering : r ≡ false → Filtering t a → Filtering t b
-  full_filtering full f = rw (kept.same full) f
-
-  pub full_filtered : r ≡ false → (c : List ℕ) → Filtered test t b c → Filtered test t a c
-  full_filtered full c f = rw (kept.same full) at f

@@ -132,57 +132,30 @@ fn keep_in(
     }
 }
 
-// In areas for all slots that a table has.
-fn keep_many(table: &[u8], rest: &[u8], field: Field, marks: &mut [u8])
-    requires { Filtering table.now marks.old }
-    ensures { Filtered (slot_passes field (tlvs rest.now)) table.now marks.old marks.new }
+// In areas for N marks. It is not inlined, so that only the call that takes the largest areas has room for them.
+#[inline(never)]
+fn keep_within<const N: usize>(table: &[u8], rest: &[u8], field: Field, marks: &mut [u8]) -> bool
+    requires { Filtering table.now marks.old × (N ≤ most_slots) }
+    ensures { Kept result (slot_passes field (tlvs rest.now)) table.now marks.old marks.new × (result ≡ false → N < slots_of table.now) }
 {
-    let mut slots = [0u64; MOST_SLOTS];
-    let mut keys = [0u64; MOST_SLOTS];
-    keep_in(table, rest, field, &mut slots, &mut keys, marks);
+    let mut slots = [0u64; N];
+    let mut keys = [0u64; N];
+    keep_in(table, rest, field, &mut slots, &mut keys, marks)
 }
 
-// In areas for few marks.
-fn keep_few(table: &[u8], rest: &[u8], field: Field, marks: &mut [u8])
-    requires { Filtering table.now marks.old }
-    ensures { Filtered (slot_passes field (tlvs rest.now)) table.now marks.old marks.new }
-{
-    let mut slots = [0u64; FEW];
-    let mut keys = [0u64; FEW];
-    if keep_in(table, rest, field, &mut slots, &mut keys, marks) {
-        return;
-    }
-    keep_many(table, rest, field, marks);
-}
-
-// In areas for some.
-fn keep_some(table: &[u8], rest: &[u8], field: Field, marks: &mut [u8])
-    requires { Filtering table.now marks.old }
-    ensures { Filtered (slot_passes field (tlvs rest.now)) table.now marks.old marks.new }
-{
-    let mut slots = [0u64; SOME];
-    let mut keys = [0u64; SOME];
-    if keep_in(table, rest, field, &mut slots, &mut keys, marks) {
-        return;
-    }
-    keep_many(table, rest, field, marks);
-}
-
-// Of the marked slots those stay marked that pass.
+// Of the marked slots those stay marked that pass. The largest areas hold every slot of a table.
 fn keep(table: &[u8], rest: &[u8], field: Field, marks: &mut [u8])
     requires { Filtering table.now marks.old }
     ensures { Filtered (slot_passes field (tlvs rest.now)) table.now marks.old marks.new }
 {
     let n = flush_marks::weight(marks);
-    if n <= FEW {
-        keep_few(table, rest, field, marks);
+    if n <= FEW && keep_within::<FEW>(table, rest, field, marks) {
         return;
     }
-    if n <= SOME {
-        keep_some(table, rest, field, marks);
+    if n <= SOME && keep_within::<SOME>(table, rest, field, marks) {
         return;
     }
-    keep_many(table, rest, field, marks);
+    keep_within::<MOST_SLOTS>(table, rest, field, marks);
 }
 
 // Of the marked slots those stay marked that have a fine-grained label that is meant, or none.
