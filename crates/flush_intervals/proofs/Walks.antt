@@ -2,15 +2,16 @@
 -- Assumes nothing.
 use Prim.Native.Nat.{ℕ, suc, ◌+◌, ◌-◌, ◌/◌, ◌≤◌, ◌<◌}
 use mathlib.Core.Bool.{Bool, true, false, ◌&&◌}
-use mathlib.Core.List.{List}
+use mathlib.Core.List.{List, ◌∷◌, ◌++◌}
 use mathlib.Core.Path.{◌≡◌, refl, sym, ap, ◌∙◌}
 use native.Mathlib.Nat.{add-zero}
 use native.Mathlib.Omega.{arith}
 use lib.Dec.{leb, eqb}
-use lib.ListN.{length, take, drop, get_or, length-drop}
-use lib.Seq.{drop-drop, get_or-drop}
+use lib.ListN.{length, take, drop, get_or, length-drop, length-append}
+use lib.Seq.{drop-drop, get_or-drop, take_at, drop_at}
 use borrow.Author.Tests.{eq-eqb, ne_eqb}
 use Rattle.numbers.specs.Tests.{pick, both, either, any_of}
+use Rattle.numbers.specs.Bytes.{parts}
 use Rattle.numbers.specs.Numberings.{in_blocks, in_list, in_map, bit_at}
 use Rattle.numbers.specs.declared.Numbering.{Numbering}
 use Rattle.numbers.proofs.Truth.{and_both, either_none, either_assoc}
@@ -20,42 +21,45 @@ use Rattle.flush.proofs.Validity.{tlvs_end, tlvs_rest, tlvs_more}
 use Rattle.flush_parts.specs.Parts.{span_for, low_for, past_for, hit_for, parts_hit}
 use Rattle.flush_parts.specs.Named.{named_in, named_of}
 use Rattle.flush_parts.specs.declared.Naming.{Naming}
-use Rattle.flush_parts.proofs.Parts.{hit_is, hit_near}
+use Rattle.flush_parts.proofs.Parts.{hit_is, single_past}
 use Rattle.flush_buckets.specs.Buckets.{key_slots}
 use Rattle.flush_intervals.specs.Hits.{Hits}
 use Rattle.flush_intervals.proofs.Hits.{hits_none}
 
 -- ---- the parts of a value
 
-pub record Hitting (t : Bool) (w : Numbering) (v keys h₀ h : List ℕ) (at : ℕ) : Type 0 where
-  pub place : at ≤ length v
+-- the bits h, with what the rest of the value still hits, are those of the whole
+pub record Hitting (t : Bool) (w : Numbering) (v keys h₀ h rest : List ℕ) : Type 0 where
   pub long : length h ≡ length h₀
-  pub means : (i : ℕ) → i < length keys → either (bit_at i h₀) (parts_hit t w v (get_or keys i 0 / key_slots)) ≡ either (bit_at i h) (parts_hit t w (drop at v) (get_or keys i 0 / key_slots))
+  pub means : (i : ℕ) → i < length keys → either (bit_at i h₀) (parts_hit t w v (get_or keys i 0 / key_slots)) ≡ either (bit_at i h) (parts_hit t w rest (get_or keys i 0 / key_slots))
 
-module _ (t : Bool) (w : Numbering) (v keys h₀ : List ℕ) where
-  pub hit_start : Hitting t w v keys h₀ h₀ 0
-  hit_start = record { place = omega arith; long = refl; means = λ i k. refl }
+module _ (t : Bool) (w : Numbering) (k : ℕ) (span : (k ≡ span_for t w) × (0 < k)) (v keys h₀ h rest : List ℕ) (a : Hitting t w v keys h₀ h rest) where
+  pub hit_done : length rest < k → Hits (parts_hit t w v) keys h₀ h
+  unfolding parts_hit any_of
+  hit_done few =
+      let e = span.0 in
+      let some = span.1 in
+      record { long = a.long; each = λ i m. sym (a.means i m ∙ rw (parts_end (span_for t w) (omega arith) rest (omega arith)) (either_none (bit_at i h))) }
 
-  module _ (h : List ℕ) (at : ℕ) (a : Hitting t w v keys h₀ h at) (k : ℕ) (span : k ≡ span_for t w) (some : 0 < k) where
-    pub hit_done : length v - at < k → Hits (parts_hit t w v) keys h₀ h
-    unfolding parts_hit any_of
-    hit_done few =
-        let d : length (drop at v) ≡ length v - at = length-drop at v in
-        record { long = a.long; each = λ i m. sym (a.means i m ∙ rw (parts_end (span_for t w) (omega arith) (drop at v) (omega arith)) (either_none (bit_at i h))) }
+  pub hit_next : (part left : List ℕ) → rest ≡ part ++ left → length part ≡ k → (s e : ℕ) → s ≡ low_for t w part → e ≡ past_for t w part → (u : List ℕ) → Hits (λ x. both (leb s x) (leb (suc x) e)) keys h u → Hitting t w v keys h₀ u left
+  unfolding parts_hit any_of
+  hit_next part left is size s e es ee u g =
+      let whole : length part ≡ span_for t w = size ∙ span.0 in
+      let some = span.1 in
+      let n : length (part ++ left) ≡ length part + length left = length-append part left in
+      let more : parts (span_for t w) rest ≡ part ∷ parts (span_for t w) left =
+      rw is (parts_more (span_for t w) (omega arith) (part ++ left) (omega arith) ∙ rw (take_at part left (span_for t w) whole, drop_at part left (span_for t w) whole)) in
+      record {
+        long = g.long ∙ a.long;
+        means = λ i m.
+            a.means i m
+            ∙ rw (more, hit_is t w (get_or keys i 0 / key_slots) part, ← es, ← ee, g.each i m)
+            (sym (either_assoc (bit_at i h) (both (leb s (get_or keys i 0 / key_slots)) (leb (suc (get_or keys i 0 / key_slots)) e)) _));
+      }
 
-    pub hit_next : k ≤ length v - at → (s e : ℕ) → s ≡ low_for t w (drop at v) → e ≡ past_for t w (drop at v) → (u : List ℕ) → Hits (λ x. both (leb s x) (leb (suc x) e)) keys h u → Hitting t w v keys h₀ u (at + k)
-    unfolding parts_hit any_of
-    hit_next room s e es ee u g =
-        let d : length (drop at v) ≡ length v - at = length-drop at v in
-        let p = a.place in
-        record {
-          place = omega arith;
-          long = g.long ∙ a.long;
-          means = λ i m.
-              a.means i m
-              ∙ rw (parts_more (span_for t w) (omega arith) (drop at v) (omega arith), hit_near t w (get_or keys i 0 / key_slots) (drop at v) (omega arith), hit_is t w (get_or keys i 0 / key_slots) (drop at v), ← es, ← ee, ← span, drop-drop k at v, g.each i m)
-              (sym (either_assoc (bit_at i h) (both (leb s (get_or keys i 0 / key_slots)) (leb (suc (get_or keys i 0 / key_slots)) e)) _));
-        }
+-- a number alone ends where it starts
+pub alone_past : (t : Bool) (w : Numbering) (b : List ℕ) (x : ℕ) → t ≡ false → x ≡ low_for t w b → x + 1 ≡ past_for t w b
+alone_past t w b x off e = rw off (single_past w b x (rw off at e))
 
 -- ---- a TLV
 

@@ -31,6 +31,7 @@ fn step(v: u64, z: u64, h: usize) -> usize
 }
 
 // How many are below the keys of z. The n from base on are still in question; each turn halves them.
+// A `while`: the step is half of what is left. `partition_point` was tried: it branches, and takes twice as long.
 fn count_below(keys: &[u64], z: u64) -> usize
     requires { Sorted keys.now × (z < 2 ^ 52) }
     ensures { Splits keys.now (z * key_slots) result }
@@ -78,16 +79,13 @@ fn entry_of(x: u64, n: usize) -> usize
 }
 
 // Notes the place of each key in the entry of its number; of several in one entry that of the first. There are no more entries than
-// slots. Nothing is promised of it: a place that
-// is read is tested.
+// slots. Nothing is promised of it: a place that is read is tested.
 pub fn note_places(keys: &[u64], places: &mut [u64]) {
     let n = places.len();
     if MOST_SLOTS < n {
         return;
     }
-    let mut i = keys.len();
-    while 0 < i {
-        i -= 1;
+    for i in (0..keys.len()).rev() {
         let h = entry_of(keys[i] / KEY_SLOTS, n);
         if n <= h {
             return;
@@ -153,32 +151,27 @@ fn hit_single(x: u64, near: &[u8], keys: &[u64], places: &[u64], hits: &mut [u8]
     }
 }
 
-// Sets the bits of the keys whose number lies in a block of a value.
-fn hit_blocks(v: &[u8], w: Numbering, near: &[u8], keys: &[u64], places: &[u64], hits: &mut [u8])
+// Sets the bits of the keys whose number lies in a block of a value, or is in a list of numbers.
+fn hit_parts<const BLOCKS: bool>(
+    v: &[u8],
+    w: Numbering,
+    near: &[u8],
+    keys: &[u64],
+    places: &[u64],
+    hits: &mut [u8],
+)
     requires { Narrow w × Searched near.now keys.now hits.old }
-    ensures { Hits (parts_hit true w v.now) keys.now hits.old hits.new }
+    ensures { Hits (parts_hit BLOCKS w v.now) keys.now hits.old hits.new }
 {
-    let k = flush_parts::span_for(true, w);
-    let mut at = 0;
-    while k <= v.len() - at {
-        let s = flush_parts::low_at(v, at, true, w);
-        let e = flush_parts::past_at(v, at, true, w);
-        hit_range(s, e, near, keys, places, hits);
-        at += k;
-    }
-}
-
-// Sets the bits of the keys whose number is in a list.
-fn hit_singles(v: &[u8], w: Numbering, near: &[u8], keys: &[u64], places: &[u64], hits: &mut [u8])
-    requires { Narrow w × Searched near.now keys.now hits.old }
-    ensures { Hits (parts_hit false w v.now) keys.now hits.old hits.new }
-{
-    let k = flush_parts::span_for(false, w);
-    let mut at = 0;
-    while k <= v.len() - at {
-        let x = flush_parts::low_at(v, at, false, w);
-        hit_single(x, near, keys, places, hits);
-        at += k;
+    let k = flush_parts::span_for(BLOCKS, w);
+    for part in v.chunks_exact(k) {
+        let s = flush_parts::low_at(part, 0, BLOCKS, w);
+        if BLOCKS {
+            let e = flush_parts::past_at(part, 0, BLOCKS, w);
+            hit_range(s, e, near, keys, places, hits);
+        } else {
+            hit_single(s, near, keys, places, hits);
+        }
     }
 }
 
@@ -196,14 +189,12 @@ fn hit_map(v: &[u8], w: Numbering, near: &[u8], keys: &[u64], places: &[u64], hi
         return;
     }
     let start = flush_members::number_at(v, 0, w);
-    let mut i = count_near(keys, places, s);
-    while i < keys.len() {
+    for i in count_near(keys, places, s)..keys.len() {
         let x = keys[i] / KEY_SLOTS;
         if e <= x {
             return;
         }
         flush_bits::add_if(hits, i, flush_members::map_has(v, w, start, x));
-        i += 1;
     }
 }
 
@@ -222,11 +213,11 @@ fn hit_value(
 {
     let w = naming.numbering;
     if k == naming.blocks {
-        hit_blocks(v, w, near, keys, places, hits);
+        hit_parts::<true>(v, w, near, keys, places, hits);
         return;
     }
     if k == naming.singles {
-        hit_singles(v, w, near, keys, places, hits);
+        hit_parts::<false>(v, w, near, keys, places, hits);
         return;
     }
     if naming.mapped & (k == naming.maps) {
@@ -247,6 +238,7 @@ pub fn hit_named(
     ensures { Hits (named_of naming (tlvs l.now)) keys.now hits.old hits.new }
 {
     let mut at = 0;
+    // A `while`: the step is the length of the TLV.
     while at < l.len() {
         let e = flush_tlvs::end_of(l, at);
         if l.len() < e {

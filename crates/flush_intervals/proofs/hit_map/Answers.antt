@@ -1,5 +1,4 @@
 -- `flush_intervals::hit_map` meets its contract. The invariant: the keys before key i have their bits.
-use Prim.Native.Nat.{◌-◌}
 use Rattle.flush_intervals.proofs.Hits.{map_short, far_hits, map_start, map_done, map_past, map_next}
 use borrow.Author.Rules.{rules}
 use Rattle.flush_intervals.proofs.hit_map.Goals as goal

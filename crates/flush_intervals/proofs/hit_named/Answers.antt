@@ -1,5 +1,4 @@
 -- `flush_intervals::hit_named` meets its contract. The invariant: what is hit and what is left make up the whole.
-use Prim.Native.Nat.{◌-◌}
 use Rattle.flush_intervals.proofs.Hits.{still_searched}
 use Rattle.flush_intervals.proofs.Walks.{walk_start, walk_cut, walk_next, walk_done}
 use borrow.Author.Rules.{rules}
