@@ -12,12 +12,6 @@ pub const TALLY_UNIT: u32 = 0x2000;
 // The places that are noted.
 pub const PLACES: usize = 2048;
 
-fn wide(n: u16) -> usize
-    ensures { (result ≡ n) × (result < 2 ^ 16) }
-{
-    n as usize
-}
-
 // Whether the tally at a place, which may be any number, is one of the first n and counts the key.
 fn counts_at(tallies: &[u32], e: usize, n: usize, k: u32) -> bool
     requires { n ≤ length tallies.now }
@@ -37,7 +31,7 @@ pub fn count_on(k: u32, tallies: &mut [u32], places: &[u16], n: usize) -> bool
     if n == 0 {
         return false;
     }
-    let e = wide(places[k as usize % PLACES]);
+    let e = usize::from(places[k as usize % PLACES]);
     if !counts_at(tallies, e, n, k) {
         return false;
     }

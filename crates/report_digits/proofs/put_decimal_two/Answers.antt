@@ -1,9 +1,0 @@
--- `report_digits::put_decimal_two` meets its contract: two parts, one after the other.
-use native.Mathlib.Omega.{arith}
-use Rattle.report_digits.proofs.Laws.{digits-pasted}
-use Rattle.report_digits.proofs.put_decimal_two.Goals as goal
-
-pub returns : goal.returns
-returns c =
-    let a = c.args in
-    digits-pasted 10 1 1 a.n a.out.now _ _ a.at (omega arith) c.put_decimal_digit.ensures c.put_decimal_digit-2.ensures
