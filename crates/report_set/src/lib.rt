@@ -53,6 +53,7 @@ fn list_word(w: u64, x: usize, out: &mut [u32], n: usize) -> usize
 {
     let mut left = w;
     let mut c = n;
+    // A `while`: the step is to the next bit that is set.
     while left != 0 {
         out[c] = tally_of(x + trail_of(left));
         c += 1;
@@ -67,10 +68,8 @@ pub fn list(s: &[u64], out: &mut [u32], n: usize) -> usize
     ensures { (result ≡ n + length (set_tallies 0 s.now)) × (take result out.new ≡ take n out.old ++ set_tallies 0 s.now) }
 {
     let mut c = n;
-    let mut i = 0;
-    while i < s.len() {
-        c = list_word(s[i], i * WORD_BITS, out, c);
-        i += 1;
+    for (i, w) in s.iter().enumerate() {
+        c = list_word(*w, i * WORD_BITS, out, c);
     }
     c
 }

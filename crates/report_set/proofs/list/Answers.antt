@@ -1,5 +1,4 @@
 -- `report_set::list` meets its contract. The invariant: the tallies listed and those of the words that are left are all.
-use Prim.Native.Nat.{◌-◌}
 use mathlib.Core.Path.{refl, sym, ap, ◌∙◌}
 use native.Mathlib.Omega.{arith}
 use lib.ListN.{length, take}
