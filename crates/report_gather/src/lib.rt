@@ -53,13 +53,10 @@ fn count_all(table: &[u8], s: &mut [u64], tallies: &mut [u32]) -> usize
     ensures { (result + length (set_tallies 0 s.new) ≤ slots_of table.now) × Tallies (keys_to (slots_of table.now) table.now) (take result tallies.new ++ set_tallies 0 s.new) }
 {
     let mut places = [0u16; PLACES];
-    let m = table.len() / SLOT_BYTES;
     let mut n = 0;
-    let mut i = 0;
-    while i < m {
+    for i in 0..table.len() / SLOT_BYTES {
         let k = report_keys::key_at(table, SLOT_BYTES * i);
         n = add(k, s, tallies, &mut places, n);
-        i += 1;
     }
     n
 }

@@ -1,6 +1,5 @@
-use Prim.Native.Nat.{◌≤◌, ◌-◌, ◌+◌}
+use Prim.Native.Nat.{◌≤◌, ◌+◌}
 use mathlib.Core.List.{◌++◌}
-use mathlib.Core.Path.{◌≡◌}
 use lib.ListN.{length, take}
 use Rattle.report_keys.specs.Keys.{keys_to}
 use Rattle.report_tally.specs.Tallies.{Tallies}
@@ -8,7 +7,4 @@ use Rattle.report_set.specs.Set.{set_tallies}
 use Rattle.report_gather.proofs.count_all.Given as goal
 
 abbrev pub invariant-loop-i : goal.invariant-loop-i
-invariant-loop-i l = (l.i ≤ l.m) × ((l.n + length (set_tallies 0 l.s) ≤ l.i) × (((length l.tallies ≡ length l.initial.tallies) × ((length l.s ≡ length l.initial.s) × (length l.places ≡ length l.initial.places))) × Tallies (keys_to l.i l.table) (take l.n l.tallies ++ set_tallies 0 l.s)))
-
-abbrev pub decreases-loop-i : goal.decreases-loop-i
-decreases-loop-i l = l.m - l.i
+invariant-loop-i l = (l.n + length (set_tallies 0 l.s) ≤ l.i) × Tallies (keys_to l.i l.table) (take l.n l.tallies ++ set_tallies 0 l.s)
