@@ -6,6 +6,7 @@ use mathlib.Core.Bool.{Bool, true, false, not, ◌||◌}
 use mathlib.Core.List.{List, [], ◌∷◌}
 use mathlib.Core.Path.{◌≡◌, refl, sym, ap, ◌∙◌}
 use native.Mathlib.Decide.{ℕ_discrete, dec_lt}
+use native.Mathlib.Nat.{add-zero}
 use native.Mathlib.Numerals.{add-one}
 use native.Mathlib.Omega.{arith}
 use lib.Dec.{eqb, leb}
@@ -30,13 +31,8 @@ kind_same t y h = go (ℕ_discrete (t / tally_unit % 2) y)
     go (yes e) = eq-eqb (t / tally_unit) (t / row_unit * 2 + y) (omega arith) ∙ sym (eq-eqb (t / tally_unit % 2) y e)
     go (no e) = ne_eqb (t / tally_unit) (t / row_unit * 2 + y) (λ z. e (omega arith)) ∙ sym (ne_eqb (t / tally_unit % 2) y e)
 
-pub learned_counted : (t : ℕ) → pick (eqb (t / tally_unit % 2) 0) (t % tally_unit) 0 ≡ counted_by (t / row_unit * 2) t
-learned_counted t =
-    let same : t / row_unit * 2 + 0 ≡ t / row_unit * 2 = omega arith in
-    rw (← kind_same t 0 (omega arith), same)
-
-pub configured-counted : (t : ℕ) → pick (eqb (t / tally_unit % 2) 1) (t % tally_unit) 0 ≡ counted_by (t / row_unit * 2 + 1) t
-configured-counted t = rw (← kind_same t 1 (omega arith))
+pub kind_counted : (t y : ℕ) → y < 2 → pick (eqb (t / tally_unit % 2) y) (t % tally_unit) 0 ≡ counted_by (t / row_unit * 2 + y) t
+kind_counted t y h = rw (← kind_same t y h)
 
 counts_not : (k t : ℕ) → (t / tally_unit ≡ k → ⊥) → counted_by k t ≡ 0
 unfolding pick
@@ -91,9 +87,9 @@ pub record SoFar (v : List ℕ) (i x l c j : ℕ) : Type 0 where
   pub configured : c + tallied (x * 2 + 1) (drop j v) ≡ tallied (x * 2 + 1) (drop i v)
 
 module _ (v : List ℕ) (i : ℕ) (s : Sorted v) (x : ℕ) (ex : x ≡ get_or v i 0 / row_unit) where
-  pub row_start : i < length v → (l c : ℕ) → l ≡ counted_by (get_or v i 0 / row_unit * 2) (get_or v i 0) → l < tally_unit → c ≡ counted_by (get_or v i 0 / row_unit * 2 + 1) (get_or v i 0) → c < tally_unit → SoFar v i x l c (i + 1)
+  pub row_start : i < length v → (l c : ℕ) → l ≡ counted_by (get_or v i 0 / row_unit * 2 + 0) (get_or v i 0) → l < tally_unit → c ≡ counted_by (get_or v i 0 / row_unit * 2 + 1) (get_or v i 0) → c < tally_unit → SoFar v i x l c (i + 1)
   row_start h l c el fl ec fc =
-      let a : l ≡ counted_by (x * 2) (get_or v i 0) = rw ex el in
+      let a : l ≡ counted_by (x * 2) (get_or v i 0) = rw (ex, ← add-zero (get_or v i 0 / row_unit * 2)) el in
       let b : c ≡ counted_by (x * 2 + 1) (get_or v i 0) = rw ex ec in
       let p = tallied_first (x * 2) v i h in
       let q = tallied_first (x * 2 + 1) v i h in
@@ -101,10 +97,10 @@ module _ (v : List ℕ) (i : ℕ) (s : Sorted v) (x : ℕ) (ex : x ≡ get_or v 
       record { further = omega arith; within = omega arith; last = rw here (sym ex); few = (omega arith, omega arith); learned = omega arith; configured = omega arith }
 
   module _ (l c j : ℕ) (so : SoFar v i x l c j) where
-    pub row_next : j < length v → (y : ℕ) → y ≡ get_or v j 0 / row_unit → y ≡ x → (m n : ℕ) → m ≡ counted_by (get_or v j 0 / row_unit * 2) (get_or v j 0) → m < tally_unit → n ≡ counted_by (get_or v j 0 / row_unit * 2 + 1) (get_or v j 0) → n < tally_unit → SoFar v i x (l + m) (c + n) (j + 1)
+    pub row_next : j < length v → (y : ℕ) → y ≡ get_or v j 0 / row_unit → y ≡ x → (m n : ℕ) → m ≡ counted_by (get_or v j 0 / row_unit * 2 + 0) (get_or v j 0) → m < tally_unit → n ≡ counted_by (get_or v j 0 / row_unit * 2 + 1) (get_or v j 0) → n < tally_unit → SoFar v i x (l + m) (c + n) (j + 1)
     row_next h y ey same m n em fm en fn =
         let is : get_or v j 0 / row_unit ≡ x = sym ey ∙ same in
-        let a : m ≡ counted_by (x * 2) (get_or v j 0) = rw is at em in
+        let a : m ≡ counted_by (x * 2) (get_or v j 0) = rw (is, add-zero (x * 2)) at em in
         let b : n ≡ counted_by (x * 2 + 1) (get_or v j 0) = rw is at en in
         let p = tallied_first (x * 2) v j h in
         let q = tallied_first (x * 2 + 1) v j h in
@@ -147,12 +143,12 @@ single_tests t h = go (eqb (t % row_unit) 1) (leb free_key (t / tally_unit)) ref
     go true true e f g = let z : ◌≡◌ {A = ℕ} 0 1 = cc in absurd (omega arith)
     go true false e f g = let one = eqb-true (t % row_unit) 1 e in let few = leb-false free_key (t / tally_unit) f in (omega arith, omega arith)
 
-counts_one : (t : ℕ) → t % row_unit ≡ 1 → 1 ≡ counted_by (t / row_unit * 2) t
+counts_one : (t : ℕ) → t % row_unit ≡ 1 → 1 ≡ counted_by (t / row_unit * 2 + 0) t
 unfolding pick
 counts_one t e =
-    let key : t / tally_unit ≡ t / row_unit * 2 = omega arith in
+    let key : t / tally_unit ≡ t / row_unit * 2 + 0 = omega arith in
     let count : t % tally_unit ≡ 1 = omega arith in
-    rw (eq-eqb (t / tally_unit) (t / row_unit * 2) key, count)
+    rw (eq-eqb (t / tally_unit) (t / row_unit * 2 + 0) key, count)
 
 pub single_row_lem : (v : List ℕ) (i : ℕ) → Sorted v → i + 1 < length v → get_or v i 0 % row_unit ≡ 1 → not (eqb (get_or v (i + 1) 0 / row_unit) (get_or v i 0 / row_unit)) ≡ true → RowAt v i (single_row (get_or v i 0) i)
 single_row_lem v i s h one other =

@@ -32,17 +32,17 @@ fn count_if(b: bool, t: u32) -> u64
     if b { (t % TALLY_UNIT) as u64 } else { 0 }
 }
 
-// How often a tally counts learned records of its nickname, and configured ones.
-fn learned_of(t: u32) -> u64
-    ensures { (result ≡ counted_by (t / row_unit * 2) t) × (result < tally_unit) }
-{
-    count_if(t / TALLY_UNIT % 2 == 0, t)
-}
+// The kinds of records that a tally counts.
+const LEARNED: u32 = 0;
 
-fn configured_of(t: u32) -> u64
-    ensures { (result ≡ counted_by (t / row_unit * 2 + 1) t) × (result < tally_unit) }
+const CONFIGURED: u32 = 1;
+
+// How often a tally counts records of its nickname of a kind.
+fn count_of<const KIND: u32>(t: u32) -> u64
+    requires { KIND < 2 }
+    ensures { (result ≡ counted_by (t / row_unit * 2 + KIND) t) × (result < tally_unit) }
 {
-    count_if(t / TALLY_UNIT % 2 == 1, t)
+    count_if(t / TALLY_UNIT % 2 == KIND, t)
 }
 
 pub fn nickname_of(t: u32) -> u64
@@ -57,10 +57,9 @@ pub fn row_at(v: &[u32], i: usize) -> Row
     ensures { RowAt v.now i result }
 {
     let x = nickname_of(v[i]);
-    let mut l = learned_of(v[i]);
-    let mut c = configured_of(v[i]);
-    let mut j = i + 1;
-    while j < v.len() {
+    let mut l = count_of::<LEARNED>(v[i]);
+    let mut c = count_of::<CONFIGURED>(v[i]);
+    for j in i + 1..v.len() {
         if nickname_of(v[j]) != x {
             return Row {
                 nickname: x,
@@ -69,15 +68,14 @@ pub fn row_at(v: &[u32], i: usize) -> Row
                 next: j,
             };
         }
-        l += learned_of(v[j]);
-        c += configured_of(v[j]);
-        j += 1;
+        l += count_of::<LEARNED>(v[j]);
+        c += count_of::<CONFIGURED>(v[j]);
     }
     Row {
         nickname: x,
         learned: l,
         configured: c,
-        next: j,
+        next: v.len(),
     }
 }
 
@@ -103,14 +101,12 @@ pub fn times(v: &[u32], k: u32) -> u64
     ensures { result ≡ tallied k v.now }
 {
     let mut n = 0;
-    let mut i = v.len();
-    while 0 < i {
-        let t = v[i - 1];
+    for i in (0..v.len()).rev() {
+        let t = v[i];
         if t / TALLY_UNIT < FREE_KEY {
             return n;
         }
         n += count_if(t / TALLY_UNIT == k, t);
-        i -= 1;
     }
     n
 }

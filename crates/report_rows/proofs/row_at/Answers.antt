@@ -1,13 +1,14 @@
 -- `report_rows::row_at` meets its contract. The invariant: l and c are what the tallies before place j count.
-use Prim.Native.Nat.{◌-◌}
+use mathlib.Core.Path.{◌≡◌}
 use native.Mathlib.Omega.{arith}
+use lib.ListN.{length}
 use Rattle.report_rows.proofs.Laws.{row_start, row_next, row_ends, row_last}
 use Rattle.report_rows.proofs.row_at.Goals as goal
 
 pub loop-j-init : goal.loop-j-init
 loop-j-init c =
-    let l = c.learned_of-l in
-    row_start c.args.v.now c.args.i c.requires.1.0 c.nickname_of-x.result c.nickname_of-x.ensures.0 c.requires.0 l.result c.configured_of-c.result l.ensures.0 l.ensures.1 c.configured_of-c.ensures.0 c.configured_of-c.ensures.1
+    let l = c.count_of-l in
+    row_start c.args.v.now c.args.i c.requires.1.0 c.nickname_of-x.result c.nickname_of-x.ensures.0 c.requires.0 l.result c.count_of-c.result l.ensures.0 l.ensures.1 c.count_of-c.ensures.0 c.count_of-c.ensures.1
 
 pub returns-then-nickname_of-x : goal.returns-then-nickname_of-x
 returns-then-nickname_of-x c =
@@ -30,11 +31,12 @@ loop-j-preserved c =
     let at = c.loop-j in
     let x = c.nickname_of-x in
     let y = c.nickname_of in
-    let l = c.learned_of-l-in-loop-j in
-    row_next c.args.v.now c.args.i c.requires.1.0 x.result x.ensures.0 at.l at.c at.j at.invariant (omega arith) y.result y.ensures.0 c.if-nickname_of-x.false l.result c.configured_of-c-in-loop-j.result l.ensures.0 l.ensures.1 c.configured_of-c-in-loop-j.ensures.0 c.configured_of-c-in-loop-j.ensures.1
+    let l = c.count_of-l-in-loop-j in
+    row_next c.args.v.now c.args.i c.requires.1.0 x.result x.ensures.0 at.l at.c at.j at.invariant (omega arith) y.result y.ensures.0 c.if-nickname_of-x.false l.result c.count_of-c-in-loop-j.result l.ensures.0 l.ensures.1 c.count_of-c-in-loop-j.ensures.0 c.count_of-c-in-loop-j.ensures.1
 
 pub returns : goal.returns
 returns c =
     let at = c.loop-j in
     let x = c.nickname_of-x in
-    row_last c.args.v.now c.args.i c.requires.1.0 x.result x.ensures.0 at.l at.c at.j at.invariant (omega arith)
+    let end : at.j ≡ length c.args.v.now = omega arith in
+    rw end at (row_last c.args.v.now c.args.i c.requires.1.0 x.result x.ensures.0 at.l at.c at.j at.invariant (omega arith))
