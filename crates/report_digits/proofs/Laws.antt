@@ -1,21 +1,21 @@
 -- Laws of the text: digits in parts, one byte of an area.
 -- Assumes nothing.
-use Prim.Native.Nat.{ℕ, zero, suc, ◌+◌, ◌*◌, ◌/◌, ◌%◌, ◌^◌, ◌<◌, ◌≤◌}
-use mathlib.Core.List.{List, [], ◌∷◌, ◌++◌, append_assoc}
-use mathlib.Core.Path.{◌≡◌, refl, sym, ap, ◌∙◌}
-use native.Mathlib.Nat.{zero-add, suc-add, mul_comm, mod-lt, div-div-eq-div-mul}
+use Prim.Native.Nat.{ℕ, suc, ◌+◌, ◌-◌, ◌*◌, ◌/◌, ◌%◌, ◌^◌, ◌<◌, ◌≤◌}
+use mathlib.Core.List.{List, [], ◌∷◌, ◌++◌, append-nil, append_assoc}
+use mathlib.Core.Path.{◌≡◌, sym, ap, ◌∙◌}
+use native.Mathlib.Nat.{mod-lt, div-div-eq-div-mul, pow-suc, pow-zero}
 use native.Mathlib.Decide.{dec_lt}
 use native.Mathlib.Numerals.{add-one}
 use native.Mathlib.Omega.{arith}
-use lib.Pow.{pow-add}
-use lib.ListN.{length, take, drop, set}
-use lib.Seq.{set_split}
+use lib.ListN.{length, take, drop, set, length-append, take-append-drop}
+use lib.Seq.{length-take-le, set_split, take-take, drop_at}
+use Rattle.std.proofs.lemmas.List.{take-append-le}
 use borrow.Author.Tests.{le-leb, lt-leb}
 use Rattle.numbers.specs.Tests.{pick}
 use Rattle.numbers.specs.Bytes.{bytes_of}
 use Rattle.frame_copy.specs.Areas.{pasted}
 use Rattle.frame_copy.proofs.Copying.{paste_next}
-use Rattle.report.specs.Text.{sign, digits_of, hexadecimal, width_of, decimal}
+use Rattle.report.specs.Text.{sign, digits_of, hexadecimal, width_of}
 use Rattle.report.proofs.Digits.{length_digits}
 
 pub put_one : (o : List ℕ) (at v : ℕ) → at < length o → set o at v ≡ pasted o at (v ∷ [])
@@ -26,13 +26,46 @@ put_one o at v h = rw (add-one at) (set_split o at v h ∙ sym (append_assoc (ta
 pub then-pasted : (o o₁ o₂ x y z : List ℕ) (at k : ℕ) → o₁ ≡ pasted o at x → o₂ ≡ pasted o₁ k y → at ≤ length o → at + length x ≡ k → x ++ y ≡ z → o₂ ≡ pasted o at z
 then-pasted o o₁ o₂ x y z at k first second h e whole = second ∙ rw first (paste_next o x y at k h e ∙ ap (pasted o at) whole)
 
--- digits in two parts
-pub digits-parts : (b j k n : ℕ) → digits_of b j (n / b ^ k) ++ digits_of b k n ≡ digits_of b (j + k) n
-unfolding digits_of
-digits-parts b zero k n = rw (zero-add k)
-digits-parts b (suc j) k n =
-    let power : n / b ^ k / b ^ j ≡ n / b ^ (j + k) = div-div-eq-div-mul n (b ^ k) (b ^ j) ∙ ap (λ (m : ℕ). n / m) (mul_comm (b ^ k) (b ^ j) ∙ sym (pow-add b j k)) in
-    rw (suc-add j k, ← digits-parts b j k n, power)
+-- ---- digits from the low one on
+
+-- a byte before what is pasted
+paste_before : (o x : List ℕ) (at v : ℕ) → at + 1 + length x ≤ length o → set (pasted o (at + 1) x) at v ≡ pasted o at (v ∷ x)
+unfolding pasted
+paste_before o x at v h =
+    let y : List ℕ = take (at + 1) o in
+    let z : List ℕ = x ++ drop (at + 1 + length x) o in
+    let long : length y ≡ at + 1 = length-take-le (at + 1) o (omega arith) in
+    let whole : length (y ++ z) ≡ length y + length z = length-append y z in
+    let front : take at (y ++ z) ≡ take at o = take-append-le at y z (omega arith) ∙ take-take at (at + 1) o (omega arith) in
+    let next : at + 1 + length x ≡ at + suc (length x) = omega arith in
+    ap (λ (l : List ℕ). set l at v) (append_assoc y x _)
+    ∙ set_split (y ++ z) at v (omega arith)
+    ∙ rw (front, drop_at y z (suc at) (omega arith))
+    (ap (λ (m : ℕ). take at o ++ v ∷ (x ++ drop m o)) next ∙ sym (append_assoc (take at o) (v ∷ x) _))
+
+module _ (b n k at : ℕ) (o : List ℕ) where
+  -- the digits from place i on are written, and left is what the others are of
+  pub record Putting (out : List ℕ) (left i : ℕ) : Type 0 where
+    pub so_far : out ≡ pasted o (at + i) (digits_of b (k - i) n)
+    pub rest : left ≡ n / b ^ (k - i)
+
+  pub put_start : Putting o n k
+  unfolding digits_of pasted
+  put_start =
+      let none : k - k ≡ 0 = omega arith in
+      let more : at + k + 0 ≡ at + k = omega arith in
+      record { so_far = rw (none, more) (sym (take-append-drop (at + k) o) ∙ ap (λ (l : List ℕ). l ++ drop (at + k) o) (sym (append-nil (take (at + k) o)))); rest = rw (none, pow-zero b) (omega arith) }
+
+  pub put_next : (out : List ℕ) (left i : ℕ) → Putting out left i → at + k ≤ length o → 0 < i → i ≤ k → (v : ℕ) → v ≡ sign (left % b) → Putting (set out (at + (i - 1)) v) (left / b) (i - 1)
+  unfolding digits_of
+  put_next out left i s room some within v ev =
+      let at₁ : at + i ≡ at + (i - 1) + 1 = omega arith in
+      let more : k - (i - 1) ≡ suc (k - i) = omega arith in
+      let long = length_digits b (k - i) n in
+      record {
+        so_far = rw (s.so_far, at₁, more, ev, s.rest) (paste_before o (digits_of b (k - i) n) (at + (i - 1)) _ (omega arith));
+        rest = rw (s.rest, more, pow-suc b (k - i)) (div-div-eq-div-mul n (b ^ (k - i)) b);
+      }
 
 -- the ways of a count
 module _ (n : ℕ) where
@@ -52,22 +85,6 @@ module _ (n : ℕ) where
   unfolding width_of pick
   width_4 f g h = rw (lt-leb n 9 f, lt-leb n 99 g, lt-leb n 999 h)
 
-  pub decimal_is : (k : ℕ) (o : List ℕ) (at : ℕ) → width_of n ≡ k → (u : List ℕ) → u ≡ pasted o at (digits_of 10 k n) → (u ≡ pasted o at (decimal n)) × (at + k ≡ at + width_of n)
-  unfolding decimal
-  decimal_is k o at e u is = rw e (is, refl)
-
-pub digit_10 : (n v : ℕ) → v ≡ sign (n % 10) → v ∷ [] ≡ digits_of 10 1 n
-unfolding digits_of
-digit_10 n v e =
-    let same : n / 10 ^ 0 % 10 ≡ n % 10 = omega arith in
-    rw (e, same)
-
-pub digit_16 : (n v : ℕ) → v ≡ sign (n % 16) → v ∷ [] ≡ digits_of 16 1 n
-unfolding digits_of
-digit_16 n v e =
-    let same : n / 16 ^ 0 % 16 ≡ n % 16 = omega arith in
-    rw (e, same)
-
 pub sign_digit : (d : ℕ) → d ≤ 9 → 0x30 + d ≡ sign d
 unfolding sign pick
 sign_digit d h = rw (le-leb d 9 h)
@@ -75,15 +92,6 @@ sign_digit d h = rw (le-leb d 9 h)
 pub sign_letter : (d : ℕ) → 9 < d → 0x37 + d ≡ sign d
 unfolding sign pick
 sign_letter d h = rw (lt-leb d 9 h)
-
--- two parts of a number's digits, one after the other
-pub digits-pasted : (b j k n : ℕ) (o o₁ o₂ : List ℕ) (at : ℕ) → at ≤ length o → o₁ ≡ pasted o at (digits_of b j (n / b ^ k)) → o₂ ≡ pasted o₁ (at + j) (digits_of b k n) → o₂ ≡ pasted o at (digits_of b (j + k) n)
-digits-pasted b j k n o o₁ o₂ at h first second =
-    then-pasted o o₁ o₂ (digits_of b j (n / b ^ k)) (digits_of b k n) (digits_of b (j + k) n) at (at + j) first second h (rw (length_digits b j (n / b ^ k))) (digits-parts b j k n)
-
-pub four_digits : (n : ℕ) → digits_of 16 4 n ≡ hexadecimal n
-unfolding hexadecimal
-four_digits n = refl
 
 -- four signs as one number
 hexadecimal_bytes : (n a b c d : ℕ) → a ≡ sign (n / 0x1000 % 16) → b ≡ sign (n / 0x100 % 16) → c ≡ sign (n / 0x10 % 16) → d ≡ sign (n % 16) → a < 2 ^ 8 → b < 2 ^ 8 → c < 2 ^ 8 → d < 2 ^ 8

@@ -30,35 +30,16 @@ pub fn put(b: u8, out: &mut [u8], at: usize)
     out[at] = b;
 }
 
-// The lowest digit of a number: in decimal, in hexadecimal.
-fn put_decimal_digit(n: u64, out: &mut [u8], at: usize)
-    requires { at < length out.old }
-    ensures { out.new ≡ pasted out.old at (digits_of 10 1 n) }
+// Writes the k low digits of a number in a base, the high one first.
+fn put_digits<const BASE: u64>(n: u64, k: usize, out: &mut [u8], at: usize)
+    requires { ((1 < BASE) × (BASE ≤ 16)) × (at + k ≤ length out.old) }
+    ensures { out.new ≡ pasted out.old at (digits_of BASE k n) }
 {
-    put(sign_of(n % 10), out, at);
-}
-
-fn put_hexadecimal_digit(n: u64, out: &mut [u8], at: usize)
-    requires { at < length out.old }
-    ensures { out.new ≡ pasted out.old at (digits_of 16 1 n) }
-{
-    put(sign_of(n % 16), out, at);
-}
-
-fn put_decimal_two(n: u64, out: &mut [u8], at: usize)
-    requires { at + 2 ≤ length out.old }
-    ensures { out.new ≡ pasted out.old at (digits_of 10 2 n) }
-{
-    put_decimal_digit(n / 10, out, at);
-    put_decimal_digit(n, out, at + 1);
-}
-
-fn put_hexadecimal_two(n: u64, out: &mut [u8], at: usize)
-    requires { at + 2 ≤ length out.old }
-    ensures { out.new ≡ pasted out.old at (digits_of 16 2 n) }
-{
-    put_hexadecimal_digit(n / 16, out, at);
-    put_hexadecimal_digit(n, out, at + 1);
+    let mut left = n;
+    for i in (0..k).rev() {
+        out[at + i] = sign_of(left % BASE);
+        left /= BASE;
+    }
 }
 
 // A nickname.
@@ -66,8 +47,7 @@ pub fn put_hexadecimal(n: u64, out: &mut [u8], at: usize)
     requires { at + 4 ≤ length out.old }
     ensures { out.new ≡ pasted out.old at (hexadecimal n) }
 {
-    put_hexadecimal_two(n / 0x100, out, at);
-    put_hexadecimal_two(n, out, at + 2);
+    put_digits::<16>(n, 4, out, at);
 }
 
 // The signs of a nickname as one number: a digit in each byte, then what stands before 0, and seven more for a letter. Its bytes are moved
@@ -102,40 +82,12 @@ pub fn width_of(n: u64) -> usize
     4
 }
 
-// Three digits, and four.
-fn put_decimal_three(n: u64, out: &mut [u8], at: usize)
-    requires { at + 3 ≤ length out.old }
-    ensures { out.new ≡ pasted out.old at (digits_of 10 3 n) }
-{
-    put_decimal_digit(n / 100, out, at);
-    put_decimal_two(n, out, at + 1);
-}
-
-fn put_decimal_four(n: u64, out: &mut [u8], at: usize)
-    requires { at + 4 ≤ length out.old }
-    ensures { out.new ≡ pasted out.old at (digits_of 10 4 n) }
-{
-    put_decimal_two(n / 100, out, at);
-    put_decimal_two(n, out, at + 2);
-}
-
 // A count, and where it ends.
 pub fn put_decimal(n: u64, out: &mut [u8], at: usize) -> usize
     requires { at + width_of n ≤ length out.old }
     ensures { (out.new ≡ pasted out.old at (decimal n)) × (result ≡ at + width_of n) }
 {
-    if n <= 9 {
-        put_decimal_digit(n, out, at);
-        return at + 1;
-    }
-    if n <= 99 {
-        put_decimal_two(n, out, at);
-        return at + 2;
-    }
-    if n <= 999 {
-        put_decimal_three(n, out, at);
-        return at + 3;
-    }
-    put_decimal_four(n, out, at);
-    at + 4
+    let k = width_of(n);
+    put_digits::<10>(n, k, out, at);
+    at + k
 }
