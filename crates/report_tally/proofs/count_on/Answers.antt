@@ -1,35 +1,9 @@
 -- `report_tally::count_on` meets its contract: a tally of the key is counted on, or nothing changes.
 use Prim.Native.Nat.{ℕ}
-use mathlib.Core.Path.{◌≡◌, refl}
+use mathlib.Core.Path.{◌≡◌}
 use native.Mathlib.Omega.{arith}
 use Rattle.report_tally.proofs.Laws.{has_room, counted_on}
 use Rattle.report_tally.proofs.count_on.Goals as goal
-
-pub returns-then-n-eq0 : goal.returns-then-n-eq0
-returns-then-n-eq0 c = (λ z. let y : ◌≡◌ {A = ℕ} 0 1 = cc in absurd (omega arith), λ z. refl)
-
-pub returns-then-not-counts_at : goal.returns-then-not-counts_at
-returns-then-not-counts_at c = (λ z. let y : ◌≡◌ {A = ℕ} 0 1 = cc in absurd (omega arith), λ z. refl)
-
-pub bounds-tallies-e : goal.bounds-tallies-e
-bounds-tallies-e c =
-    let hit = c.counts_at.ensures c.if-not-counts_at.false in
-    let in-n = hit.0 in
-    omega arith
-
-pub overflow_add-tallies : goal.overflow_add-tallies
-overflow_add-tallies c =
-    let hit = c.counts_at.ensures c.if-not-counts_at.false in
-    let in-n = hit.0 in
-    let is = hit.1 in
-    let room = has_room c.args.tallies.now c.args.n c.args.k _ in-n (omega arith) hit.1 in
-    omega arith
-
-pub bounds-tallies-e-2 : goal.bounds-tallies-e-2
-bounds-tallies-e-2 c =
-    let hit = c.counts_at.ensures c.if-not-counts_at.false in
-    let in-n = hit.0 in
-    omega arith
 
 pub returns : goal.returns
 returns c =
