@@ -1,12 +1,9 @@
 -- `report_set::add` meets its contract: a bit that is 0 becomes 1, or nothing changes.
 use Prim.Native.Nat.{ℕ, ◌/◌}
-use mathlib.Core.Path.{◌≡◌, refl}
+use mathlib.Core.Path.{◌≡◌}
 use native.Mathlib.Omega.{arith}
 use Rattle.report_set.proofs.Laws.{added_fits, added_long, added_counted}
 use Rattle.report_set.proofs.add.Goals as goal
-
-pub returns-then-w-b-ne0 : goal.returns-then-w-b-ne0
-returns-then-w-b-ne0 c = (λ z. let y : ◌≡◌ {A = ℕ} 0 1 = cc in absurd (omega arith), λ z. refl)
 
 pub overflow_add-s : goal.overflow_add-s
 overflow_add-s c =

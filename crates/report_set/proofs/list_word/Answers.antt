@@ -1,19 +1,11 @@
 -- `report_set::list_word` meets its contract. The invariant: the tallies listed and those by the bits that are left are all of the word.
-use mathlib.Core.Path.{refl, sym, ◌∙◌}
+use mathlib.Core.Path.{sym, ◌∙◌}
 use native.Mathlib.Omega.{arith}
 use lib.ListN.{take}
-use Rattle.report_set.proofs.Words.{trail_small, less_bits}
+use Rattle.report_set.proofs.Words.{less_bits}
 use Rattle.report_set.proofs.Laws.{list_next, list_less, list_end, list_none}
 use borrow.Author.Rules.{rules}
 use Rattle.report_set.proofs.list_word.Goals as goal
-
-pub loop-left-init : goal.loop-left-init
-loop-left-init c = (search rules, (refl, (refl, refl)))
-
-pub tally_of-requires : goal.tally_of-requires
-tally_of-requires c =
-    let small = trail_small 64 c.loop-left.left (omega arith) (omega arith) in
-    omega arith
 
 pub bounds-out-c : goal.bounds-out-c
 bounds-out-c c =
@@ -21,16 +13,6 @@ bounds-out-c c =
     let a = c.args in
     let more = list_less a.x at.c at.left at.out c.loop-left-test.true (omega arith) in
     omega arith
-
-pub overflow_add-c : goal.overflow_add-c
-overflow_add-c c =
-    let at = c.loop-left in
-    let a = c.args in
-    let more = list_less a.x at.c at.left at.out c.loop-left-test.true (omega arith) in
-    omega arith
-
-pub loop-left-smaller : goal.loop-left-smaller
-loop-left-smaller c = less_bits c.loop-left.left c.loop-left-test.true
 
 pub loop-left-preserved : goal.loop-left-preserved
 loop-left-preserved c =
