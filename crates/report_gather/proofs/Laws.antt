@@ -1,20 +1,18 @@
 -- Laws of a key counted once more, by a set or by tallies, and of the keys of a table.
 -- Assumes nothing.
-use Prim.Native.Nat.{ℕ, zero, suc, ◌+◌, ◌*◌, ◌/◌, ◌%◌, ◌<◌, ◌≤◌}
-use mathlib.Core.Bool.{Bool, true, false, not, ◌||◌}
+use Prim.Native.Nat.{ℕ, zero, suc, ◌+◌, ◌*◌, ◌≤◌}
 use mathlib.Core.List.{List, [], ◌∷◌, ◌++◌}
 use mathlib.Core.Path.{◌≡◌, refl, ap, ◌∙◌}
 use native.Mathlib.Numerals.{add-one}
 use native.Mathlib.Omega.{arith}
-use lib.Dec.{eqb, leb}
+use lib.Dec.{eqb}
 use lib.ListN.{length, take, drop, length-append}
-use borrow.Author.Tests.{eqb-true, leb-false}
 use Rattle.numbers.specs.Tests.{pick}
 use Rattle.table.specs.Record.{unpacked}
 use Rattle.table.specs.Slots.{slot_bytes, slot_at}
 use Rattle.table.proofs.Contents.{unpacked_near}
 use Rattle.flush_sort.specs.Sorting.{Sorted}
-use Rattle.report_keys.specs.Keys.{free_key, key_of, keys_to, times_in}
+use Rattle.report_keys.specs.Keys.{key_of, keys_to, times_in}
 use Rattle.report_keys.proofs.Laws.{times_append, times_last, times_few}
 use Rattle.report_tally.specs.Tallies.{tallied, Tallies, OneMore}
 use Rattle.report_tally.proofs.Laws.{tallied-append}
@@ -22,18 +20,6 @@ use Rattle.report_set.specs.Set.{set_tallies}
 use Rattle.report_set.proofs.Laws.{set_sorted}
 
 -- ---- one key more
-
--- a key of a learned record
-pub learned_key : (k : ℕ) → leb free_key k || not (eqb (k % 2) 0) ≡ false → (k < free_key) × (k / 2 * 2 ≡ k)
-learned_key k h = go (leb free_key k) (eqb (k % 2) 0) refl refl h
-  where
-    go : (a b : Bool) → leb free_key k ≡ a → eqb (k % 2) 0 ≡ b → a || not b ≡ false → (k < free_key) × (k / 2 * 2 ≡ k)
-    go true b e f g = let z : ◌≡◌ {A = ℕ} 0 1 = cc in absurd (omega arith)
-    go false false e f g = let z : ◌≡◌ {A = ℕ} 0 1 = cc in absurd (omega arith)
-    go false true e f g =
-        let few = leb-false free_key k e in
-        let even = eqb-true (k % 2) 0 f in
-        (omega arith, omega arith)
 
 module _ (k : ℕ) (a b : List ℕ) (l m : List ℕ) where
   -- counted in the first part, or in the second
@@ -56,9 +42,6 @@ module _ (k : ℕ) (a b : List ℕ) (l m : List ℕ) where
 -- the same with lists that are as they were
 pub first_new : (k n : ℕ) (t u b l m : List ℕ) → u ≡ t → OneMore k (take n u) b → m ≡ l → OneMore k (take n t ++ set_tallies 0 l) (b ++ set_tallies 0 m)
 first_new k n t u b l m old more same = first_more k (take n t) b (set_tallies 0 l) (set_tallies 0 m) (rw old at more) (ap (set_tallies 0) same)
-
-pub same_key : (k : ℕ) (l m : List ℕ) → k / 2 * 2 ≡ k → OneMore (k / 2 * 2) l m → OneMore k l m
-same_key k l m e more j = more j ∙ ap (λ (x : ℕ). tallied j l + pick (eqb x j) 1 0) e
 
 -- ---- the keys of a table
 
