@@ -5,7 +5,7 @@ use Prim.Native.Nat.{ℕ, zero, suc, ◌+◌, ◌-◌, ◌*◌, ◌/◌, ◌%◌
 use mathlib.Core.Bool.{Bool, true, false, not, ◌||◌}
 use mathlib.Core.List.{List, [], ◌∷◌}
 use mathlib.Core.Path.{◌≡◌, refl, sym, ap, ◌∙◌}
-use native.Mathlib.Decide.{ℕ_discrete, dec_lt}
+use native.Mathlib.Decide.{dec_lt}
 use native.Mathlib.Nat.{add-zero}
 use native.Mathlib.Numerals.{add-one}
 use native.Mathlib.Omega.{arith}
@@ -23,16 +23,6 @@ use Rattle.report_tally.proofs.Laws.{tallied-append, tallied_last}
 use Rattle.report_rows.specs.Rows.{row_unit, RowAt, single_row}
 
 -- ---- what a tally counts
-
-kind_same : (t y : ℕ) → y < 2 → eqb (t / tally_unit) (t / row_unit * 2 + y) ≡ eqb (t / tally_unit % 2) y
-kind_same t y h = go (ℕ_discrete (t / tally_unit % 2) y)
-  where
-    go : Dec (t / tally_unit % 2 ≡ y) → eqb (t / tally_unit) (t / row_unit * 2 + y) ≡ eqb (t / tally_unit % 2) y
-    go (yes e) = eq-eqb (t / tally_unit) (t / row_unit * 2 + y) (omega arith) ∙ sym (eq-eqb (t / tally_unit % 2) y e)
-    go (no e) = ne_eqb (t / tally_unit) (t / row_unit * 2 + y) (λ z. e (omega arith)) ∙ sym (ne_eqb (t / tally_unit % 2) y e)
-
-pub kind_counted : (t y : ℕ) → y < 2 → pick (eqb (t / tally_unit % 2) y) (t % tally_unit) 0 ≡ counted_by (t / row_unit * 2 + y) t
-kind_counted t y h = rw (← kind_same t y h)
 
 counts_not : (k t : ℕ) → (t / tally_unit ≡ k → ⊥) → counted_by k t ≡ 0
 unfolding pick

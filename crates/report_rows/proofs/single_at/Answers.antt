@@ -1,16 +1,8 @@
 -- `report_rows::single_at` meets its contract: one tally of one learned record, and the next is of another nickname.
-use Prim.Native.Nat.{ℕ}
-use mathlib.Core.Path.{◌≡◌}
 use native.Mathlib.Omega.{arith}
 use lib.ListN.{get_or}
 use Rattle.report_rows.proofs.Laws.{single_tests, single_row_lem}
 use Rattle.report_rows.proofs.single_at.Goals as goal
-
-pub returns-then-t : goal.returns-then-t
-returns-then-t c = λ z. let y : ◌≡◌ {A = ℕ} 0 1 = cc in absurd (omega arith)
-
-pub returns-then-v-j : goal.returns-then-v-j
-returns-then-v-j c = λ z. let y : ◌≡◌ {A = ℕ} 0 1 = cc in absurd (omega arith)
 
 pub returns : goal.returns
 returns c =
