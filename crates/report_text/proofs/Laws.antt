@@ -41,9 +41,6 @@ module _ (v : List ℕ) where
   long_none = record { below = 0; low = omega arith; done = done_none v; long = sym (ap length (none_done v)) }
 
   module _ (s : Sorted v) (n i : ℕ) (so : SoLong v n i) where
-    pub long_within : n ≤ length (lines_text nickname_end v)
-    long_within = let m = lines_more v so.below nickname_end so.low in let l = so.long in omega arith
-
     pub long_end : length v ≤ i → n ≡ length (lines_text nickname_end v)
     long_end h = so.long ∙ ap length (lines_end v i so.below so.done.done nickname_end so.low h)
 

@@ -44,6 +44,7 @@ fn lines_length(v: &[u32]) -> usize
 {
     let mut n = 0;
     let mut i = 0;
+    // A `while`: the step is the length of the row.
     while i < v.len() {
         let r = report_rows::row_at(v, i);
         if NICKNAME_END <= r.nickname {
@@ -62,6 +63,7 @@ fn put_lines(v: &[u32], out: &mut [u8]) -> usize
 {
     let mut at = 0;
     let mut i = 0;
+    // A `while`: the step is the length of the row.
     while i < v.len() {
         if report_rows::single_at(v, i) {
             at = report_lines::put_single(report_rows::nickname_of(v[i]), out, at);

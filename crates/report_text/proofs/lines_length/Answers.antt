@@ -1,5 +1,4 @@
 -- `report_text::lines_length` meets its contract. The invariant: n is the length of the lines that are done.
-use Prim.Native.Nat.{◌-◌}
 use native.Mathlib.Omega.{arith}
 use Rattle.report_text.proofs.Laws.{long_none, long_end, long_past, room_next, long_next}
 use borrow.Author.Rules.{rules}

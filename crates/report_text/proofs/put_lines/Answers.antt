@@ -1,5 +1,4 @@
 -- `report_text::put_lines` meets its contract. The invariant: the lines that are done are written.
-use Prim.Native.Nat.{◌-◌}
 use mathlib.Core.Path.{refl}
 use native.Mathlib.Omega.{arith}
 use Rattle.report_text.proofs.Laws.{long_end, long_past, room_next, single_named, single_named_lem, put_none, put_past, put_next, put_done}
