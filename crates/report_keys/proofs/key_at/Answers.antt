@@ -1,5 +1,4 @@
 -- `report_keys::key_at` meets its contract: the state decides whether there is a record, then the 7 bits and the entry whether it is good.
-use Prim.Native.Nat.{◌/◌, ◌^◌}
 use native.Mathlib.Omega.{arith}
 use Rattle.report_keys.proofs.Laws.{state_in, mark_in, nickname_in, a_state, key_empty, key_bad, key_marked, key_record}
 use borrow.Author.Rules.{rules}
@@ -23,11 +22,6 @@ returns-then-not-good_fields c =
     let tail = c.tail_at-tail in
     let good = c.good_fields in
     (key_bad _ _ (state_in _ _ head.ensures.1 head.ensures.0) held.0 held.1 good.result (good.ensures _ head.ensures.1 head.ensures.0 (nickname_in _ _ _ tail.ensures.1 tail.ensures.0)) c.if-not-good_fields.true, search rules)
-
-pub overflow_sub-result : goal.overflow_sub-result
-overflow_sub-result c =
-    let some = (a_state (c.head_at-head.result / 2 ^ 62) c.if-state.false).0 in
-    omega (arith, some)
 
 pub returns : goal.returns
 returns c =
