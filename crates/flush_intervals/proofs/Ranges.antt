@@ -115,9 +115,3 @@ module _ (l : List ℕ) (y base n : ℕ) (b : Bracket l y base n) (s : Sorted l)
 
   pub bracket_last : n ≡ 1 → (r : ℕ) → r ≡ pick (leb (suc (get_or l base 0)) y) 1 0 → Splits l y (base + r)
   bracket_last o r e = rw (e, add-pick (leb (suc (get_or l base 0)) y) base 1) (last_one (leb (suc (get_or l base 0)) y) refl o)
-
-  pub bracket_none : n ≤ 1 → (n ≡ 1 → ⊥) → Splits l y base
-  bracket_none h f =
-      let w = b.end_le in
-      let z : base + n ≡ base = omega arith in
-      record { within = omega arith; below = b.below; above = rw z at b.above }

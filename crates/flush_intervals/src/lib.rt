@@ -2,7 +2,7 @@
 // message finds its place in them, by a place that was noted for its bucket or by a search.
 #![tactic(auto)]
 
-ghost use Rattle.std.specs.Prelude.{◌≡◌, true, false, suc, ◌+◌, ◌*◌, ◌^◌, ◌≤◌, ◌<◌, leb, length, take};
+ghost use Rattle.std.specs.Prelude.{◌≡◌, suc, ◌+◌, ◌*◌, ◌^◌, ◌≤◌, ◌<◌, leb, length, take};
 ghost use Rattle.numbers.specs.Tests.{pick, both};
 ghost use Rattle.numbers.specs.Numberings.{in_map};
 ghost use Rattle.table.specs.Slots.{most_slots};

@@ -1,5 +1,5 @@
 -- `flush_intervals::count_below` meets its contract. The invariant: all before base are below, all from base + n on are not.
-use Rattle.flush_intervals.proofs.Ranges.{bracket_start, bracket_half, bracket_last, bracket_none}
+use Rattle.flush_intervals.proofs.Ranges.{bracket_start, bracket_half, bracket_last}
 use Rattle.flush_intervals.proofs.count_below.Goals as goal
 
 pub loop-n-init : goal.loop-n-init
@@ -10,6 +10,3 @@ loop-n-preserved c = search bracket_half
 
 pub returns-then-n-eq1 : goal.returns-then-n-eq1
 returns-then-n-eq1 c = search bracket_last
-
-pub returns : goal.returns
-returns c = search bracket_none
