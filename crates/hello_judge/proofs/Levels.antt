@@ -73,9 +73,6 @@ module _ (c : Counts) (v : List ℕ) (r : Counts) where
       geninfo_subs h w e f = f ∙ rw (le-leb 3 (length v) room, ← ea, eq-eqb a 1 one, ← es, le-leb s (length v) h, e) (sym (sub_level 251 c (tlvs (drop s v))))
 
 module _ (k : ℕ) (c : Counts) (v : List ℕ) where
-  pub tlv_as : (j : ℕ) (r : Counts) → k ≡ j → r ≡ tlv_counting c (tlv j v) → r ≡ tlv_counting c (tlv k v)
-  tlv_as j r e f = rw e f
-
   pub tlv_skipped : (k ≡ 242 → ⊥) → (k ≡ 251 → ⊥) → c ≡ tlv_counting c (tlv k v)
   unfolding tlv_counting tlv_pieces pick walked says counting
   tlv_skipped d e = rw (ne_eqb k 242 d, ne_eqb k 251 e)

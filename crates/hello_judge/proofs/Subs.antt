@@ -87,9 +87,6 @@ module _ (c : Counts) (v : List ℕ) where
 -- ---- by its type
 
 module _ (k : ℕ) (c : Counts) (v : List ℕ) where
-  pub sub_as : (h j : ℕ) (r : Counts) → k ≡ j → r ≡ sub_counting h c (tlv j v) → r ≡ sub_counting h c (tlv k v)
-  sub_as h j r e f = rw e f
-
   pub capability_other : (k ≡ 6 → ⊥) → (k ≡ 8 → ⊥) → c ≡ sub_counting 242 c (tlv k v)
   unfolding sub_counting says inside sub_says both pick counting
   capability_other d e = rw (ne_eqb k 6 d, ne_eqb k 8 e)
@@ -97,6 +94,10 @@ module _ (k : ℕ) (c : Counts) (v : List ℕ) where
   pub geninfo_other : (k ≡ 23 → ⊥) → (k ≡ 22 → ⊥) → c ≡ sub_counting 251 c (tlv k v)
   unfolding sub_counting says inside sub_says both pick counting
   geninfo_other d e = rw (ne_eqb k 23 d, ne_eqb k 22 e)
+
+  pub holder_other : (h : ℕ) → (h ≡ 242 → ⊥) → (h ≡ 251 → ⊥) → c ≡ sub_counting h c (tlv k v)
+  unfolding sub_counting says inside sub_says both pick counting
+  holder_other h d e = rw (ne_eqb h 242 d, ne_eqb h 251 e)
 
 pub one_malformed : (c : Counts) → add_malformed c ≡ counting c malformed
 unfolding counting

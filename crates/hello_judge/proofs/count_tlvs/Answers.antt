@@ -1,7 +1,6 @@
 -- `hello_judge::count_tlvs` meets its contract. The invariant: what is left decides.
 use Rattle.hello_judge.proofs.Levels.{none_total, tlv_stump, first_past, next_past}
 use Rattle.hello_judge.proofs.Laws.{walk_done, walk_cut, walk_next}
-use Prim.Native.Nat.{◌-◌}
 use borrow.Author.Rules.{rules}
 use Rattle.hello_judge.proofs.count_tlvs.Goals as goal
 
