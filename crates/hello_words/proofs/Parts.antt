@@ -1,12 +1,13 @@
 -- A loop over parts of k bytes that writes c bytes for each: what is left to write makes what is there the whole.
 -- Assumes nothing.
-use Prim.Native.Nat.{ℕ, ◌+◌, ◌-◌, ◌*◌, ◌/◌, ◌%◌, ◌^◌, ◌<◌, ◌≤◌}
+use Prim.Native.Nat.{ℕ, zero, suc, ◌+◌, ◌-◌, ◌*◌, ◌/◌, ◌%◌, ◌^◌, ◌<◌, ◌≤◌}
 use mathlib.Core.List.{List, [], ◌∷◌, flat_map, append-nil}
-use mathlib.Core.Path.{◌≡◌, sym, ap, ◌∙◌}
-use native.Mathlib.Nat.{add-zero}
+use mathlib.Core.Path.{◌≡◌, refl, sym, ap, ◌∙◌}
+use native.Mathlib.Nat.{add-zero, pow-suc, mod-eq_of_lt, mul-add-mod_self_right, mod-add-div, mul-le-mul_left}
 use native.Mathlib.Omega.{arith}
 use lib.ListN.{length, take, drop, length-drop, take-append-drop}
 use lib.Seq.{drop-drop}
+use Rattle.std.proofs.Math.Pow.{pow-lt}
 use Rattle.numbers.specs.Bytes.{AreBytes, num, bytes_of, parts}
 use Rattle.numbers.proofs.Bytes.{length-bytes_of, num-add, num_part_lt}
 use Rattle.numbers.proofs.Parts.{parts_end, parts_more}
@@ -91,7 +92,7 @@ module _ (k : ℕ) (some : 0 < k) (f : ℕ) (v : List ℕ) (at : ℕ) where
       let d = length-drop f v in
       sym (left_done k some 8 number_word number_long (drop f v) at o i (omega arith)) ∙ inv
 
-  numbers_none : (out : List ℕ) → Left k 8 number_word (drop f v) at out 0 ≡ pasted out at (flat_map number_word (parts k (drop f v)))
+  pub numbers_none : (out : List ℕ) → Left k 8 number_word (drop f v) at out 0 ≡ pasted out at (flat_map number_word (parts k (drop f v)))
   numbers_none out = left_none k some 8 number_word number_long (drop f v) at out
 
 module _ (v out : List ℕ) (at n : ℕ) (en : n ≡ (length v - 2) / 2) (some : 2 ≤ length v) (whole : length v % 2 ≡ 0) where
@@ -115,40 +116,39 @@ module _ (v out : List ℕ) (at n : ℕ) (en : n ≡ (length v - 2) / 2) (some :
       unfolding Left
       roots_all q eq = eq ∙ rw (← drop-drop 4 2 v) roots_second
 
-module _ (v o : List ℕ) (at n i : ℕ) (x : List ℕ) where
-  pub roots_next : n ≡ (length v - 6) / 2 → Left 2 8 number_word (drop 6 v) at o i ≡ x → at + 8 * n ≤ length o → i < n → (a : ℕ) → a ≡ num (take 2 (drop (6 + 2 * i) v)) → (u : List ℕ) → u ≡ pasted o (at + 8 * i) (bytes_of 8 a) → Left 2 8 number_word (drop 6 v) at u (i + 1) ≡ x
-  roots_next en inv room more a ea u e = numbers_next 2 (omega arith) 6 v at o i x inv (omega arith) (omega arith) a ea u e
+module _ (k : ℕ) (some : 0 < k) (v : List ℕ) (f at i n : ℕ) (en : n ≡ (length v - f) / k) (o : List ℕ) (x : List ℕ) (inv : Left k 8 number_word (drop f v) at o i ≡ x) where
+  pub list_next : f ≤ length v → at + 8 * n ≤ length o → i < n → (a : ℕ) → a ≡ num (take k (drop (f + k * i) v)) → (u : List ℕ) → u ≡ pasted o (at + 8 * i) (bytes_of 8 a) → Left k 8 number_word (drop f v) at u (i + 1) ≡ x
+  list_next inside room more a ea u e =
+      let h : i + 1 ≤ n = omega arith in
+      let m = mul-le-mul_left k h in
+      let c : k * n ≡ k * ((length v - f) / k) = ap (λ (y : ℕ). k * y) en in
+      let d = mod-add-div (length v - f) k in
+      numbers_next k some f v at o i x inv (omega arith) (omega arith) a ea u e
 
-  pub roots_done : n ≡ (length v - 6) / 2 → 6 ≤ length v → length v % 2 ≡ 0 → Left 2 8 number_word (drop 6 v) at o i ≡ x → i ≤ n → n ≤ i → o ≡ x
-  roots_done en some whole inv h g = numbers_done 2 (omega arith) 6 v at o i x inv (omega arith)
-
-  pub macs_next : n ≡ (length v - 4) / 6 → Left 6 8 number_word (drop 4 v) at o i ≡ x → at + 8 * n ≤ length o → i < n → (a : ℕ) → a ≡ num (take 6 (drop (4 + 6 * i) v)) → (u : List ℕ) → u ≡ pasted o (at + 8 * i) (bytes_of 8 a) → Left 6 8 number_word (drop 4 v) at u (i + 1) ≡ x
-  macs_next en inv room more a ea u e = numbers_next 6 (omega arith) 4 v at o i x inv (omega arith) (omega arith) a ea u e
-
-  pub macs_done : n ≡ (length v - 4) / 6 → 4 ≤ length v → (length v - 4) % 6 ≡ 0 → Left 6 8 number_word (drop 4 v) at o i ≡ x → i ≤ n → n ≤ i → o ≡ x
-  macs_done en some whole inv h g = numbers_done 6 (omega arith) 4 v at o i x inv (omega arith)
-
-pub roots_none : (v out : List ℕ) (at : ℕ) → Left 2 8 number_word (drop 6 v) at out 0 ≡ pasted out at (flat_map number_word (parts 2 (drop 6 v)))
-roots_none v out at = numbers_none 2 (omega arith) 6 v at out
-
-pub macs_none : (v out : List ℕ) (at : ℕ) → Left 6 8 number_word (drop 4 v) at out 0 ≡ pasted out at (flat_map number_word (parts 6 (drop 4 v)))
-macs_none v out at = numbers_none 6 (omega arith) 4 v at out
+  pub list_done : f ≤ length v → (length v - f) % k ≡ 0 → i ≤ n → n ≤ i → o ≡ x
+  list_done inside whole h g =
+      let e : i ≡ (length v - f) / k = omega arith in
+      let c : k * i ≡ k * ((length v - f) / k) = ap (λ (y : ℕ). k * y) e in
+      let d = mod-add-div (length v - f) k in
+      numbers_done k some f v at o i x inv (omega arith)
 
 -- ---- the last bytes of eight
 
-module _ (v : List ℕ) (k x : ℕ) (bytes : AreBytes v) where
-  pub last_two : 6 ≤ k → k + 2 ≤ length v → x ≡ num (take 8 (drop (k - 6) v)) → x % 65536 ≡ num (take 2 (drop k v))
-  last_two h room e =
-      let s : k - 6 + 6 ≡ k = omega arith in
-      let a : num (take (6 + 2) (drop (k - 6) v)) ≡ num (take 6 (drop (k - 6) v)) * 256 ^ 2 + num (take 2 (drop (k - 6 + 6) v)) = num-add v (k - 6) 6 2 (omega arith) in
-      let q = ap (λ (y : ℕ). num (take 2 (drop y v))) s in
-      let b = num_part_lt v k 2 bytes (omega arith) in
-      omega arith
+power : (b : ℕ) → 256 ^ b ≡ 2 ^ (8 * b)
+power zero = refl
+power (suc b) =
+    let i = power b in
+    let e : 8 * suc b ≡ suc (suc (suc (suc (suc (suc (suc (suc (8 * b)))))))) = omega arith in
+    rw (e, pow-suc 256 b) (omega arith)
 
-  pub last_six : 2 ≤ k → k + 6 ≤ length v → x ≡ num (take 8 (drop (k - 2) v)) → x % 281474976710656 ≡ num (take 6 (drop k v))
-  last_six h room e =
-      let s : k - 2 + 2 ≡ k = omega arith in
-      let a : num (take (2 + 6) (drop (k - 2) v)) ≡ num (take 2 (drop (k - 2) v)) * 256 ^ 6 + num (take 6 (drop (k - 2 + 2) v)) = num-add v (k - 2) 2 6 (omega arith) in
-      let q = ap (λ (y : ℕ). num (take 6 (drop y v))) s in
-      let b = num_part_lt v k 6 bytes (omega arith) in
-      omega arith
+pub last_bytes : (b : ℕ) (v : List ℕ) (k x : ℕ) → AreBytes v → b ≤ 6 → 8 ≤ k + b → k + b ≤ length v → x ≡ num (take 8 (drop (k + b - 8) v)) → x % (1 * 2 ^ (8 * b) % 18446744073709551616) ≡ num (take b (drop k v))
+last_bytes b v k x bytes few h room e =
+    let m : ℕ = k + b - 8 in
+    let s : m + (8 - b) ≡ k = omega arith in
+    let t : 8 - b + b ≡ 8 = omega arith in
+    let a = num-add v m (8 - b) b (omega arith) in
+    let r = num_part_lt v k b bytes room in
+    let p = pow-lt {i = 8 * b} {j = 64} (omega arith) in
+    let q : 1 * 2 ^ (8 * b) % 18446744073709551616 ≡ 256 ^ b = ap (λ (y : ℕ). y % 18446744073709551616) (omega arith) ∙ mod-eq_of_lt p ∙ sym (power b) in
+    let c : x ≡ num (take (8 - b) (drop m v)) * 256 ^ b + num (take b (drop k v)) = e ∙ ap (λ (y : ℕ). num (take y (drop m v))) (sym t) ∙ a ∙ ap (λ (y : ℕ). num (take (8 - b) (drop m v)) * 256 ^ b + num (take b (drop y v))) s in
+    rw (q, c, mul-add-mod_self_right) (mod-eq_of_lt r)

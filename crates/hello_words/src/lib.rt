@@ -1,7 +1,7 @@
 // The numbers of a sub-TLV written into a contents area, 8 bytes each.
 #![tactic(auto)]
 
-ghost use Rattle.std.specs.Prelude.{◌+◌, ◌-◌, ◌*◌, ◌/◌, ◌%◌, ◌≤◌, ◌≡◌, length, take, drop};
+ghost use Rattle.std.specs.Prelude.{◌+◌, ◌-◌, ◌*◌, ◌/◌, ◌%◌, ◌<◌, ◌≤◌, ◌≡◌, length, take, drop};
 ghost use mathlib.Core.List.{map, flat_map};
 ghost use Rattle.numbers.specs.Bytes.{num, bytes_of, parts};
 ghost use Rattle.frame_copy.specs.Areas.{pasted};
@@ -18,19 +18,12 @@ pub fn put_word(v: u64, out: &mut [u8], at: usize)
     numbers::fill8(&mut out[at..e], v);
 }
 
-// The number of the two bytes at k, and of six: the last of the eight bytes that end with them, so that the compiler makes one load.
-fn last2(v: &[u8], k: usize) -> u64
-    requires { (6 ≤ k) × (k + 2 ≤ length v.now) }
-    ensures { result ≡ num (take 2 (drop k v.now)) }
+// The number of the B bytes at k: the last of the eight bytes that end with them, so that the compiler makes one load.
+fn last<const B: usize>(v: &[u8], k: usize) -> u64
+    requires { (B ≤ 6) × ((8 ≤ k + B) × (k + B ≤ length v.now)) }
+    ensures { result ≡ num (take B (drop k v.now)) }
 {
-    numbers::be8(v, k - 6) % 0x1_0000
-}
-
-fn last6(v: &[u8], k: usize) -> u64
-    requires { (2 ≤ k) × (k + 6 ≤ length v.now) }
-    ensures { result ≡ num (take 6 (drop k v.now)) }
-{
-    numbers::be8(v, k - 2) % 0x1_0000_0000_0000
+    numbers::be8(v, k + B - 8) % (1 << (8 * B))
 }
 
 // The record of a nickname: the first of a sub-TLV, and one behind it.
@@ -48,8 +41,8 @@ fn put_record(v: &[u8], from: usize, out: &mut [u8], at: usize)
     ensures { out.new ≡ pasted out.old at (record_words (take 5 (drop from v.now))) }
 {
     put_word(numbers::wide(v[from]), out, at);
-    put_word(last2(v, from + 1), out, at + 8);
-    put_word(last2(v, from + 3), out, at + 16);
+    put_word(last::<2>(v, from + 1), out, at + 8);
+    put_word(last::<2>(v, from + 3), out, at + 16);
 }
 
 fn put_records(v: &[u8], out: &mut [u8], at: usize)
@@ -61,14 +54,23 @@ fn put_records(v: &[u8], out: &mut [u8], at: usize)
         return;
     }
     put_first_record(v, out, at);
-    let mut i = 1;
-    while i < n {
+    for i in 1..n {
         put_record(v, 5 * i, out, at + 24 * i);
-        i += 1;
     }
 }
 
-// The nicknames of trees, behind the starting tree number; and those from the third on.
+// The numbers of B bytes from a place on.
+fn put_numbers<const B: usize>(v: &[u8], from: usize, out: &mut [u8], at: usize)
+    requires { ((0 < B) × (B ≤ 6)) × ((8 ≤ from + B) × ((from ≤ length v.now) × (((length v.now - from) % B ≡ 0) × (at + 8 * ((length v.now - from) / B) ≤ length out.old)))) }
+    ensures { out.new ≡ pasted out.old at (flat_map number_word (parts B (drop from v.now))) }
+{
+    let n = (v.len() - from) / B;
+    for i in 0..n {
+        put_word(last::<B>(v, from + B * i), out, at + 8 * i);
+    }
+}
+
+// The nicknames of trees, behind the starting tree number: the first two have no eight bytes that end with them.
 fn put_roots(v: &[u8], out: &mut [u8], at: usize)
     requires { (2 ≤ length v.now) × ((length v.now % 2 ≡ 0) × (at + 8 * ((length v.now - 2) / 2) ≤ length out.old)) }
     ensures { out.new ≡ pasted out.old at (flat_map number_word (parts 2 (drop 2 v.now))) }
@@ -82,32 +84,7 @@ fn put_roots(v: &[u8], out: &mut [u8], at: usize)
         return;
     }
     put_word(numbers::be2(v, 4), out, at + 8);
-    put_late_roots(v, out, at + 16);
-}
-
-fn put_late_roots(v: &[u8], out: &mut [u8], at: usize)
-    requires { (6 ≤ length v.now) × ((length v.now % 2 ≡ 0) × (at + 8 * ((length v.now - 6) / 2) ≤ length out.old)) }
-    ensures { out.new ≡ pasted out.old at (flat_map number_word (parts 2 (drop 6 v.now))) }
-{
-    let n = (v.len() - 6) / 2;
-    let mut i = 0;
-    while i < n {
-        put_word(last2(v, 6 + 2 * i), out, at + 8 * i);
-        i += 1;
-    }
-}
-
-// The MACs behind a label.
-fn put_macs(v: &[u8], out: &mut [u8], at: usize)
-    requires { (4 ≤ length v.now) × (((length v.now - 4) % 6 ≡ 0) × (at + 8 * ((length v.now - 4) / 6) ≤ length out.old)) }
-    ensures { out.new ≡ pasted out.old at (flat_map number_word (parts 6 (drop 4 v.now))) }
-{
-    let n = (v.len() - 4) / 6;
-    let mut i = 0;
-    while i < n {
-        put_word(last6(v, 4 + 6 * i), out, at + 8 * i);
-        i += 1;
-    }
+    put_numbers::<2>(v, 6, out, at + 16);
 }
 
 // The sub-TLVs of a length that their type allows.
@@ -162,5 +139,5 @@ pub fn put_smart_mac(v: &[u8], out: &mut [u8], at: usize)
 {
     put_label(numbers::be4(v, 0), out, at);
     put_word(((v.len() - 4) / 6) as u64, out, at + 24);
-    put_macs(v, out, at + 32);
+    put_numbers::<6>(v, 4, out, at + 32);
 }

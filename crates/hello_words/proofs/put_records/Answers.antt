@@ -1,6 +1,4 @@
 -- `hello_words::put_records` meets its contract. The invariant: the rest written behind what is there makes the whole.
-use Prim.Native.Nat.{◌-◌}
-use mathlib.Core.Path.{refl}
 use Rattle.hello_words.proofs.Parts.{records_empty, records_next, records_done}
 use borrow.Author.Rules.{rules}
 use Rattle.hello_words.proofs.put_records.Goals as goal
@@ -8,11 +6,8 @@ use Rattle.hello_words.proofs.put_records.Goals as goal
 pub returns-then-n-lt1 : goal.returns-then-n-lt1
 returns-then-n-lt1 c = search records_empty
 
-pub loop-i-init : goal.loop-i-init
-loop-i-init c = (search rules, (search rules, (search rules, (refl, refl))))
-
 pub loop-i-preserved : goal.loop-i-preserved
-loop-i-preserved c = (search rules, (search rules, (search rules, (search rules, search records_next))))
+loop-i-preserved c = (search rules, (search rules, search records_next))
 
 pub returns : goal.returns
-returns c = search records_done
+returns c = search (records_done, rules)
