@@ -10,7 +10,7 @@ use lib.ListN.{length, drop, length-append}
 use borrow.Author.Tests.{eq-eqb, ne_eqb, eqb-true, eqb-false, leb-true, leb-false}
 use Rattle.numbers.specs.Bytes.{bytes_of, parts}
 use Rattle.numbers.specs.After.{OnArea, on_area}
-use Rattle.numbers.specs.Tests.{both}
+use Rattle.numbers.specs.Tests.{pick, both, either}
 use Rattle.numbers.proofs.Bytes.{length-bytes_of}
 use Rattle.numbers.proofs.Truth.{both_true}
 use Rattle.frame_copy.specs.Areas.{pasted}
@@ -19,12 +19,12 @@ use Rattle.hello.specs.Reading.{items, parameters_of, nickname_of, trees_of, sma
 use Rattle.hello.specs.Area.{counted, parameters_numbers, nickname_numbers, trees_numbers, smart_mac_numbers}
 use Rattle.hello_count.specs.Sections.{brought, joined, section, holder_for, body_at, sub_numbers, tlv_numbers}
 use Rattle.hello_count.proofs.Subs.{one-joined, got_22, got_6, got_8, got_23, numbers_22, zero_22, numbers_6, zero_6, numbers_8, zero_8, zero_8_short, numbers_23, zero_23, zero_23_short}
-use Rattle.hello_count.proofs.Levels.{flat_flat, none_numbers, joined_level, body_numbers, other_numbers, stump_numbers, tlv_stump_numbers, held_22, held_6, held_8, held_23}
+use Rattle.hello_count.proofs.Levels.{flat_flat, none_numbers, joined_level, body_numbers, other_numbers, stump_numbers, tlv_stump_numbers}
 use Rattle.hello_words.specs.Words.{words}
 use Rattle.hello_words.proofs.Words.{length-words}
 use Rattle.hello_words.proofs.Parts.{paste_none}
 use Rattle.hello_fill.specs.declared.Pens.{Pens}
-use Rattle.hello_fill.specs.Filling.{sub_words, tlv_words, section_words, put_two, filling, Room}
+use Rattle.hello_fill.specs.Filling.{sub_words, tlv_words, section_words, put_two, filling, Room, is_read, Beside}
 use Rattle.hello_fill.proofs.Apart.{two_none, two_areas}
 use Rattle.hello_fill.proofs.Walks.{Free}
 
@@ -54,80 +54,85 @@ module _ (k : ℕ) (v out : List ℕ) (at n : ℕ) (en : n ≡ length (sub_numbe
   words_fit h = let e = put_end in omega arith
 
 -- a length that the type allows
-module _ (v out : List ℕ) (at n : ℕ) where
-  module _ (en : n ≡ length (sub_numbers 22 (tlv 22 v))) (some : n ≡ 0 → ⊥) where
+module _ (k : ℕ) (v : List ℕ) (some : length (sub_numbers k (tlv k v)) ≡ 0 → ⊥) (out : List ℕ) (at : ℕ) (room : at + length (sub_words k (tlv k v)) ≤ length out) where
+  module _ (e : k ≡ 22) where
     pub four : length v ≡ 4
     four = go (eqb (length v) 4) refl
       where
         go : (b : Bool) → eqb (length v) 4 ≡ b → length v ≡ 4
-        go true e = eqb-true (length v) 4 e
-        go false e = absurd (some (en ∙ sym (zero_22 v (eqb-false (length v) 4 e))))
+        go true f = eqb-true (length v) 4 f
+        go false f = absurd (some (rw e (sym (zero_22 v (eqb-false (length v) 4 f)))))
 
-    pub room_22 : at + length (sub_words 22 (tlv 22 v)) ≤ length out → at + 16 ≤ length out
-    room_22 h = let w = words_fit 22 v out at n en h in let m = numbers_22 v four in omega arith
+    pub room_22 : at + 16 ≤ length out
+    room_22 = let r = rw e at room in let l = sub-length 22 (tlv 22 v) in let m = numbers_22 v four in omega arith
 
-    pub puts_22 : (u : List ℕ) → u ≡ pasted out at (words (parameters_numbers (parameters_of v))) → u ≡ pasted out at (sub_words 22 (tlv 22 v))
+    pub puts_22 : (u : List ℕ) → u ≡ pasted out at (words (parameters_numbers (parameters_of v))) → u ≡ pasted out at (sub_words k (tlv k v))
     unfolding sub_words
-    puts_22 u e = e ∙ rw (one-joined 22 (tlv 22 v) _ (got_22 v four))
+    puts_22 u p = p ∙ rw (e, one-joined 22 (tlv 22 v) _ (got_22 v four))
 
-  module _ (en : n ≡ length (sub_numbers 6 (tlv 6 v))) (some : n ≡ 0 → ⊥) where
+  module _ (e : k ≡ 6) where
     pub fives : length v % 5 ≡ 0
     fives = go (eqb (length v % 5) 0) refl
       where
         go : (b : Bool) → eqb (length v % 5) 0 ≡ b → length v % 5 ≡ 0
-        go true e = eqb-true (length v % 5) 0 e
-        go false e = absurd (some (en ∙ sym (zero_6 v (eqb-false (length v % 5) 0 e))))
+        go true f = eqb-true (length v % 5) 0 f
+        go false f = absurd (some (rw e (sym (zero_6 v (eqb-false (length v % 5) 0 f)))))
 
-    pub room_6 : at + length (sub_words 6 (tlv 6 v)) ≤ length out → at + 8 * (1 + 3 * (length v / 5)) ≤ length out
-    room_6 h = let w = words_fit 6 v out at n en h in let m = numbers_6 v fives in omega arith
+    pub room_6 : at + 8 * (1 + 3 * (length v / 5)) ≤ length out
+    room_6 = let r = rw e at room in let l = sub-length 6 (tlv 6 v) in let m = numbers_6 v fives in omega arith
 
-    pub puts_6 : (u : List ℕ) → u ≡ pasted out at (words (counted nickname_numbers (map nickname_of (parts 5 v)))) → u ≡ pasted out at (sub_words 6 (tlv 6 v))
+    pub puts_6 : (u : List ℕ) → u ≡ pasted out at (words (counted nickname_numbers (map nickname_of (parts 5 v)))) → u ≡ pasted out at (sub_words k (tlv k v))
     unfolding sub_words
-    puts_6 u e = e ∙ rw (one-joined 6 (tlv 6 v) _ (got_6 v fives))
+    puts_6 u p = p ∙ rw (e, one-joined 6 (tlv 6 v) _ (got_6 v fives))
 
-  module _ (en : n ≡ length (sub_numbers 8 (tlv 8 v))) (some : n ≡ 0 → ⊥) where
+  module _ (e : k ≡ 8) where
     pub two : 2 ≤ length v
     two = go (leb 2 (length v)) refl
       where
         go : (b : Bool) → leb 2 (length v) ≡ b → 2 ≤ length v
-        go true e = leb-true 2 (length v) e
-        go false e = absurd (some (en ∙ sym (zero_8_short v (leb-false 2 (length v) e))))
+        go true f = leb-true 2 (length v) f
+        go false f = absurd (some (rw e (sym (zero_8_short v (leb-false 2 (length v) f)))))
 
     pub twos : length v % 2 ≡ 0
     twos = go (eqb (length v % 2) 0) refl
       where
         go : (b : Bool) → eqb (length v % 2) 0 ≡ b → length v % 2 ≡ 0
-        go true e = eqb-true (length v % 2) 0 e
-        go false e = absurd (some (en ∙ sym (zero_8 v two (eqb-false (length v % 2) 0 e))))
+        go true f = eqb-true (length v % 2) 0 f
+        go false f = absurd (some (rw e (sym (zero_8 v two (eqb-false (length v % 2) 0 f)))))
 
-    pub room_8 : at + length (sub_words 8 (tlv 8 v)) ≤ length out → at + 8 * (2 + (length v - 2) / 2) ≤ length out
-    room_8 h = let w = words_fit 8 v out at n en h in let m = numbers_8 v two twos in omega arith
+    pub room_8 : at + 8 * (2 + (length v - 2) / 2) ≤ length out
+    room_8 = let r = rw e at room in let l = sub-length 8 (tlv 8 v) in let m = numbers_8 v two twos in omega arith
 
-    pub puts_8 : (u : List ℕ) → u ≡ pasted out at (words (trees_numbers (trees_of v))) → u ≡ pasted out at (sub_words 8 (tlv 8 v))
+    pub puts_8 : (u : List ℕ) → u ≡ pasted out at (words (trees_numbers (trees_of v))) → u ≡ pasted out at (sub_words k (tlv k v))
     unfolding sub_words
-    puts_8 u e = e ∙ rw (one-joined 8 (tlv 8 v) _ (got_8 v two twos))
+    puts_8 u p = p ∙ rw (e, one-joined 8 (tlv 8 v) _ (got_8 v two twos))
 
-  module _ (en : n ≡ length (sub_numbers 23 (tlv 23 v))) (some : n ≡ 0 → ⊥) where
+  module _ (e : k ≡ 23) where
     pub mac_long : 4 ≤ length v
     mac_long = go (leb 4 (length v)) refl
       where
         go : (c : Bool) → leb 4 (length v) ≡ c → 4 ≤ length v
-        go true e = leb-true 4 (length v) e
-        go false e = absurd (some (en ∙ sym (zero_23_short v (leb-false 4 (length v) e))))
+        go true f = leb-true 4 (length v) f
+        go false f = absurd (some (rw e (sym (zero_23_short v (leb-false 4 (length v) f)))))
 
     pub sixes : (length v - 4) % 6 ≡ 0
     sixes = go (eqb ((length v - 4) % 6) 0) refl
       where
         go : (c : Bool) → eqb ((length v - 4) % 6) 0 ≡ c → (length v - 4) % 6 ≡ 0
-        go true e = eqb-true ((length v - 4) % 6) 0 e
-        go false e = absurd (some (en ∙ sym (zero_23 v mac_long (eqb-false ((length v - 4) % 6) 0 e))))
+        go true f = eqb-true ((length v - 4) % 6) 0 f
+        go false f = absurd (some (rw e (sym (zero_23 v mac_long (eqb-false ((length v - 4) % 6) 0 f)))))
 
-    pub room_23 : at + length (sub_words 23 (tlv 23 v)) ≤ length out → at + 8 * (4 + (length v - 4) / 6) ≤ length out
-    room_23 h = let w = words_fit 23 v out at n en h in let m = numbers_23 v mac_long sixes in omega arith
+    pub room_23 : at + 8 * (4 + (length v - 4) / 6) ≤ length out
+    room_23 = let r = rw e at room in let l = sub-length 23 (tlv 23 v) in let m = numbers_23 v mac_long sixes in omega arith
 
-    pub puts_23 : (u : List ℕ) → u ≡ pasted out at (words (smart_mac_numbers (smart_mac_of v))) → u ≡ pasted out at (sub_words 23 (tlv 23 v))
+    pub puts_23 : (u : List ℕ) → u ≡ pasted out at (words (smart_mac_numbers (smart_mac_of v))) → u ≡ pasted out at (sub_words k (tlv k v))
     unfolding sub_words
-    puts_23 u e = e ∙ rw (one-joined 23 (tlv 23 v) _ (got_23 v mac_long sixes))
+    puts_23 u p = p ∙ rw (e, one-joined 23 (tlv 23 v) _ (got_23 v mac_long sixes))
+
+-- one that is read, and none of the other three
+pub read_last : (k : ℕ) → is_read k ≡ true → (k ≡ 22 → ⊥) → (k ≡ 6 → ⊥) → (k ≡ 8 → ⊥) → k ≡ 23
+unfolding is_read either
+read_last k h a b c = eqb-true k 23 (rw (ne_eqb k 22 a, ne_eqb k 6 b, ne_eqb k 8 c) at h)
 
 -- ---- at two pens
 
@@ -135,41 +140,22 @@ other_words : (k j : ℕ) (v : List ℕ) → (j ≡ k → ⊥) → sub_words k (
 unfolding sub_words
 other_words k j v other = words_none (sub_numbers k (tlv j v)) (sym (none_numbers k j v other))
 
-module _ (k m j : ℕ) (v o : List ℕ) (p : Pens) where
-  at_first_lem : j ≡ k → (j ≡ m → ⊥) → (u : List ℕ) (r : ℕ) → u ≡ pasted o p.first (sub_words k (tlv k v)) → r ≡ p.first + length (sub_words k (tlv k v)) → on_area (record { first = r; second = p.second }) u ≡ filling (sub_words k) (sub_words m) (on_area p o) (tlv j v)
+module _ (k m : ℕ) (types : Beside k m) (j : ℕ) (v o : List ℕ) (p : Pens) where
+  pub put_first : j ≡ k → (u : List ℕ) (r : ℕ) → u ≡ pasted o p.first (sub_words k (tlv k v)) → r ≡ p.first + length (sub_words k (tlv k v)) → on_area (record { first = r; second = p.second }) u ≡ filling (sub_words k) (sub_words m) (on_area p o) (tlv j v)
   unfolding filling put_two
-  at_first_lem same other u r eu er =
+  put_first same u r eu er =
       let b : p.second + length {A = ℕ} [] ≡ p.second = omega arith in
-      rw (other_words m j v other, b, paste_none (pasted o p.first (sub_words k (tlv j v))) p.second, same, eu, er)
+      rw (other_words m j v (λ f. types.apart (sym same ∙ f)), b, paste_none (pasted o p.first (sub_words k (tlv j v))) p.second, same, eu, er)
 
-  at_second : j ≡ m → (j ≡ k → ⊥) → (u : List ℕ) (r : ℕ) → u ≡ pasted o p.second (sub_words m (tlv m v)) → r ≡ p.second + length (sub_words m (tlv m v)) → on_area (record { first = p.first; second = r }) u ≡ filling (sub_words k) (sub_words m) (on_area p o) (tlv j v)
+  pub put_second : j ≡ m → (u : List ℕ) (r : ℕ) → u ≡ pasted o p.second (sub_words m (tlv m v)) → r ≡ p.second + length (sub_words m (tlv m v)) → on_area (record { first = p.first; second = r }) u ≡ filling (sub_words k) (sub_words m) (on_area p o) (tlv j v)
   unfolding filling put_two
-  at_second same other u r eu er =
+  put_second same u r eu er =
       let b : p.first + length {A = ℕ} [] ≡ p.first = omega arith in
-      rw (other_words k j v other, b, paste_none o p.first, same, eu, er)
+      rw (other_words k j v (λ f. types.apart (sym f ∙ same)), b, paste_none o p.first, same, eu, er)
 
-  pub at_neither : (j ≡ k → ⊥) → (j ≡ m → ⊥) → on_area p o ≡ filling (sub_words k) (sub_words m) (on_area p o) (tlv j v)
+  pub put_neither : (j ≡ k → ⊥) → (j ≡ m → ⊥) → on_area p o ≡ filling (sub_words k) (sub_words m) (on_area p o) (tlv j v)
   unfolding filling
-  at_neither d e = rw (other_words k j v d, other_words m j v e) (two_none (on_area p o))
-
-  pub first_room : Room (sub_words k (tlv j v)) (sub_words m (tlv j v)) p (length o) → j ≡ k → p.first + length (sub_words k (tlv k v)) ≤ length o
-  first_room h same = let e = ap (λ (x : ℕ). length (sub_words k (tlv x v))) same in omega (arith, h.0, h.1)
-
-  pub second_room : Room (sub_words k (tlv j v)) (sub_words m (tlv j v)) p (length o) → j ≡ m → p.second + length (sub_words m (tlv m v)) ≤ length o
-  second_room h same = let e = ap (λ (x : ℕ). length (sub_words m (tlv x v))) same in omega (arith, h.1)
-
-module _ (j : ℕ) (v o : List ℕ) (p : Pens) (u : List ℕ) (r : ℕ) where
-  pub put_6 : j ≡ 6 → u ≡ pasted o p.first (sub_words 6 (tlv 6 v)) → r ≡ p.first + length (sub_words 6 (tlv 6 v)) → on_area (record { first = r; second = p.second }) u ≡ filling (sub_words 6) (sub_words 8) (on_area p o) (tlv j v)
-  put_6 e = at_first_lem 6 8 j v o p e (λ f. absurd (omega arith)) u r
-
-  pub put_8 : j ≡ 8 → u ≡ pasted o p.second (sub_words 8 (tlv 8 v)) → r ≡ p.second + length (sub_words 8 (tlv 8 v)) → on_area (record { first = p.first; second = r }) u ≡ filling (sub_words 6) (sub_words 8) (on_area p o) (tlv j v)
-  put_8 e = at_second 6 8 j v o p e (λ f. absurd (omega arith)) u r
-
-  pub put_22 : j ≡ 22 → u ≡ pasted o p.first (sub_words 22 (tlv 22 v)) → r ≡ p.first + length (sub_words 22 (tlv 22 v)) → on_area (record { first = r; second = p.second }) u ≡ filling (sub_words 22) (sub_words 23) (on_area p o) (tlv j v)
-  put_22 e = at_first_lem 22 23 j v o p e (λ f. absurd (omega arith)) u r
-
-  pub put_23 : j ≡ 23 → u ≡ pasted o p.second (sub_words 23 (tlv 23 v)) → r ≡ p.second + length (sub_words 23 (tlv 23 v)) → on_area (record { first = p.first; second = r }) u ≡ filling (sub_words 22) (sub_words 23) (on_area p o) (tlv j v)
-  put_23 e = at_second 22 23 j v o p e (λ f. absurd (omega arith)) u r
+  put_neither d e = rw (other_words k j v d, other_words m j v e) (two_none (on_area p o))
 
 -- ---- the levels
 
@@ -190,52 +176,44 @@ unfolding tlv_words sub_words words
 tlv_body k h v r er same w ew = rw (ew, ← same) (sym (ap words (body_numbers k h v r er same) ∙ flat_flat (bytes_of 8) (sub_numbers k) (tlvs (drop (body_at h v) v))))
 
 -- a TLV that holds two types, k and m
-module _ (k m h r : ℕ) (ek : r ≡ holder_for k) (em : r ≡ holder_for m) (v o : List ℕ) (p : Pens) where
-  skip_two : (h ≡ r → ⊥) → on_area p o ≡ filling (tlv_words k) (tlv_words m) (on_area p o) (tlv h v)
+module _ (k m : ℕ) (types : Beside k m) (r : ℕ) (held : r ≡ holder_for k) (h : ℕ) (v o : List ℕ) (p : Pens) where
+  also : r ≡ holder_for m
+  also = held ∙ types.together
+
+  pub skip_two : (h ≡ r → ⊥) → on_area p o ≡ filling (tlv_words k) (tlv_words m) (on_area p o) (tlv h v)
   unfolding filling
-  skip_two apart = rw (tlv_none k h v r ek apart, tlv_none m h v r em apart) (two_none (on_area p o))
+  skip_two apart = rw (tlv_none k h v r held apart, tlv_none m h v r also apart) (two_none (on_area p o))
 
-  module _ (same : h ≡ r) (w : List ℕ) (ew : w ≡ drop (body_at r v) v) where
-    room_two : Room (tlv_words k (tlv h v)) (tlv_words m (tlv h v)) p (length o) → Room (flat_map (sub_words k) (tlvs w)) (flat_map (sub_words m) (tlvs w)) p (length o)
-    room_two g = rw (tlv_body k h v r ek same w ew, tlv_body m h v r em same w ew) g
+  module _ (same : h ≡ r) (s : ℕ) (es : s ≡ body_at r v) (w : List ℕ) (ew : w ≡ drop s v) where
+    pub room_two : Room (tlv_words k (tlv h v)) (tlv_words m (tlv h v)) p (length o) → Room (flat_map (sub_words k) (tlvs w)) (flat_map (sub_words m) (tlvs w)) p (length o)
+    room_two g = rw (tlv_body k h v r held same w (ew ∙ rw es), tlv_body m h v r also same w (ew ∙ rw es)) g
 
-    body_two : (q : Pens) (u : List ℕ) → on_area q u ≡ put_two (flat_map (sub_words k) (tlvs w)) (flat_map (sub_words m) (tlvs w)) (on_area p o) → on_area q u ≡ filling (tlv_words k) (tlv_words m) (on_area p o) (tlv h v)
+    pub body_two : (q : Pens) (u : List ℕ) → on_area q u ≡ put_two (flat_map (sub_words k) (tlvs w)) (flat_map (sub_words m) (tlvs w)) (on_area p o) → on_area q u ≡ filling (tlv_words k) (tlv_words m) (on_area p o) (tlv h v)
     unfolding filling
-    body_two q u e = e ∙ rw (tlv_body k h v r ek same w ew, tlv_body m h v r em same w ew)
+    body_two q u e = e ∙ rw (tlv_body k h v r held same w (ew ∙ rw es), tlv_body m h v r also same w (ew ∙ rw es))
 
-module _ (h : ℕ) (v o : List ℕ) (p : Pens) where
-  pub skip_242 : (h ≡ 242 → ⊥) → on_area p o ≡ filling (tlv_words 6) (tlv_words 8) (on_area p o) (tlv h v)
-  skip_242 d = skip_two 6 8 h 242 (sym held_6) (sym held_8) v o p d
-
-  pub skip_251 : (h ≡ 251 → ⊥) → on_area p o ≡ filling (tlv_words 22) (tlv_words 23) (on_area p o) (tlv h v)
-  skip_251 d = skip_two 22 23 h 251 (sym held_22) (sym held_23) v o p d
-
-  module _ (s : ℕ) (w : List ℕ) (ew : w ≡ drop s v) where
-    pub room_242 : Room (tlv_words 6 (tlv h v)) (tlv_words 8 (tlv h v)) p (length o) → h ≡ 242 → s ≡ body_at 242 v → Room (flat_map (sub_words 6) (tlvs w)) (flat_map (sub_words 8) (tlvs w)) p (length o)
-    room_242 g e es = room_two 6 8 h 242 (sym held_6) (sym held_8) v o p e w (ew ∙ rw es) g
-
-    pub room_251 : Room (tlv_words 22 (tlv h v)) (tlv_words 23 (tlv h v)) p (length o) → h ≡ 251 → s ≡ body_at 251 v → Room (flat_map (sub_words 22) (tlvs w)) (flat_map (sub_words 23) (tlvs w)) p (length o)
-    room_251 g e es = room_two 22 23 h 251 (sym held_22) (sym held_23) v o p e w (ew ∙ rw es) g
-
-    module _ (q : Pens) (u : List ℕ) where
-      pub body_242 : h ≡ 242 → s ≡ body_at 242 v → on_area q u ≡ put_two (flat_map (sub_words 6) (tlvs w)) (flat_map (sub_words 8) (tlvs w)) (on_area p o) → on_area q u ≡ filling (tlv_words 6) (tlv_words 8) (on_area p o) (tlv h v)
-      body_242 e es f = body_two 6 8 h 242 (sym held_6) (sym held_8) v o p e w (ew ∙ rw es) q u f
-
-      pub body_251 : h ≡ 251 → s ≡ body_at 251 v → on_area q u ≡ put_two (flat_map (sub_words 22) (tlvs w)) (flat_map (sub_words 23) (tlvs w)) (on_area p o) → on_area q u ≡ filling (tlv_words 22) (tlv_words 23) (on_area p o) (tlv h v)
-      body_251 e es f = body_two 22 23 h 251 (sym held_22) (sym held_23) v o p e w (ew ∙ rw es) q u f
+-- a TLV that is none of type 242 is read as one of type 251
+pub body_other : (h : ℕ) (v : List ℕ) → (h ≡ 242 → ⊥) → (n : ℕ) → n ≡ body_at 251 v → n ≡ body_at h v
+unfolding body_at pick
+body_other h v d n e = e ∙ rw (ne_eqb h 242 d)
 
 -- an empty TLV of another kind
-pub free_6 : Free (tlv_words 6)
-free_6 k d e = tlv_none 6 k [] 242 (sym held_6) d
+not_held : (b : Bool) (j : ℕ) → (j ≡ 242 → ⊥) → (j ≡ 251 → ⊥) → j ≡ pick b 251 242 → ⊥
+unfolding pick
+not_held true j d e f = e f
+not_held false j d e f = d f
 
-pub free_8 : Free (tlv_words 8)
-free_8 k d e = tlv_none 8 k [] 242 (sym held_8) d
+pub free : (k : ℕ) → Free (tlv_words k)
+free k j d e = tlv_none k j [] (holder_for k) refl (not_held (either (eqb k 22) (eqb k 23)) j d e)
 
-pub free_22 : Free (tlv_words 22)
-free_22 k d e = tlv_none 22 k [] 251 (sym held_22) e
+-- the two pairs of types
+pub beside_242 : Beside 6 8 × (242 ≡ holder_for 6)
+unfolding is_read either pick
+beside_242 = (record { first = refl; second = refl; apart = λ e. omega arith; together = refl }, refl)
 
-pub free_23 : Free (tlv_words 23)
-free_23 k d e = tlv_none 23 k [] 251 (sym held_23) e
+pub beside_251 : Beside 22 23 × (251 ≡ holder_for 22)
+unfolding is_read either pick
+beside_251 = (record { first = refl; second = refl; apart = λ e. omega arith; together = refl }, refl)
 
 -- ---- a section
 

@@ -2,15 +2,15 @@
 // own: a loop over the TLVs, and one over the sub-TLVs of each.
 #![tactic(auto)]
 
-ghost use Rattle.std.specs.Prelude.{◌+◌, ◌≤◌, ◌≡◌, eqb, length};
+ghost use Rattle.std.specs.Prelude.{◌+◌, ◌≤◌, true, ◌≡◌, eqb, length};
 ghost use mathlib.Core.List.{flat_map};
 ghost use Rattle.numbers.specs.Tests.{both};
 ghost use Rattle.numbers.specs.After.{on_area};
 ghost use Rattle.frame_copy.specs.Areas.{pasted};
 ghost use Rattle.hello.specs.Tlvs.{tlv, tlvs};
 ghost use Rattle.hello.specs.Reading.{items};
-ghost use Rattle.hello_count.specs.Sections.{brought};
-ghost use Rattle.hello_fill.specs.Filling.{sub_words, tlv_words, section_words, put_two, filling, Room};
+ghost use Rattle.hello_count.specs.Sections.{brought, holder_for, body_at, sub_numbers};
+ghost use Rattle.hello_fill.specs.Filling.{sub_words, tlv_words, section_words, put_two, filling, Room, is_read, Beside};
 
 use hello_judge::{CAPABILITY, GENINFO, NICKNAME, PARAMETERS, SMART_MAC, TREES};
 
@@ -21,103 +21,70 @@ pub struct Pens {
     pub second: usize,
 }
 
-// A sub-TLV of each type, if its length is one that the type allows; where the next goes.
-fn put_parameters(v: &[u8], out: &mut [u8], at: usize) -> usize
-    requires { at + length (sub_words 22 (tlv 22 v.now)) ≤ length out.old }
-    ensures { (out.new ≡ pasted out.old at (sub_words 22 (tlv 22 v.now))) × (result ≡ at + length (sub_words 22 (tlv 22 v.now))) }
+// How many numbers a sub-TLV of a type brings; 0 where the type does not allow its length.
+fn numbers_of<const KIND: u8>(v: &[u8]) -> usize
+    requires { is_read KIND ≡ true }
+    ensures { result ≡ length (sub_numbers KIND (tlv KIND v.now)) }
 {
-    let n = hello_count::parameters_numbers(v);
+    match KIND {
+        PARAMETERS => hello_count::parameters_numbers(v),
+        NICKNAME => hello_count::nickname_numbers(v),
+        TREES => hello_count::trees_numbers(v),
+        _ => hello_count::smart_mac_numbers(v),
+    }
+}
+
+// Puts them.
+fn put_words<const KIND: u8>(v: &[u8], out: &mut [u8], at: usize)
+    requires kind { is_read KIND ≡ true }
+    requires some { length (sub_numbers KIND (tlv KIND v.now)) ≡ 0 → ⊥ }
+    requires room { at + length (sub_words KIND (tlv KIND v.now)) ≤ length out.old }
+    ensures { out.new ≡ pasted out.old at (sub_words KIND (tlv KIND v.now)) }
+{
+    match KIND {
+        PARAMETERS => hello_words::put_parameters(v, out, at),
+        NICKNAME => hello_words::put_nicknames(v, out, at),
+        TREES => hello_words::put_trees(v, out, at),
+        _ => hello_words::put_smart_mac(v, out, at),
+    }
+}
+
+// A sub-TLV of a type, if the type allows its length; where the next goes.
+fn put_sub<const KIND: u8>(v: &[u8], out: &mut [u8], at: usize) -> usize
+    requires kind { is_read KIND ≡ true }
+    requires room { at + length (sub_words KIND (tlv KIND v.now)) ≤ length out.old }
+    ensures { (out.new ≡ pasted out.old at (sub_words KIND (tlv KIND v.now))) × (result ≡ at + length (sub_words KIND (tlv KIND v.now))) }
+{
+    let n = numbers_of::<KIND>(v);
     if n == 0 {
         return at;
     }
-    hello_words::put_parameters(v, out, at);
+    put_words::<KIND>(v, out, at);
     at + 8 * n
 }
 
-fn put_nicknames(v: &[u8], out: &mut [u8], at: usize) -> usize
-    requires { at + length (sub_words 6 (tlv 6 v.now)) ≤ length out.old }
-    ensures { (out.new ≡ pasted out.old at (sub_words 6 (tlv 6 v.now))) × (result ≡ at + length (sub_words 6 (tlv 6 v.now))) }
+// A sub-TLV of a TLV that holds two types: one goes to the first pen, the other to the second.
+fn fill_sub<const FIRST: u8, const SECOND: u8>(j: u8, v: &[u8], out: &mut [u8], p: Pens) -> Pens
+    requires types { Beside FIRST SECOND }
+    requires room { Room (sub_words FIRST (tlv j v.now)) (sub_words SECOND (tlv j v.now)) p (length out.old) }
+    ensures { on_area result out.new ≡ filling (sub_words FIRST) (sub_words SECOND) (on_area p out.old) (tlv j v.now) }
 {
-    let n = hello_count::nickname_numbers(v);
-    if n == 0 {
-        return at;
+    if j == FIRST {
+        let a = put_sub::<FIRST>(v, out, p.first);
+        return Pens { first: a, ..p };
     }
-    hello_words::put_nicknames(v, out, at);
-    at + 8 * n
-}
-
-fn put_trees(v: &[u8], out: &mut [u8], at: usize) -> usize
-    requires { at + length (sub_words 8 (tlv 8 v.now)) ≤ length out.old }
-    ensures { (out.new ≡ pasted out.old at (sub_words 8 (tlv 8 v.now))) × (result ≡ at + length (sub_words 8 (tlv 8 v.now))) }
-{
-    let n = hello_count::trees_numbers(v);
-    if n == 0 {
-        return at;
-    }
-    hello_words::put_trees(v, out, at);
-    at + 8 * n
-}
-
-fn put_smart_mac(v: &[u8], out: &mut [u8], at: usize) -> usize
-    requires { at + length (sub_words 23 (tlv 23 v.now)) ≤ length out.old }
-    ensures { (out.new ≡ pasted out.old at (sub_words 23 (tlv 23 v.now))) × (result ≡ at + length (sub_words 23 (tlv 23 v.now))) }
-{
-    let n = hello_count::smart_mac_numbers(v);
-    if n == 0 {
-        return at;
-    }
-    hello_words::put_smart_mac(v, out, at);
-    at + 8 * n
-}
-
-// A sub-TLV of a TLV 242: nicknames go to the first pen, trees to the second.
-fn capability_sub(j: u8, v: &[u8], out: &mut [u8], p: Pens) -> Pens
-    requires { Room (sub_words 6 (tlv j v.now)) (sub_words 8 (tlv j v.now)) p (length out.old) }
-    ensures { on_area result out.new ≡ filling (sub_words 6) (sub_words 8) (on_area p out.old) (tlv j v.now) }
-{
-    if j == NICKNAME {
-        let a = put_nicknames(v, out, p.first);
-        return Pens {
-            first: a,
-            second: p.second,
-        };
-    }
-    if j == TREES {
-        let b = put_trees(v, out, p.second);
-        return Pens {
-            first: p.first,
-            second: b,
-        };
+    if j == SECOND {
+        let b = put_sub::<SECOND>(v, out, p.second);
+        return Pens { second: b, ..p };
     }
     p
 }
 
-// A sub-TLV of a TLV 251: Smart-Parameters go to the first pen, Smart-MACs to the second.
-fn geninfo_sub(j: u8, v: &[u8], out: &mut [u8], p: Pens) -> Pens
-    requires { Room (sub_words 22 (tlv j v.now)) (sub_words 23 (tlv j v.now)) p (length out.old) }
-    ensures { on_area result out.new ≡ filling (sub_words 22) (sub_words 23) (on_area p out.old) (tlv j v.now) }
-{
-    if j == SMART_MAC {
-        let b = put_smart_mac(v, out, p.second);
-        return Pens {
-            first: p.first,
-            second: b,
-        };
-    }
-    if j == PARAMETERS {
-        let a = put_parameters(v, out, p.first);
-        return Pens {
-            first: a,
-            second: p.second,
-        };
-    }
-    p
-}
-
-// All of them.
-fn capability_subs(l: &[u8], out: &mut [u8], start: Pens) -> Pens
-    requires { Room (flat_map (sub_words 6) (tlvs l.now)) (flat_map (sub_words 8) (tlvs l.now)) start (length out.old) }
-    ensures { on_area result out.new ≡ put_two (flat_map (sub_words 6) (tlvs l.now)) (flat_map (sub_words 8) (tlvs l.now)) (on_area start out.old) }
+// All of them. A `while`, as for the TLVs below: the step is the length of a TLV.
+fn fill_subs<const FIRST: u8, const SECOND: u8>(l: &[u8], out: &mut [u8], start: Pens) -> Pens
+    requires types { Beside FIRST SECOND }
+    requires room { Room (flat_map (sub_words FIRST) (tlvs l.now)) (flat_map (sub_words SECOND) (tlvs l.now)) start (length out.old) }
+    ensures { on_area result out.new ≡ put_two (flat_map (sub_words FIRST) (tlvs l.now)) (flat_map (sub_words SECOND) (tlvs l.now)) (on_area start out.old) }
 {
     let mut at = 0;
     let mut p = start;
@@ -127,57 +94,49 @@ fn capability_subs(l: &[u8], out: &mut [u8], start: Pens) -> Pens
             return p;
         }
         let s = at + 2;
-        p = capability_sub(l[at], &l[s..e], out, p);
+        p = fill_sub::<FIRST, SECOND>(l[at], &l[s..e], out, p);
         at = e;
     }
     p
 }
 
-fn geninfo_subs(l: &[u8], out: &mut [u8], start: Pens) -> Pens
-    requires { Room (flat_map (sub_words 22) (tlvs l.now)) (flat_map (sub_words 23) (tlvs l.now)) start (length out.old) }
-    ensures { on_area result out.new ≡ put_two (flat_map (sub_words 22) (tlvs l.now)) (flat_map (sub_words 23) (tlvs l.now)) (on_area start out.old) }
+// Where the sub-TLVs of a TLV start.
+fn body_at<const HOLDER: u8>(v: &[u8]) -> usize
+    ensures { (result ≡ body_at HOLDER v.now) × (result ≤ length v.now) }
 {
-    let mut at = 0;
-    let mut p = start;
-    while at < l.len() {
-        let e = hello_judge::end_of(l, at);
-        if l.len() < e {
-            return p;
-        }
-        let s = at + 2;
-        p = geninfo_sub(l[at], &l[s..e], out, p);
-        at = e;
+    if HOLDER == CAPABILITY {
+        return hello_count::capability_at(v);
     }
-    p
+    hello_count::geninfo_at(v)
 }
 
-// A TLV of the type h, if it is a TLV 242; if it is a TLV 251.
-fn capability_tlv(h: u8, v: &[u8], out: &mut [u8], p: Pens) -> Pens
-    requires { Room (tlv_words 6 (tlv h v.now)) (tlv_words 8 (tlv h v.now)) p (length out.old) }
-    ensures { on_area result out.new ≡ filling (tlv_words 6) (tlv_words 8) (on_area p out.old) (tlv h v.now) }
+// A TLV of the type h, if it is of the type that holds the two.
+fn fill_tlv<const HOLDER: u8, const FIRST: u8, const SECOND: u8>(
+    h: u8,
+    v: &[u8],
+    out: &mut [u8],
+    p: Pens,
+) -> Pens
+    requires types { Beside FIRST SECOND × (HOLDER ≡ holder_for FIRST) }
+    requires room { Room (tlv_words FIRST (tlv h v.now)) (tlv_words SECOND (tlv h v.now)) p (length out.old) }
+    ensures { on_area result out.new ≡ filling (tlv_words FIRST) (tlv_words SECOND) (on_area p out.old) (tlv h v.now) }
 {
-    if h != CAPABILITY {
+    if h != HOLDER {
         return p;
     }
-    let s = hello_count::capability_at(v);
-    capability_subs(&v[s..], out, p)
-}
-
-fn geninfo_tlv(h: u8, v: &[u8], out: &mut [u8], p: Pens) -> Pens
-    requires { Room (tlv_words 22 (tlv h v.now)) (tlv_words 23 (tlv h v.now)) p (length out.old) }
-    ensures { on_area result out.new ≡ filling (tlv_words 22) (tlv_words 23) (on_area p out.old) (tlv h v.now) }
-{
-    if h != GENINFO {
-        return p;
-    }
-    let s = hello_count::geninfo_at(v);
-    geninfo_subs(&v[s..], out, p)
+    let s = body_at::<HOLDER>(v);
+    fill_subs::<FIRST, SECOND>(&v[s..], out, p)
 }
 
 // The TLVs of a payload.
-fn capability_tlvs(l: &[u8], out: &mut [u8], start: Pens) -> Pens
-    requires { Room (flat_map (tlv_words 6) (tlvs l.now)) (flat_map (tlv_words 8) (tlvs l.now)) start (length out.old) }
-    ensures { on_area result out.new ≡ put_two (flat_map (tlv_words 6) (tlvs l.now)) (flat_map (tlv_words 8) (tlvs l.now)) (on_area start out.old) }
+fn fill_tlvs<const HOLDER: u8, const FIRST: u8, const SECOND: u8>(
+    l: &[u8],
+    out: &mut [u8],
+    start: Pens,
+) -> Pens
+    requires types { Beside FIRST SECOND × (HOLDER ≡ holder_for FIRST) }
+    requires room { Room (flat_map (tlv_words FIRST) (tlvs l.now)) (flat_map (tlv_words SECOND) (tlvs l.now)) start (length out.old) }
+    ensures { on_area result out.new ≡ put_two (flat_map (tlv_words FIRST) (tlvs l.now)) (flat_map (tlv_words SECOND) (tlvs l.now)) (on_area start out.old) }
 {
     let mut at = hello_judge::past_empty(l, 0);
     let mut p = start;
@@ -187,25 +146,7 @@ fn capability_tlvs(l: &[u8], out: &mut [u8], start: Pens) -> Pens
             return p;
         }
         let s = at + 2;
-        p = capability_tlv(l[at], &l[s..e], out, p);
-        at = hello_judge::past_empty(l, e);
-    }
-    p
-}
-
-fn geninfo_tlvs(l: &[u8], out: &mut [u8], start: Pens) -> Pens
-    requires { Room (flat_map (tlv_words 22) (tlvs l.now)) (flat_map (tlv_words 23) (tlvs l.now)) start (length out.old) }
-    ensures { on_area result out.new ≡ put_two (flat_map (tlv_words 22) (tlvs l.now)) (flat_map (tlv_words 23) (tlvs l.now)) (on_area start out.old) }
-{
-    let mut at = hello_judge::past_empty(l, 0);
-    let mut p = start;
-    while at < l.len() {
-        let e = hello_judge::end_of(l, at);
-        if l.len() < e {
-            return p;
-        }
-        let s = at + 2;
-        p = geninfo_tlv(l[at], &l[s..e], out, p);
+        p = fill_tlv::<HOLDER, FIRST, SECOND>(l[at], &l[s..e], out, p);
         at = hello_judge::past_empty(l, e);
     }
     p
@@ -221,9 +162,18 @@ fn both_zero(n: usize, t: usize) -> bool
 }
 
 // Two sections: how many sub-TLVs of a type there are, and the numbers of each. Where there are none, the pass is left out.
-pub fn capability_sections(l: &[u8], n: usize, t: usize, out: &mut [u8], a: usize, b: usize)
-    requires { ((n ≡ length (flat_map (brought 6) (items l.now))) × (t ≡ length (flat_map (brought 8) (items l.now)))) × ((a + length (section_words 6 (items l.now)) ≤ b) × (b + length (section_words 8 (items l.now)) ≤ length out.old)) }
-    ensures { out.new ≡ pasted (pasted out.old a (section_words 6 (items l.now))) b (section_words 8 (items l.now)) }
+fn sections<const HOLDER: u8, const FIRST: u8, const SECOND: u8>(
+    l: &[u8],
+    n: usize,
+    t: usize,
+    out: &mut [u8],
+    a: usize,
+    b: usize,
+)
+    requires types { Beside FIRST SECOND × (HOLDER ≡ holder_for FIRST) }
+    requires counts { (n ≡ length (flat_map (brought FIRST) (items l.now))) × (t ≡ length (flat_map (brought SECOND) (items l.now))) }
+    requires room { (a + length (section_words FIRST (items l.now)) ≤ b) × (b + length (section_words SECOND (items l.now)) ≤ length out.old) }
+    ensures { out.new ≡ pasted (pasted out.old a (section_words FIRST (items l.now))) b (section_words SECOND (items l.now)) }
 {
     hello_words::put_word(n as u64, out, a);
     hello_words::put_word(t as u64, out, b);
@@ -234,18 +184,20 @@ pub fn capability_sections(l: &[u8], n: usize, t: usize, out: &mut [u8], a: usiz
         first: a + 8,
         second: b + 8,
     };
-    capability_tlvs(l, out, start);
+    fill_tlvs::<HOLDER, FIRST, SECOND>(l, out, start);
+}
+
+// Those of nicknames and trees, and those of Smart-Parameters and Smart-MACs.
+pub fn capability_sections(l: &[u8], n: usize, t: usize, out: &mut [u8], a: usize, b: usize)
+    requires { ((n ≡ length (flat_map (brought 6) (items l.now))) × (t ≡ length (flat_map (brought 8) (items l.now)))) × ((a + length (section_words 6 (items l.now)) ≤ b) × (b + length (section_words 8 (items l.now)) ≤ length out.old)) }
+    ensures { out.new ≡ pasted (pasted out.old a (section_words 6 (items l.now))) b (section_words 8 (items l.now)) }
+{
+    sections::<CAPABILITY, NICKNAME, TREES>(l, n, t, out, a, b);
 }
 
 pub fn geninfo_sections(l: &[u8], p: usize, m: usize, out: &mut [u8], a: usize, b: usize)
     requires { ((p ≡ length (flat_map (brought 22) (items l.now))) × (m ≡ length (flat_map (brought 23) (items l.now)))) × ((a + length (section_words 22 (items l.now)) ≤ b) × (b + length (section_words 23 (items l.now)) ≤ length out.old)) }
     ensures { out.new ≡ pasted (pasted out.old a (section_words 22 (items l.now))) b (section_words 23 (items l.now)) }
 {
-    hello_words::put_word(p as u64, out, a);
-    hello_words::put_word(m as u64, out, b);
-    let start = Pens {
-        first: a + 8,
-        second: b + 8,
-    };
-    geninfo_tlvs(l, out, start);
+    sections::<GENINFO, PARAMETERS, SMART_MAC>(l, p, m, out, a, b);
 }
