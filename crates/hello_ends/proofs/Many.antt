@@ -180,15 +180,25 @@ module _ (ns : List ℕ) (i m n : ℕ) (en : n ≡ length ns) where
   pub records_short : n < i + 3 * m → n + 1 ≡ reach (take_many (take_item 6) m) ns i
   records_short h = reach_top (take_many (take_item 6) m) ns i n en (many_short (take_item 6) (suffix_item 6) ns 3 (nick_steps ns) m i (omega arith))
 
-  module _ (room : i + 3 * m ≤ n) (j at : ℕ) (inv : reach (take_many (take_item 6) (m - j)) ns at ≡ reach (take_many (take_item 6) m) ns i) (is : at ≡ i + 3 * j) where
-    pub records_bad : j < m → (r : Bool) → r ≡ record_test ns at → r ≡ false → n + 1 ≡ reach (take_many (take_item 6) m) ns i
+  pub records_start : reach (take_many (take_item 6) (m - 0)) ns (i + 3 * 0) ≡ reach (take_many (take_item 6) m) ns i
+  records_start = let a : m - 0 ≡ m = omega arith in let b : i + 3 * 0 ≡ i = omega arith in rw (a, b)
+
+  module _ (room : i + 3 * m ≤ n) (j : ℕ) (inv : reach (take_many (take_item 6) (m - j)) ns (i + 3 * j) ≡ reach (take_many (take_item 6) m) ns i) where
+    abbrev at : ℕ
+    at = i + 3 * j
+
+    pub records_bad : j < m → (r : Bool) → r ≡ record_test ns (i + 3 * j) → r ≡ false → n + 1 ≡ reach (take_many (take_item 6) m) ns i
     records_bad more r er h = many_bad (take_item 6) (suffix_item 6) ns i m j at n en inv more (three_bad ns at 256 65536 65536 n en (omega arith) (get_or ns at 0) (get_or ns (at + 1) 0) (get_or ns (at + 2) 0) refl refl refl r er h ∙ sym (nick_three ns at))
 
-    pub records_next : j < m → (r : Bool) → r ≡ record_test ns at → r ≡ true → reach (take_many (take_item 6) (m - (j + 1))) ns (at + 3) ≡ reach (take_many (take_item 6) m) ns i
-    records_next more r er h = many_next (take_item 6) (suffix_item 6) ns i m j at inv more (at + 3) (three_good ns at 256 65536 65536 n en (omega arith) (get_or ns at 0) (get_or ns (at + 1) 0) (get_or ns (at + 2) 0) refl refl refl r er h ∙ sym (nick_three ns at))
+    pub records_next : j < m → (r : Bool) → r ≡ record_test ns (i + 3 * j) → r ≡ true → reach (take_many (take_item 6) (m - (j + 1))) ns (i + 3 * (j + 1)) ≡ reach (take_many (take_item 6) m) ns i
+    records_next more r er h =
+        let e : i + 3 * (j + 1) ≡ at + 3 = omega arith in
+        many_next (take_item 6) (suffix_item 6) ns i m j at inv more (i + 3 * (j + 1)) (e ∙ three_good ns at 256 65536 65536 n en (omega arith) (get_or ns at 0) (get_or ns (at + 1) 0) (get_or ns (at + 2) 0) refl refl refl r er h ∙ sym (nick_three ns at))
 
-    pub records_done : m ≤ j → j ≤ m → at ≡ reach (take_many (take_item 6) m) ns i
-    records_done h g = many_done (take_item 6) (suffix_item 6) ns i m j at inv h n en (omega arith)
+    pub records_done : m ≤ j → j ≤ m → i + 3 * m ≡ reach (take_many (take_item 6) m) ns i
+    records_done h g =
+        let e : i + 3 * m ≡ at = omega arith in
+        e ∙ many_done (take_item 6) (suffix_item 6) ns i m j at inv h n en (omega arith)
 
 -- ---- F, M and the label
 

@@ -67,16 +67,12 @@ fn records_end(area: &[u8], i: usize, m: usize) -> usize
     if n < i + 3 * m {
         return n + 1;
     }
-    let mut at = i;
-    let mut j = 0;
-    while j < m {
-        if !record_good(area, at) {
+    for j in 0..m {
+        if !record_good(area, i + 3 * j) {
             return n + 1;
         }
-        at += 3;
-        j += 1;
     }
-    at
+    i + 3 * m
 }
 
 // The bytes of a number that are over its field, of two bytes or of six, with the first one lowest: 0 where the number is below its limit.
@@ -97,10 +93,8 @@ fn numbers_good(area: &[u8], i: usize, m: usize, top: u64) -> bool
     ensures { result ≡ leb (reach (take_many (take_below top) m) (numbers_in area.now) i) (length (numbers_in area.now)) }
 {
     let mut sum = 0;
-    let mut j = 0;
-    while j < m {
+    for j in 0..m {
         sum += number_over(area, i + j, top);
-        j += 1;
     }
     sum == 0
 }

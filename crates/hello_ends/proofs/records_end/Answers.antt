@@ -1,7 +1,5 @@
 -- `hello_ends::records_end` meets its contract. The invariant: what is left to take reaches where the whole does.
-use Prim.Native.Nat.{◌-◌}
-use Rattle.hello_ends.proofs.Shapes.{suffix_item, many_start}
-use Rattle.hello_ends.proofs.Many.{records_short, records_bad, records_next, records_done}
+use Rattle.hello_ends.proofs.Many.{records_short, records_start, records_bad, records_next, records_done}
 use borrow.Author.Rules.{rules}
 use Rattle.hello_ends.proofs.records_end.Goals as goal
 
@@ -9,13 +7,13 @@ pub returns-then-n-i : goal.returns-then-n-i
 returns-then-n-i c = search records_short
 
 pub loop-j-init : goal.loop-j-init
-loop-j-init c = (search rules, (search rules, search (many_start, suffix_item)))
+loop-j-init c = search records_start
 
 pub returns-then-not-record_good : goal.returns-then-not-record_good
-returns-then-not-record_good c = search records_bad
+returns-then-not-record_good c = search (records_bad, rules)
 
 pub loop-j-preserved : goal.loop-j-preserved
-loop-j-preserved c = (search rules, (search rules, search records_next))
+loop-j-preserved c = search (records_next, rules)
 
 pub returns : goal.returns
-returns c = search records_done
+returns c = search (records_done, rules)
