@@ -30,9 +30,6 @@ use Rattle.hello_entry.proofs.Shape.{number_long, record_long}
 pub number_fits : (area : List ℕ) (i k n : ℕ) → i + k ≤ length (numbers_in area) → length area < 2 ^ 64 → n ≤ k → i + n < 2 ^ 64
 number_fits area i k n h big g = let l = numbers_length area in omega arith
 
-pub rest_fits : (area : List ℕ) (i m j : ℕ) → j ≤ m → i + m ≤ length (numbers_in area) → length area < 2 ^ 64 → i + j < 2 ^ 64
-rest_fits area i m j few h big = let l = numbers_length area in omega arith
-
 pub place_fits : (area : List ℕ) (i k r n : ℕ) → i + k + r ≤ length (numbers_in area) → length area < 2 ^ 64 → n ≤ k → i + n < 2 ^ 64
 place_fits area i k r n h big g = let l = numbers_length area in omega arith
 
@@ -59,6 +56,12 @@ first_fits area i h big = let l = numbers_length area in omega arith
 
 pub last_fits : (area : List ℕ) (i m n : ℕ) → i + m ≤ length (numbers_in area) → length area < 2 ^ 64 → i + (m - n) < 2 ^ 64
 last_fits area i m n h big = let l = numbers_length area in omega arith
+
+pub macs_fit : (area : List ℕ) (i m k s : ℕ) → s ≡ m - 1 → k ≤ s / 4 → i + m ≤ length (numbers_in area) → length area < 2 ^ 64 → i + 4 * k < 2 ^ 64
+macs_fit area i m k s es few h big = let l = numbers_length area in omega arith
+
+pub trees_fit : (area : List ℕ) (i m k : ℕ) → 4 ≤ m → k < (m - 4 + 3) / 4 → i + m ≤ length (numbers_in area) → length area < 2 ^ 64 → i + 4 * k < 2 ^ 64
+trees_fit area i m k four few h big = let l = numbers_length area in omega arith
 
 pub near_fits : (area : List ℕ) (i n : ℕ) → i + 4 ≤ length (numbers_in area) → n ≤ 4 → length area < 2 ^ 64 → i + n < 2 ^ 64
 near_fits area i n h few big = let l = numbers_length area in omega arith
@@ -251,7 +254,7 @@ module _ (ns : List ℕ) (i m : ℕ) (out : List ℕ) (at : ℕ) where
       let b = length-append (number_at 6 ns (i + j)) (bytes_of 2 0) in
       (ap length q ∙ paste_same o (number_at 6 ns (i + j) ++ bytes_of 2 0) (at + 6 * j) (omega arith) ∙ same, rw (← e) (macs_past o j same room inv (omega arith) u q))
 
-  pub macs_four : (o : List ℕ) (j : ℕ) → length o ≡ length out → at + 6 * m ≤ length out → Left (number_at 6 ns) 1 6 i m o at j ≡ pasted out at (run (number_at 6 ns) 1 i m) → j + 4 < m → (u : List ℕ) → u ≡ four_macs ns (i + j) o (at + 6 * j) → Left (number_at 6 ns) 1 6 i m u at (j + 4) ≡ pasted out at (run (number_at 6 ns) 1 i m)
+  macs_four : (o : List ℕ) (j : ℕ) → length o ≡ length out → at + 6 * m ≤ length out → Left (number_at 6 ns) 1 6 i m o at j ≡ pasted out at (run (number_at 6 ns) 1 i m) → j + 4 < m → (u : List ℕ) → u ≡ four_macs ns (i + j) o (at + 6 * j) → Left (number_at 6 ns) 1 6 i m u at (j + 4) ≡ pasted out at (run (number_at 6 ns) 1 i m)
   unfolding four_macs
   macs_four o j same room inv far u e =
       let p = with_mac ns (i + j) o (at + 6 * j) in
@@ -262,9 +265,15 @@ module _ (ns : List ℕ) (i m : ℕ) (out : List ℕ) (at : ℕ) where
       let c = mac_step q (j + 2) (j + 3) (at + 6 * j + 12) (i + j + 2) (omega arith) (omega arith) (omega arith) b.0 room b.1 (omega arith) r refl in
       (mac_step r (j + 3) (j + 4) (at + 6 * j + 18) (i + j + 3) (omega arith) (omega arith) (omega arith) c.0 room c.1 (omega arith) u e).1
 
-  pub macs_few : (o : List ℕ) (j : ℕ) → Left (number_at 6 ns) 1 6 i m o at j ≡ pasted out at (run (number_at 6 ns) 1 i m) → (u : List ℕ) → u ≡ pasted o (at + 6 * j) (run (number_at 6 ns) 1 (i + j) (m - j)) → u ≡ pasted out at (run (number_at 6 ns) 1 i m)
+  pub macs_on : (o : List ℕ) (k : ℕ) → length o ≡ length out → at + 6 * m ≤ length out → Left (number_at 6 ns) 1 6 i m o at (4 * k) ≡ pasted out at (run (number_at 6 ns) 1 i m) → (s : ℕ) → s ≡ m - 1 → k < s / 4 → (u : List ℕ) → u ≡ four_macs ns (i + 4 * k) o (at + 6 * (4 * k)) → Left (number_at 6 ns) 1 6 i m u at (4 * (k + 1)) ≡ pasted out at (run (number_at 6 ns) 1 i m)
+  macs_on o k same room inv s es more u e = let q : 4 * (k + 1) ≡ 4 * k + 4 = omega arith in rw q (macs_four o (4 * k) same room inv (omega arith) u e)
+
+  pub macs_few : (o : List ℕ) (k n : ℕ) → k ≤ n → n ≤ k → Left (number_at 6 ns) 1 6 i m o at (4 * k) ≡ pasted out at (run (number_at 6 ns) 1 i m) → (u : List ℕ) → u ≡ pasted o (at + 6 * (4 * n)) (run (number_at 6 ns) 1 (i + 4 * n) (m - 4 * n)) → u ≡ pasted out at (run (number_at 6 ns) 1 i m)
   unfolding Left
-  macs_few o j inv u e = let p : i + j ≡ i + 1 * j = omega arith in e ∙ rw p inv
+  macs_few o k n h g inv u e =
+      let q : n ≡ k = omega arith in
+      let p : i + 4 * k ≡ i + 1 * (4 * k) = omega arith in
+      e ∙ rw (q, p) inv
 
   -- records
   pub records_none : Left (record_at ns) 3 5 i m out at 0 ≡ pasted out at (run (record_at ns) 3 i m)
@@ -459,13 +468,16 @@ module _ (ns : List ℕ) (i m : ℕ) (out : List ℕ) (at : ℕ) (room : at + 2 
   trees_long : (a n : ℕ) → length (run (number_at 2 ns) 1 a n) ≡ 2 * n
   trees_long a n = length_run (number_at 2 ns) 1 2 (number_long 2 ns) n a
 
-  pub fours_next : (v : ℕ) → bytes_of 8 v ≡ run (number_at 2 ns) 1 (i + j) 4 → (u : List ℕ) → u ≡ pasted o (at + 2 * j) (bytes_of 8 v) → u ≡ pasted out at (run (number_at 2 ns) 1 i (j + 4))
+  fours_next : (v : ℕ) → bytes_of 8 v ≡ run (number_at 2 ns) 1 (i + j) 4 → (u : List ℕ) → u ≡ pasted o (at + 2 * j) (bytes_of 8 v) → u ≡ pasted out at (run (number_at 2 ns) 1 i (j + 4))
   fours_next v ev u e =
       behind out o u (run (number_at 2 ns) 1 i j) (bytes_of 8 v) at (2 * j) (omega arith) (trees_long i j) inv e
       ∙ ap (pasted out at) (ap (λ (l : List ℕ). run (number_at 2 ns) 1 i j ++ l) ev ∙ sym (run-parts (number_at 2 ns) j 4 i))
 
+  pub fours_on : (k : ℕ) → j ≡ 4 * k → (v : ℕ) → bytes_of 8 v ≡ run (number_at 2 ns) 1 (i + j) 4 → (u : List ℕ) → u ≡ pasted o (at + 2 * j) (bytes_of 8 v) → u ≡ pasted out at (run (number_at 2 ns) 1 i (4 * (k + 1)))
+  fours_on k ej v ev u e = let q : 4 * (k + 1) ≡ j + 4 = omega arith in rw q (fours_next v ev u e)
+
   -- the last four, over some that are there
-  pub fours_last : 4 ≤ m → m - 4 ≤ j → j ≤ m → (v : ℕ) → bytes_of 8 v ≡ run (number_at 2 ns) 1 (i + (m - 4)) 4 → (u : List ℕ) → u ≡ pasted o (at + 2 * (m - 4)) (bytes_of 8 v) → u ≡ pasted out at (run (number_at 2 ns) 1 i m)
+  fours_last : 4 ≤ m → m - 4 ≤ j → j ≤ m → (v : ℕ) → bytes_of 8 v ≡ run (number_at 2 ns) 1 (i + (m - 4)) 4 → (u : List ℕ) → u ≡ pasted o (at + 2 * (m - 4)) (bytes_of 8 v) → u ≡ pasted out at (run (number_at 2 ns) 1 i m)
   fours_last four past few v ev u e =
       let a : ℕ = m - 4 in
       let b : ℕ = j - (m - 4) in
@@ -480,6 +492,9 @@ module _ (ns : List ℕ) (i m : ℕ) (out : List ℕ) (at : ℕ) (room : at + 2 
       e ∙ rw start (paste_past out x g (bytes_of 8 v) at (at + 2 * a) (omega arith) (omega arith) (omega arith))
       ∙ ap (λ (l : List ℕ). pasted out at (x ++ l)) ev
       ∙ ap (pasted out at) (sym (run-parts (number_at 2 ns) a 4 i) ∙ ap (run (number_at 2 ns) 1 i) t)
+
+  pub fours_end : (k : ℕ) → j ≡ 4 * k → 4 ≤ m → (m - 4 + 3) / 4 ≤ k → k ≤ (m - 4 + 3) / 4 → (v : ℕ) → bytes_of 8 v ≡ run (number_at 2 ns) 1 (i + (m - 4)) 4 → (u : List ℕ) → u ≡ pasted o (at + 2 * (m - 4)) (bytes_of 8 v) → u ≡ pasted out at (run (number_at 2 ns) 1 i m)
+  fours_end k ej four h g = fours_last four (omega arith) (omega arith)
 
 pub fours_none : (ns out : List ℕ) (i at : ℕ) → out ≡ pasted out at (run (number_at 2 ns) 1 i 0)
 unfolding run

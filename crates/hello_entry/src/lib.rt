@@ -177,10 +177,8 @@ fn put_records(area: &[u8], i: usize, m: usize, out: &mut [u8], at: usize)
     requires { (i + 3 * m ≤ length (numbers_in area.now)) × (at + 5 * m ≤ length out.old) }
     ensures { out.new ≡ pasted out.old at (run (record_at (numbers_in area.now)) 3 i m) }
 {
-    let mut j = 0;
-    while j < m {
+    for j in 0..m {
         put_record(area, i + 3 * j, out, at + 5 * j);
-        j += 1;
     }
 }
 
@@ -188,10 +186,8 @@ fn put_few_trees(area: &[u8], i: usize, m: usize, out: &mut [u8], at: usize)
     requires { (i + m ≤ length (numbers_in area.now)) × (at + 2 * m ≤ length out.old) }
     ensures { out.new ≡ pasted out.old at (run (number_at 2 (numbers_in area.now)) 1 i m) }
 {
-    let mut j = 0;
-    while j < m {
+    for j in 0..m {
         put_low(area, i + j, 2, out, at + 2 * j);
-        j += 1;
     }
 }
 
@@ -218,10 +214,9 @@ fn put_tree_nicknames(area: &[u8], i: usize, m: usize, out: &mut [u8], at: usize
         return;
     }
     let last = m - 4;
-    let mut j = 0;
-    while j < last {
+    for k in 0..(last + 3) / 4 {
+        let j = 4 * k;
         put_wide(four_trees(area, i + j), out, at + 2 * j);
-        j += 4;
     }
     put_wide(four_trees(area, i + last), out, at + 2 * last);
 }
@@ -234,10 +229,8 @@ fn put_few_macs(area: &[u8], i: usize, m: usize, out: &mut [u8], at: usize)
         return;
     }
     let last = m - 1;
-    let mut j = 0;
-    while j < last {
+    for j in 0..last {
         put_mac(area, i + j, out, at + 6 * j);
-        j += 1;
     }
     put_low(area, i + last, 6, out, at + 6 * last);
 }
@@ -258,10 +251,11 @@ fn put_macs(area: &[u8], i: usize, m: usize, out: &mut [u8], at: usize)
     requires { (i + m ≤ length (numbers_in area.now)) × (at + 6 * m ≤ length out.old) }
     ensures { out.new ≡ pasted out.old at (run (number_at 6 (numbers_in area.now)) 1 i m) }
 {
-    let mut j = 0;
-    while j + 4 < m {
+    let fours = m.saturating_sub(1) / 4;
+    for k in 0..fours {
+        let j = 4 * k;
         four_macs(area, i + j, out, at + 6 * j);
-        j += 4;
     }
-    put_few_macs(area, i + j, m - j, out, at + 6 * j);
+    let n = 4 * fours;
+    put_few_macs(area, i + n, m - n, out, at + 6 * n);
 }

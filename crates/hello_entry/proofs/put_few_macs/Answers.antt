@@ -1,5 +1,4 @@
 -- `hello_entry::put_few_macs` meets its contract. The invariant: the rest put behind what is there makes the whole.
-use Prim.Native.Nat.{◌-◌}
 use mathlib.Core.Path.{refl}
 use Rattle.hello_entry.proofs.Writes.{item_fits, last_fits, numbers_empty, numbers_none, macs_past, macs_last}
 use borrow.Author.Rules.{rules}

@@ -1,4 +1,4 @@
-use Prim.Native.Nat.{◌-◌, ◌<◌}
+use Prim.Native.Nat.{◌<◌}
 use mathlib.Core.Path.{◌≡◌}
 use lib.ListN.{length}
 use Rattle.frame_copy.specs.Areas.{pasted}
@@ -9,6 +9,3 @@ use Rattle.hello_entry.proofs.put_few_macs.Given as goal
 
 abbrev pub invariant-loop-j : goal.invariant-loop-j
 invariant-loop-j l = (l.j < l.m) × ((length l.out ≡ length l.initial.out) × (Left (number_at 6 (numbers_in l.area)) 1 6 l.i l.m l.out l.at l.j ≡ pasted l.initial.out l.at (run (number_at 6 (numbers_in l.area)) 1 l.i l.m)))
-
-abbrev pub decreases-loop-j : goal.decreases-loop-j
-decreases-loop-j l = l.m - l.j

@@ -1,4 +1,3 @@
-use Prim.Native.Nat.{◌-◌, ◌≤◌}
 use mathlib.Core.Path.{◌≡◌}
 use lib.ListN.{length}
 use Rattle.frame_copy.specs.Areas.{pasted}
@@ -8,7 +7,4 @@ use Rattle.hello_entry.proofs.Writes.{Left}
 use Rattle.hello_entry.proofs.put_records.Given as goal
 
 abbrev pub invariant-loop-j : goal.invariant-loop-j
-invariant-loop-j l = (l.j ≤ l.m) × ((length l.out ≡ length l.initial.out) × (Left (record_at (numbers_in l.area)) 3 5 l.i l.m l.out l.at l.j ≡ pasted l.initial.out l.at (run (record_at (numbers_in l.area)) 3 l.i l.m)))
-
-abbrev pub decreases-loop-j : goal.decreases-loop-j
-decreases-loop-j l = l.m - l.j
+invariant-loop-j l = (length l.out ≡ length l.initial.out) × (Left (record_at (numbers_in l.area)) 3 5 l.i l.m l.out l.at l.j ≡ pasted l.initial.out l.at (run (record_at (numbers_in l.area)) 3 l.i l.m))

@@ -1,4 +1,4 @@
-use Prim.Native.Nat.{◌-◌, ◌≤◌}
+use Prim.Native.Nat.{◌*◌}
 use mathlib.Core.Path.{◌≡◌}
 use lib.ListN.{length}
 use Rattle.frame_copy.specs.Areas.{pasted}
@@ -6,8 +6,5 @@ use Rattle.hello_area.specs.Entries.{numbers_in}
 use Rattle.hello_entry.specs.Bytes.{number_at, run}
 use Rattle.hello_entry.proofs.put_tree_nicknames.Given as goal
 
-abbrev pub invariant-loop-j : goal.invariant-loop-j
-invariant-loop-j l = (l.j ≤ l.m) × ((length l.out ≡ length l.initial.out) × (l.out ≡ pasted l.initial.out l.at (run (number_at 2 (numbers_in l.area)) 1 l.i l.j)))
-
-abbrev pub decreases-loop-j : goal.decreases-loop-j
-decreases-loop-j l = l.m - l.j
+abbrev pub invariant-loop-k : goal.invariant-loop-k
+invariant-loop-k l = (length l.out ≡ length l.initial.out) × (l.out ≡ pasted l.initial.out l.at (run (number_at 2 (numbers_in l.area)) 1 l.i (4 * l.k)))
