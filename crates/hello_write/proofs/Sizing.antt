@@ -30,9 +30,6 @@ past_follows ns n en c ss r e = record { is = λ h. absurd (omega arith) }
 
 -- ---- entries
 
-pub entry-within : (k : ℕ) (ns : List ℕ) (at n e : ℕ) → n ≡ length ns → e ≡ reach (take_sub k) ns at → e ≤ n → reach (take_sub k) ns at ≤ length ns
-entry-within k ns at n e en ee h = omega arith
-
 module _ (k : ℕ) (ns : List ℕ) (at : ℕ) (b : Bool) (eb : b ≡ entry_good k ns at) where
   pub good_within : b ≡ true → reach (take_sub k) ns at ≤ length ns
   good_within h = leb-true (reach (take_sub k) ns at) (length ns) (sym eb ∙ h)

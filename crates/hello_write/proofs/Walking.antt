@@ -45,6 +45,11 @@ module _ (k : ℕ) where
   unfolding pick either
   holder_other a b = rw (ne_eqb k 22 a, ne_eqb k 23 b)
 
+-- a type that has a section, and none of the other three
+pub section_last : (k : ℕ) → has_section k ≡ true → (k ≡ 22 → ⊥) → (k ≡ 6 → ⊥) → (k ≡ 8 → ⊥) → k ≡ 23
+unfolding has_section either
+section_last k h a b c = eqb-true k 23 (rw (ne_eqb k 22 a, ne_eqb k 6 b, ne_eqb k 8 c) at h)
+
 -- ---- one entry
 
 either_is : (k n : ℕ) (P : Type 0) → (k ≡ n → P) → ((k ≡ n → ⊥) → P) → P

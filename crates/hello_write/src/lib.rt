@@ -1,13 +1,16 @@
 // The call that writes a Smart-Hello: the contents area is judged, then the room, and then the payload is written, section by section.
 #![tactic(auto)]
 
-ghost use Rattle.std.specs.Prelude.{◌+◌, ◌*◌, ◌^◌, ◌<◌, ◌≤◌, ◌≡◌, length};
+ghost use Rattle.std.specs.Prelude.{◌+◌, ◌*◌, ◌^◌, ◌<◌, ◌≤◌, true, ◌≡◌, length};
 ghost use Rattle.numbers.specs.After.{on_area};
-ghost use Rattle.hello.specs.Pieces.{parameters_type, smart_mac_type, nickname_type, trees_type};
+ghost use Rattle.frame_copy.specs.Areas.{pasted};
+ghost use Rattle.hello.specs.Pieces.{parameters_type, nickname_type};
+ghost use Rattle.hello.specs.Writing.{sub_bytes};
 ghost use Rattle.hello.specs.Area.{take_many};
 ghost use Rattle.hello.specs.Calls.{area_written, write_call};
 ghost use Rattle.hello_area.specs.Entries.{numbers_in, holder_for, take_sub, take_subs, reach, sub_at, subs_at};
-ghost use Rattle.hello_ends.specs.Below.{refusal_of};
+ghost use Rattle.hello_ends.specs.Below.{entry_good, refusal_of};
+ghost use Rattle.hello_entry.specs.Kinds.{has_section, count_at};
 ghost use Rattle.hello_put.specs.Placing.{unopened, stepped_by, placed, stepped_all, placed_all};
 ghost use Rattle.hello_write.specs.Sections.{section_at, section_end, subs_in, front_in, at_first, walked, Follows, SizeIs};
 
@@ -71,23 +74,35 @@ fn past(n: usize) -> Walk
     }
 }
 
-// Judges so many entries of a section, with the cursor after them.
-fn entries_size(area: &[u8], i: usize, m: usize, c: Cursor) -> Walk
-    requires { (i ≤ length (numbers_in area.now)) × ((c.start ≤ c.at) × (c.at ≤ 9 * i)) }
-    ensures { ((result.next ≡ reach (take_many (take_sub parameters_type) m) (numbers_in area.now) i) × Follows (numbers_in area.now) c (subs_at parameters_type (numbers_in area.now) i m) result) × ((result.cursor.start ≤ result.cursor.at) × (result.cursor.at ≤ 9 * result.next)) }
+// Whether an entry is good.
+fn entry_good<const KIND: u8>(area: &[u8], i: usize) -> bool
+    requires { (has_section KIND ≡ true) × (i ≤ length (numbers_in area.now)) }
+    ensures { result ≡ entry_good KIND (numbers_in area.now) i }
+{
+    match KIND {
+        PARAMETERS => hello_ends::parameters_good(area, i),
+        NICKNAME => hello_ends::nicknames_end(area, i) <= hello_ends::size(area),
+        TREES => hello_ends::trees_good(area, i),
+        _ => hello_ends::macs_good(area, i),
+    }
+}
+
+// Judges so many entries of a section, with the cursor after them. The type is a constant: the compiler makes a loop of each, without a test
+// of it.
+fn entries_size<const KIND: u8>(area: &[u8], i: usize, m: usize, c: Cursor) -> Walk
+    requires { (has_section KIND ≡ true) × ((i ≤ length (numbers_in area.now)) × ((c.start ≤ c.at) × (c.at ≤ 9 * i))) }
+    ensures { ((result.next ≡ reach (take_many (take_sub KIND) m) (numbers_in area.now) i) × Follows (numbers_in area.now) c (subs_at KIND (numbers_in area.now) i m) result) × ((result.cursor.start ≤ result.cursor.at) × (result.cursor.at ≤ 9 * result.next)) }
 {
     let n = hello_ends::size(area);
     let mut d = c;
     let mut at = i;
-    let mut j = 0;
-    while j < m {
-        if !hello_ends::parameters_good(area, at) {
+    for _ in 0..m {
+        if !entry_good::<KIND>(area, at) {
             return past(n);
         }
-        let e = hello_entry::measure(PARAMETERS, area, at);
-        d = hello_put::step(d, holder(PARAMETERS), e.size);
+        let e = hello_entry::measure(KIND, area, at);
+        d = hello_put::step(d, holder(KIND), e.size);
         at = e.next;
-        j += 1;
     }
     Walk {
         cursor: d,
@@ -96,124 +111,16 @@ fn entries_size(area: &[u8], i: usize, m: usize, c: Cursor) -> Walk
 }
 
 // A section, behind its count.
-fn section_size(area: &[u8], w: Walk) -> Walk
-    requires { (w.cursor.start ≤ w.cursor.at) × (w.cursor.at ≤ 9 * w.next) }
-    ensures { ((result.next ≡ section_end parameters_type (numbers_in area.now) w.next) × Follows (numbers_in area.now) w.cursor (section_at parameters_type (numbers_in area.now) w.next) result) × ((result.cursor.start ≤ result.cursor.at) × (result.cursor.at ≤ 9 * result.next)) }
+fn section_size<const KIND: u8>(area: &[u8], w: Walk) -> Walk
+    requires { (has_section KIND ≡ true) × ((w.cursor.start ≤ w.cursor.at) × (w.cursor.at ≤ 9 * w.next)) }
+    ensures { ((result.next ≡ section_end KIND (numbers_in area.now) w.next) × Follows (numbers_in area.now) w.cursor (section_at KIND (numbers_in area.now) w.next) result) × ((result.cursor.start ≤ result.cursor.at) × (result.cursor.at ≤ 9 * result.next)) }
 {
     let n = hello_ends::size(area);
     if n <= w.next {
         return past(n);
     }
     let m = hello_ends::number(area, w.next) as usize;
-    entries_size(area, w.next + 1, m, w.cursor)
-}
-
-// The same for the other types, with the type as a constant: the compiler then makes their loops without a test of it. Nicknames go on from
-// the end that was judged, so that entries without one follow without waiting for a count.
-fn nickname_entries_size(area: &[u8], i: usize, m: usize, c: Cursor) -> Walk
-    requires { (i ≤ length (numbers_in area.now)) × ((c.start ≤ c.at) × (c.at ≤ 9 * i)) }
-    ensures { ((result.next ≡ reach (take_many (take_sub nickname_type) m) (numbers_in area.now) i) × Follows (numbers_in area.now) c (subs_at nickname_type (numbers_in area.now) i m) result) × ((result.cursor.start ≤ result.cursor.at) × (result.cursor.at ≤ 9 * result.next)) }
-{
-    let n = hello_ends::size(area);
-    let mut d = c;
-    let mut at = i;
-    let mut j = 0;
-    while j < m {
-        let e = hello_ends::nicknames_end(area, at);
-        if n < e {
-            return past(n);
-        }
-        let k = hello_entry::measure(NICKNAME, area, at);
-        d = hello_put::step(d, holder(NICKNAME), k.size);
-        at = e;
-        j += 1;
-    }
-    Walk {
-        cursor: d,
-        next: at,
-    }
-}
-
-fn nickname_section_size(area: &[u8], w: Walk) -> Walk
-    requires { (w.cursor.start ≤ w.cursor.at) × (w.cursor.at ≤ 9 * w.next) }
-    ensures { ((result.next ≡ section_end nickname_type (numbers_in area.now) w.next) × Follows (numbers_in area.now) w.cursor (section_at nickname_type (numbers_in area.now) w.next) result) × ((result.cursor.start ≤ result.cursor.at) × (result.cursor.at ≤ 9 * result.next)) }
-{
-    let n = hello_ends::size(area);
-    if n <= w.next {
-        return past(n);
-    }
-    let m = hello_ends::number(area, w.next) as usize;
-    nickname_entries_size(area, w.next + 1, m, w.cursor)
-}
-
-fn tree_entries_size(area: &[u8], i: usize, m: usize, c: Cursor) -> Walk
-    requires { (i ≤ length (numbers_in area.now)) × ((c.start ≤ c.at) × (c.at ≤ 9 * i)) }
-    ensures { ((result.next ≡ reach (take_many (take_sub trees_type) m) (numbers_in area.now) i) × Follows (numbers_in area.now) c (subs_at trees_type (numbers_in area.now) i m) result) × ((result.cursor.start ≤ result.cursor.at) × (result.cursor.at ≤ 9 * result.next)) }
-{
-    let n = hello_ends::size(area);
-    let mut d = c;
-    let mut at = i;
-    let mut j = 0;
-    while j < m {
-        if !hello_ends::trees_good(area, at) {
-            return past(n);
-        }
-        let e = hello_entry::measure(TREES, area, at);
-        d = hello_put::step(d, holder(TREES), e.size);
-        at = e.next;
-        j += 1;
-    }
-    Walk {
-        cursor: d,
-        next: at,
-    }
-}
-
-fn mac_entries_size(area: &[u8], i: usize, m: usize, c: Cursor) -> Walk
-    requires { (i ≤ length (numbers_in area.now)) × ((c.start ≤ c.at) × (c.at ≤ 9 * i)) }
-    ensures { ((result.next ≡ reach (take_many (take_sub smart_mac_type) m) (numbers_in area.now) i) × Follows (numbers_in area.now) c (subs_at smart_mac_type (numbers_in area.now) i m) result) × ((result.cursor.start ≤ result.cursor.at) × (result.cursor.at ≤ 9 * result.next)) }
-{
-    let n = hello_ends::size(area);
-    let mut d = c;
-    let mut at = i;
-    let mut j = 0;
-    while j < m {
-        if !hello_ends::macs_good(area, at) {
-            return past(n);
-        }
-        let e = hello_entry::measure(SMART_MAC, area, at);
-        d = hello_put::step(d, holder(SMART_MAC), e.size);
-        at = e.next;
-        j += 1;
-    }
-    Walk {
-        cursor: d,
-        next: at,
-    }
-}
-
-fn tree_section_size(area: &[u8], w: Walk) -> Walk
-    requires { (w.cursor.start ≤ w.cursor.at) × (w.cursor.at ≤ 9 * w.next) }
-    ensures { ((result.next ≡ section_end trees_type (numbers_in area.now) w.next) × Follows (numbers_in area.now) w.cursor (section_at trees_type (numbers_in area.now) w.next) result) × ((result.cursor.start ≤ result.cursor.at) × (result.cursor.at ≤ 9 * result.next)) }
-{
-    let n = hello_ends::size(area);
-    if n <= w.next {
-        return past(n);
-    }
-    let m = hello_ends::number(area, w.next) as usize;
-    tree_entries_size(area, w.next + 1, m, w.cursor)
-}
-
-fn mac_section_size(area: &[u8], w: Walk) -> Walk
-    requires { (w.cursor.start ≤ w.cursor.at) × (w.cursor.at ≤ 9 * w.next) }
-    ensures { ((result.next ≡ section_end smart_mac_type (numbers_in area.now) w.next) × Follows (numbers_in area.now) w.cursor (section_at smart_mac_type (numbers_in area.now) w.next) result) × ((result.cursor.start ≤ result.cursor.at) × (result.cursor.at ≤ 9 * result.next)) }
-{
-    let n = hello_ends::size(area);
-    if n <= w.next {
-        return past(n);
-    }
-    let m = hello_ends::number(area, w.next) as usize;
-    mac_entries_size(area, w.next + 1, m, w.cursor)
+    entries_size::<KIND>(area, w.next + 1, m, w.cursor)
 }
 
 // The walk before the first section.
@@ -234,10 +141,10 @@ fn at_first() -> Walk
 fn sections_size(area: &[u8]) -> Walk
     ensures { (result.next ≡ reach take_subs (numbers_in area.now) 0) × Follows (numbers_in area.now) unopened (subs_in (numbers_in area.now)) result }
 {
-    let a = section_size(area, at_first());
-    let b = nickname_section_size(area, a);
-    let c = tree_section_size(area, b);
-    mac_section_size(area, c)
+    let a = section_size::<PARAMETERS>(area, at_first());
+    let b = section_size::<NICKNAME>(area, a);
+    let c = section_size::<TREES>(area, b);
+    section_size::<SMART_MAC>(area, c)
 }
 
 // The number that writing an area is refused with before its room is judged, or 0, and how long the payload is.
@@ -273,56 +180,27 @@ fn refused(n: u8) -> Judgement
     }
 }
 
+// Puts the sub-TLV of an entry into an area.
+fn put_sub<const KIND: u8>(area: &[u8], i: usize, m: usize, out: &mut [u8], at: usize)
+    requires { ((has_section KIND ≡ true) × (m ≡ count_at KIND (numbers_in area.now) i)) × ((reach (take_sub KIND) (numbers_in area.now) i ≤ length (numbers_in area.now)) × (at + length (sub_bytes (sub_at KIND (numbers_in area.now) i)) ≤ length out.old)) }
+    ensures { out.new ≡ pasted out.old at (sub_bytes (sub_at KIND (numbers_in area.now) i)) }
+{
+    match KIND {
+        PARAMETERS => hello_entry::put_parameters(area, i, out, at),
+        NICKNAME => hello_entry::put_nicknames(area, i, m, out, at),
+        TREES => hello_entry::put_trees(area, i, m, out, at),
+        _ => hello_entry::put_smart_mac(area, i, m, out, at),
+    }
+}
+
 // Writes an entry as its sub-TLV, and gives the walk after it.
-fn put_entry(area: &[u8], i: usize, c: Cursor, out: &mut [u8]) -> Walk
-    requires { (reach (take_sub parameters_type) (numbers_in area.now) i ≤ length (numbers_in area.now)) × ((c.start ≤ c.at) × ((stepped_by c (sub_at parameters_type (numbers_in area.now) i)).at ≤ length out.old)) }
-    ensures { ((result.cursor ≡ stepped_by c (sub_at parameters_type (numbers_in area.now) i)) × (result.next ≡ reach (take_sub parameters_type) (numbers_in area.now) i)) × (out.new ≡ placed out.old c (sub_at parameters_type (numbers_in area.now) i)) }
+fn put_entry<const KIND: u8>(area: &[u8], i: usize, c: Cursor, out: &mut [u8]) -> Walk
+    requires { (has_section KIND ≡ true) × ((reach (take_sub KIND) (numbers_in area.now) i ≤ length (numbers_in area.now)) × ((c.start ≤ c.at) × ((stepped_by c (sub_at KIND (numbers_in area.now) i)).at ≤ length out.old))) }
+    ensures { ((result.cursor ≡ stepped_by c (sub_at KIND (numbers_in area.now) i)) × (result.next ≡ reach (take_sub KIND) (numbers_in area.now) i)) × (out.new ≡ placed out.old c (sub_at KIND (numbers_in area.now) i)) }
 {
-    let e = hello_entry::measure(PARAMETERS, area, i);
-    let r = hello_put::open(out, c, holder(PARAMETERS), e.size);
-    hello_entry::put_parameters(area, i, out, r.at);
-    let d = r.after;
-    Walk {
-        cursor: d,
-        next: e.next,
-    }
-}
-
-fn put_nickname_entry(area: &[u8], i: usize, c: Cursor, out: &mut [u8]) -> Walk
-    requires { (reach (take_sub nickname_type) (numbers_in area.now) i ≤ length (numbers_in area.now)) × ((c.start ≤ c.at) × ((stepped_by c (sub_at nickname_type (numbers_in area.now) i)).at ≤ length out.old)) }
-    ensures { ((result.cursor ≡ stepped_by c (sub_at nickname_type (numbers_in area.now) i)) × (result.next ≡ reach (take_sub nickname_type) (numbers_in area.now) i)) × (out.new ≡ placed out.old c (sub_at nickname_type (numbers_in area.now) i)) }
-{
-    let e = hello_entry::measure(NICKNAME, area, i);
-    let r = hello_put::open(out, c, holder(NICKNAME), e.size);
-    hello_entry::put_nicknames(area, i, e.count, out, r.at);
-    let d = r.after;
-    Walk {
-        cursor: d,
-        next: e.next,
-    }
-}
-
-fn put_tree_entry(area: &[u8], i: usize, c: Cursor, out: &mut [u8]) -> Walk
-    requires { (reach (take_sub trees_type) (numbers_in area.now) i ≤ length (numbers_in area.now)) × ((c.start ≤ c.at) × ((stepped_by c (sub_at trees_type (numbers_in area.now) i)).at ≤ length out.old)) }
-    ensures { ((result.cursor ≡ stepped_by c (sub_at trees_type (numbers_in area.now) i)) × (result.next ≡ reach (take_sub trees_type) (numbers_in area.now) i)) × (out.new ≡ placed out.old c (sub_at trees_type (numbers_in area.now) i)) }
-{
-    let e = hello_entry::measure(TREES, area, i);
-    let r = hello_put::open(out, c, holder(TREES), e.size);
-    hello_entry::put_trees(area, i, e.count, out, r.at);
-    let d = r.after;
-    Walk {
-        cursor: d,
-        next: e.next,
-    }
-}
-
-fn put_mac_entry(area: &[u8], i: usize, c: Cursor, out: &mut [u8]) -> Walk
-    requires { (reach (take_sub smart_mac_type) (numbers_in area.now) i ≤ length (numbers_in area.now)) × ((c.start ≤ c.at) × ((stepped_by c (sub_at smart_mac_type (numbers_in area.now) i)).at ≤ length out.old)) }
-    ensures { ((result.cursor ≡ stepped_by c (sub_at smart_mac_type (numbers_in area.now) i)) × (result.next ≡ reach (take_sub smart_mac_type) (numbers_in area.now) i)) × (out.new ≡ placed out.old c (sub_at smart_mac_type (numbers_in area.now) i)) }
-{
-    let e = hello_entry::measure(SMART_MAC, area, i);
-    let r = hello_put::open(out, c, holder(SMART_MAC), e.size);
-    hello_entry::put_smart_mac(area, i, e.count, out, r.at);
+    let e = hello_entry::measure(KIND, area, i);
+    let r = hello_put::open(out, c, holder(KIND), e.size);
+    put_sub::<KIND>(area, i, e.count, out, r.at);
     let d = r.after;
     Walk {
         cursor: d,
@@ -331,19 +209,17 @@ fn put_mac_entry(area: &[u8], i: usize, c: Cursor, out: &mut [u8]) -> Walk
 }
 
 // So many entries of a section.
-fn put_entries(area: &[u8], i: usize, m: usize, c: Cursor, out: &mut [u8]) -> Walk
-    requires { (reach (take_many (take_sub parameters_type) m) (numbers_in area.now) i ≤ length (numbers_in area.now)) × ((c.start ≤ c.at) × ((stepped_all c (subs_at parameters_type (numbers_in area.now) i m)).at ≤ length out.old)) }
-    ensures { ((result.cursor ≡ stepped_all c (subs_at parameters_type (numbers_in area.now) i m)) × (result.next ≡ reach (take_many (take_sub parameters_type) m) (numbers_in area.now) i)) × ((result.cursor.start ≤ result.cursor.at) × (out.new ≡ placed_all out.old c (subs_at parameters_type (numbers_in area.now) i m))) }
+fn put_entries<const KIND: u8>(area: &[u8], i: usize, m: usize, c: Cursor, out: &mut [u8]) -> Walk
+    requires { (has_section KIND ≡ true) × ((reach (take_many (take_sub KIND) m) (numbers_in area.now) i ≤ length (numbers_in area.now)) × ((c.start ≤ c.at) × ((stepped_all c (subs_at KIND (numbers_in area.now) i m)).at ≤ length out.old))) }
+    ensures { ((result.cursor ≡ stepped_all c (subs_at KIND (numbers_in area.now) i m)) × (result.next ≡ reach (take_many (take_sub KIND) m) (numbers_in area.now) i)) × ((result.cursor.start ≤ result.cursor.at) × (out.new ≡ placed_all out.old c (subs_at KIND (numbers_in area.now) i m))) }
 {
     let mut d = c;
     let mut at = i;
-    let mut j = 0;
-    while j < m {
-        let w = put_entry(area, at, d, out);
+    for _ in 0..m {
+        let w = put_entry::<KIND>(area, at, d, out);
         let b = w.cursor;
         d = b;
         at = w.next;
-        j += 1;
     }
     Walk {
         cursor: d,
@@ -352,97 +228,12 @@ fn put_entries(area: &[u8], i: usize, m: usize, c: Cursor, out: &mut [u8]) -> Wa
 }
 
 // A section, behind its count.
-fn put_section(area: &[u8], w: Walk, out: &mut [u8]) -> Walk
-    requires { (section_end parameters_type (numbers_in area.now) w.next ≤ length (numbers_in area.now)) × ((w.cursor.start ≤ w.cursor.at) × ((walked parameters_type (numbers_in area.now) w).cursor.at ≤ length out.old)) }
-    ensures { (result ≡ walked parameters_type (numbers_in area.now) w) × ((result.cursor.start ≤ result.cursor.at) × (out.new ≡ placed_all out.old w.cursor (section_at parameters_type (numbers_in area.now) w.next))) }
+fn put_section<const KIND: u8>(area: &[u8], w: Walk, out: &mut [u8]) -> Walk
+    requires { (has_section KIND ≡ true) × ((section_end KIND (numbers_in area.now) w.next ≤ length (numbers_in area.now)) × ((w.cursor.start ≤ w.cursor.at) × ((walked KIND (numbers_in area.now) w).cursor.at ≤ length out.old))) }
+    ensures { (result ≡ walked KIND (numbers_in area.now) w) × ((result.cursor.start ≤ result.cursor.at) × (out.new ≡ placed_all out.old w.cursor (section_at KIND (numbers_in area.now) w.next))) }
 {
     let m = hello_ends::number(area, w.next) as usize;
-    put_entries(area, w.next + 1, m, w.cursor, out)
-}
-
-// The same for the other types.
-fn put_nickname_entries(area: &[u8], i: usize, m: usize, c: Cursor, out: &mut [u8]) -> Walk
-    requires { (reach (take_many (take_sub nickname_type) m) (numbers_in area.now) i ≤ length (numbers_in area.now)) × ((c.start ≤ c.at) × ((stepped_all c (subs_at nickname_type (numbers_in area.now) i m)).at ≤ length out.old)) }
-    ensures { ((result.cursor ≡ stepped_all c (subs_at nickname_type (numbers_in area.now) i m)) × (result.next ≡ reach (take_many (take_sub nickname_type) m) (numbers_in area.now) i)) × ((result.cursor.start ≤ result.cursor.at) × (out.new ≡ placed_all out.old c (subs_at nickname_type (numbers_in area.now) i m))) }
-{
-    let mut d = c;
-    let mut at = i;
-    let mut j = 0;
-    while j < m {
-        let w = put_nickname_entry(area, at, d, out);
-        let b = w.cursor;
-        d = b;
-        at = w.next;
-        j += 1;
-    }
-    Walk {
-        cursor: d,
-        next: at,
-    }
-}
-
-fn put_nickname_section(area: &[u8], w: Walk, out: &mut [u8]) -> Walk
-    requires { (section_end nickname_type (numbers_in area.now) w.next ≤ length (numbers_in area.now)) × ((w.cursor.start ≤ w.cursor.at) × ((walked nickname_type (numbers_in area.now) w).cursor.at ≤ length out.old)) }
-    ensures { (result ≡ walked nickname_type (numbers_in area.now) w) × ((result.cursor.start ≤ result.cursor.at) × (out.new ≡ placed_all out.old w.cursor (section_at nickname_type (numbers_in area.now) w.next))) }
-{
-    let m = hello_ends::number(area, w.next) as usize;
-    put_nickname_entries(area, w.next + 1, m, w.cursor, out)
-}
-
-fn put_tree_entries(area: &[u8], i: usize, m: usize, c: Cursor, out: &mut [u8]) -> Walk
-    requires { (reach (take_many (take_sub trees_type) m) (numbers_in area.now) i ≤ length (numbers_in area.now)) × ((c.start ≤ c.at) × ((stepped_all c (subs_at trees_type (numbers_in area.now) i m)).at ≤ length out.old)) }
-    ensures { ((result.cursor ≡ stepped_all c (subs_at trees_type (numbers_in area.now) i m)) × (result.next ≡ reach (take_many (take_sub trees_type) m) (numbers_in area.now) i)) × ((result.cursor.start ≤ result.cursor.at) × (out.new ≡ placed_all out.old c (subs_at trees_type (numbers_in area.now) i m))) }
-{
-    let mut d = c;
-    let mut at = i;
-    let mut j = 0;
-    while j < m {
-        let w = put_tree_entry(area, at, d, out);
-        let b = w.cursor;
-        d = b;
-        at = w.next;
-        j += 1;
-    }
-    Walk {
-        cursor: d,
-        next: at,
-    }
-}
-
-fn put_mac_entries(area: &[u8], i: usize, m: usize, c: Cursor, out: &mut [u8]) -> Walk
-    requires { (reach (take_many (take_sub smart_mac_type) m) (numbers_in area.now) i ≤ length (numbers_in area.now)) × ((c.start ≤ c.at) × ((stepped_all c (subs_at smart_mac_type (numbers_in area.now) i m)).at ≤ length out.old)) }
-    ensures { ((result.cursor ≡ stepped_all c (subs_at smart_mac_type (numbers_in area.now) i m)) × (result.next ≡ reach (take_many (take_sub smart_mac_type) m) (numbers_in area.now) i)) × ((result.cursor.start ≤ result.cursor.at) × (out.new ≡ placed_all out.old c (subs_at smart_mac_type (numbers_in area.now) i m))) }
-{
-    let mut d = c;
-    let mut at = i;
-    let mut j = 0;
-    while j < m {
-        let w = put_mac_entry(area, at, d, out);
-        let b = w.cursor;
-        d = b;
-        at = w.next;
-        j += 1;
-    }
-    Walk {
-        cursor: d,
-        next: at,
-    }
-}
-
-fn put_tree_section(area: &[u8], w: Walk, out: &mut [u8]) -> Walk
-    requires { (section_end trees_type (numbers_in area.now) w.next ≤ length (numbers_in area.now)) × ((w.cursor.start ≤ w.cursor.at) × ((walked trees_type (numbers_in area.now) w).cursor.at ≤ length out.old)) }
-    ensures { (result ≡ walked trees_type (numbers_in area.now) w) × ((result.cursor.start ≤ result.cursor.at) × (out.new ≡ placed_all out.old w.cursor (section_at trees_type (numbers_in area.now) w.next))) }
-{
-    let m = hello_ends::number(area, w.next) as usize;
-    put_tree_entries(area, w.next + 1, m, w.cursor, out)
-}
-
-fn put_mac_section(area: &[u8], w: Walk, out: &mut [u8]) -> Walk
-    requires { (section_end smart_mac_type (numbers_in area.now) w.next ≤ length (numbers_in area.now)) × ((w.cursor.start ≤ w.cursor.at) × ((walked smart_mac_type (numbers_in area.now) w).cursor.at ≤ length out.old)) }
-    ensures { (result ≡ walked smart_mac_type (numbers_in area.now) w) × ((result.cursor.start ≤ result.cursor.at) × (out.new ≡ placed_all out.old w.cursor (section_at smart_mac_type (numbers_in area.now) w.next))) }
-{
-    let m = hello_ends::number(area, w.next) as usize;
-    put_mac_entries(area, w.next + 1, m, w.cursor, out)
+    put_entries::<KIND>(area, w.next + 1, m, w.cursor, out)
 }
 
 // The first two sections.
@@ -450,8 +241,8 @@ fn put_front(area: &[u8], out: &mut [u8]) -> Walk
     requires { (reach take_subs (numbers_in area.now) 0 ≤ length (numbers_in area.now)) × ((stepped_all unopened (subs_in (numbers_in area.now))).at ≤ length out.old) }
     ensures { (result ≡ walked nickname_type (numbers_in area.now) (walked parameters_type (numbers_in area.now) at_first)) × ((result.cursor.start ≤ result.cursor.at) × (out.new ≡ placed_all out.old unopened (front_in (numbers_in area.now)))) }
 {
-    let w = put_section(area, at_first(), out);
-    put_nickname_section(area, w, out)
+    let w = put_section::<PARAMETERS>(area, at_first(), out);
+    put_section::<NICKNAME>(area, w, out)
 }
 
 // Writes the payload.
@@ -460,8 +251,8 @@ fn put_payload(area: &[u8], out: &mut [u8])
     ensures { out.new ≡ placed_all out.old unopened (subs_in (numbers_in area.now)) }
 {
     let b = put_front(area, out);
-    let c = put_tree_section(area, b, out);
-    put_mac_section(area, c, out);
+    let c = put_section::<TREES>(area, b, out);
+    put_section::<SMART_MAC>(area, c, out);
 }
 
 // Writes the Smart-Hello of a contents area.

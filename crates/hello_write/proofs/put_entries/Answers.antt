@@ -1,19 +1,18 @@
 -- `hello_write::put_entries` meets its contract. The invariant: what is left, placed at the cursor, is the whole placed.
-use Prim.Native.Nat.{◌-◌}
 use mathlib.Core.Path.{refl}
 use Rattle.hello_ends.proofs.Shapes.{suffix_sub, many_start, many_next}
 use Rattle.hello_write.proofs.Walking.{entry_ordered, entries_start, entry_good_lem, entries_next, entries_done, entries_end, puts_start, puts_room, puts_next, puts_done}
 use borrow.Author.Rules.{rules}
 use Rattle.hello_write.proofs.put_entries.Goals as goal
 
-pub loop-j-init : goal.loop-j-init
-loop-j-init c = ((search rules, search rules), (search (many_start, suffix_sub), (search entries_start, (refl, search puts_start))))
+pub loop-init : goal.loop-init
+loop-init g c = (search rules, (search (many_start, suffix_sub), (search entries_start, (refl, search puts_start))))
 
 pub put_entry-w-requires : goal.put_entry-w-requires
-put_entry-w-requires c = (search entry_good_lem, (search rules, search puts_room))
+put_entry-w-requires g c = (search rules, (search entry_good_lem, (search rules, search puts_room)))
 
-pub loop-j-preserved : goal.loop-j-preserved
-loop-j-preserved c = ((search rules, search (entry_ordered, entry_good_lem)), (search (many_next, suffix_sub), (search entries_next, (search rules, search puts_next))))
+pub loop-preserved : goal.loop-preserved
+loop-preserved g c = (search (entry_ordered, entry_good_lem), (search (many_next, suffix_sub), (search entries_next, (search rules, search puts_next))))
 
 pub returns : goal.returns
-returns c = ((search entries_done, search entries_end), (search rules, search puts_done))
+returns g c = ((search entries_done, search entries_end), (search rules, search puts_done))

@@ -6,8 +6,5 @@ use Rattle.hello_area.specs.Entries.{numbers_in, take_sub, reach, subs_at}
 use Rattle.hello_put.specs.Placing.{stepped_all, placed_all}
 use Rattle.hello_write.proofs.put_entries.Given as goal
 
-abbrev pub invariant-loop-j : goal.invariant-loop-j
-invariant-loop-j l = ((l.j ≤ l.m) × (l.d.start ≤ l.d.at)) × ((reach (take_many (take_sub 22) (l.m - l.j)) (numbers_in l.area) l.at ≡ reach (take_many (take_sub 22) l.m) (numbers_in l.area) l.i) × ((stepped_all l.d (subs_at 22 (numbers_in l.area) l.at (l.m - l.j)) ≡ stepped_all l.initial.d (subs_at 22 (numbers_in l.area) l.i l.m)) × ((length l.out ≡ length l.initial.out) × (placed_all l.out l.d (subs_at 22 (numbers_in l.area) l.at (l.m - l.j)) ≡ placed_all l.initial.out l.initial.d (subs_at 22 (numbers_in l.area) l.i l.m)))))
-
-abbrev pub decreases-loop-j : goal.decreases-loop-j
-decreases-loop-j l = l.m - l.j
+abbrev pub invariant-loop : goal.invariant-loop
+invariant-loop g l = (l.d.start ≤ l.d.at) × ((reach (take_many (take_sub g.row.KIND) (l.m - l.counter)) (numbers_in l.area) l.at ≡ reach (take_many (take_sub g.row.KIND) l.m) (numbers_in l.area) l.i) × ((stepped_all l.d (subs_at g.row.KIND (numbers_in l.area) l.at (l.m - l.counter)) ≡ stepped_all l.initial.d (subs_at g.row.KIND (numbers_in l.area) l.i l.m)) × ((length l.out ≡ length l.initial.out) × (placed_all l.out l.d (subs_at g.row.KIND (numbers_in l.area) l.at (l.m - l.counter)) ≡ placed_all l.initial.out l.initial.d (subs_at g.row.KIND (numbers_in l.area) l.i l.m)))))

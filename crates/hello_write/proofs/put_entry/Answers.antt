@@ -1,17 +1,13 @@
 -- `hello_write::put_entry` meets its contract: the room is made, and the sub-TLV put into it.
-use Rattle.hello_entry.proofs.Puts.{parameters_inside, parameters_out, parameters_put}
-use Rattle.hello_write.proofs.Walking.{kinds, entry-stepped, entry_two, entry-head, entry_room, entry_end, entry-placed}
+use Rattle.hello_write.proofs.Walking.{entry-stepped, entry_two, entry-head, entry_room, entry_end, entry-placed}
 use borrow.Author.Rules.{rules}
 use Rattle.hello_write.proofs.put_entry.Goals as goal
 
-pub measure-e-requires : goal.measure-e-requires
-measure-e-requires c = (search kinds, search rules)
-
 pub open-r-requires : goal.open-r-requires
-open-r-requires c = (((search rules, search rules), (search entry_two, search entry-head)), search entry_room)
+open-r-requires g c = (((search rules, search rules), (search entry_two, search entry-head)), search entry_room)
 
-pub put_parameters-requires : goal.put_parameters-requires
-put_parameters-requires c = (search parameters_inside, search (parameters_out, entry_end))
+pub put_sub-requires : goal.put_sub-requires
+put_sub-requires g c = ((search rules, search rules), (search rules, search entry_end))
 
 pub returns : goal.returns
-returns c = ((search entry-stepped, search rules), search (entry-placed, parameters_put))
+returns g c = ((search entry-stepped, search rules), search entry-placed)

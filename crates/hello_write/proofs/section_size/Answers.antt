@@ -4,7 +4,7 @@ use borrow.Author.Rules.{rules}
 use Rattle.hello_write.proofs.section_size.Goals as goal
 
 pub returns-then-n-w : goal.returns-then-n-w
-returns-then-n-w c = ((search section_past, search past_follows), (search rules, search rules))
+returns-then-n-w g c = ((search section_past, search past_follows), (search rules, search rules))
 
 pub returns : goal.returns
-returns c = ((search section_next, search section_follows), (search rules, search rules))
+returns g c = ((search section_next, search section_follows), (search rules, search rules))
