@@ -61,9 +61,6 @@ module _ (k : ℕ) (d : k ≡ 22 → ⊥) (ns : List ℕ) (i n w : ℕ) (en : n 
 abbrev label_test : List ℕ → ℕ → Bool
 label_test ns i = both (ltb (get_or ns i 0) 2) (both (ltb (get_or ns (i + 1) 0) 2) (ltb (get_or ns (i + 2) 0) (label_top (get_or ns i 0))))
 
-pub label_test_lem : (ns : List ℕ) (i x y z t : ℕ) (r : Bool) → r ≡ both (ltb x 2) (both (ltb y 2) (ltb z t)) → x ≡ get_or ns i 0 → y ≡ get_or ns (i + 1) 0 → z ≡ get_or ns (i + 2) 0 → t ≡ label_top x → r ≡ label_test ns i
-label_test_lem ns i x y z t r er ex ey ez et = er ∙ rw (et, ex, ey, ez)
-
 module _ (ns : List ℕ) (i n : ℕ) (en : n ≡ length ns) where
   no_22 : ◌≡◌ {A = ℕ} 23 22 → ⊥
   no_22 e = omega arith

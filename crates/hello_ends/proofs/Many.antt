@@ -173,15 +173,9 @@ nick_steps ns i h = let e = nick_three ns i in e ∙ three_steps ns i 256 65536 
 abbrev record_test : List ℕ → ℕ → Bool
 record_test ns i = both (ltb (get_or ns i 0) 256) (both (ltb (get_or ns (i + 1) 0) 65536) (ltb (get_or ns (i + 2) 0) 65536))
 
-pub record_test_lem : (ns : List ℕ) (i x y z : ℕ) (r : Bool) → r ≡ both (ltb x 256) (both (ltb y 65536) (ltb z 65536)) → x ≡ get_or ns i 0 → y ≡ get_or ns (i + 1) 0 → z ≡ get_or ns (i + 2) 0 → r ≡ record_test ns i
-record_test_lem ns i x y z r er ex ey ez = er ∙ rw (ex, ey, ez)
-
 module _ (ns : List ℕ) (i m n : ℕ) (en : n ≡ length ns) where
   pub records_short : n < i + 3 * m → n + 1 ≡ reach (take_many (take_item 6) m) ns i
   records_short h = reach_top (take_many (take_item 6) m) ns i n en (many_short (take_item 6) (suffix_item 6) ns 3 (nick_steps ns) m i (omega arith))
-
-  pub records_start : reach (take_many (take_item 6) (m - 0)) ns (i + 3 * 0) ≡ reach (take_many (take_item 6) m) ns i
-  records_start = let a : m - 0 ≡ m = omega arith in let b : i + 3 * 0 ≡ i = omega arith in rw (a, b)
 
   module _ (room : i + 3 * m ≤ n) (j : ℕ) (inv : reach (take_many (take_item 6) (m - j)) ns (i + 3 * j) ≡ reach (take_many (take_item 6) m) ns i) where
     abbrev at : ℕ

@@ -144,12 +144,6 @@ module _ (ns : List ℕ) (i m top n : ℕ) where
     pub none : s ≡ 0 → reach (take_many (take_below top) (m - j)) ns (i + j) ≡ reach (take_many (take_below top) m) ns i
     pub some : (s ≡ 0 → ⊥) → n + 1 ≡ reach (take_many (take_below top) m) ns i
 
-  pub sums_start : Sums 0 0
-  sums_start =
-      let p : i + 0 ≡ i = omega arith in
-      let q : m - 0 ≡ m = omega arith in
-      record { none = λ z. rw (p, q); some = λ d. absurd (d refl) }
-
   module _ (en : n ≡ length ns) (room : i + m ≤ n) where
     pub sums_next : (s j : ℕ) → Sums s j → j < m → (r : ℕ) → Over top (get_or ns (i + j) 0) r → Sums (s + r) (j + 1)
     sums_next s j inv more r o = go (eqb s 0) (eqb r 0) refl refl
@@ -181,9 +175,6 @@ module _ (ns : List ℕ) (i m top n : ℕ) where
         go false e =
             let l = inv.some (eqb-false s 0 e) in
             sym (lt-leb (reach (take_many (take_below top) m) ns i) (length ns) (omega arith))
-
-pub sum_fits : (s r j top v : ℕ) → s ≤ 281474976710656 * j → j < 123 → Over top v r → s + r < 2 ^ 64
-sum_fits s r j top v h few o = let x = o.small in omega arith
 
 pub sum_next : (s r j top v : ℕ) → s ≤ 281474976710656 * j → Over top v r → s + r ≤ 281474976710656 * (j + 1)
 sum_next s r j top v h o = let x = o.small in omega arith

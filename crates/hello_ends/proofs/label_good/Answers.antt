@@ -1,6 +1,5 @@
 -- `hello_ends::label_good` meets its contract: the tests are the definition's.
 use Rattle.hello_ends.proofs.Many.{place_fits}
-use Rattle.hello_ends.proofs.Good.{label_test_lem}
 use borrow.Author.Rules.{rules}
 use Rattle.hello_ends.proofs.label_good.Goals as goal
 
@@ -9,6 +8,3 @@ overflow_add-i c = search (place_fits, rules)
 
 pub overflow_add-i-2 : goal.overflow_add-i-2
 overflow_add-i-2 c = search (place_fits, rules)
-
-pub returns : goal.returns
-returns c = search label_test_lem

@@ -1,5 +1,5 @@
 -- `hello_ends::record_good` meets its contract: the tests are the definition's.
-use Rattle.hello_ends.proofs.Many.{place_fits, record_test_lem}
+use Rattle.hello_ends.proofs.Many.{place_fits}
 use borrow.Author.Rules.{rules}
 use Rattle.hello_ends.proofs.record_good.Goals as goal
 
@@ -8,6 +8,3 @@ overflow_add-i c = search (place_fits, rules)
 
 pub overflow_add-i-2 : goal.overflow_add-i-2
 overflow_add-i-2 c = search (place_fits, rules)
-
-pub returns : goal.returns
-returns c = search record_test_lem
