@@ -173,6 +173,7 @@ fn put_mac(area: &[u8], i: usize, out: &mut [u8], at: usize)
 }
 
 // The lists. A MAC is put as eight bytes while the next one has the room: it goes over those that are too many.
+// Records and trees have a loop of one call each: the contract of a closure for both would be longer than they are.
 fn put_records(area: &[u8], i: usize, m: usize, out: &mut [u8], at: usize)
     requires { (i + 3 * m ≤ length (numbers_in area.now)) × (at + 5 * m ≤ length out.old) }
     ensures { out.new ≡ pasted out.old at (run (record_at (numbers_in area.now)) 3 i m) }

@@ -26,7 +26,7 @@ fn last<const B: usize>(v: &[u8], k: usize) -> u64
     numbers::be8(v, k + B - 8) % (1 << (8 * B))
 }
 
-// The record of a nickname: the first of a sub-TLV, and one behind it.
+// The record of a nickname: the first of a sub-TLV, whose numbers have no eight bytes that end with them, and one behind it.
 fn put_first_record(v: &[u8], out: &mut [u8], at: usize)
     requires { (5 ≤ length v.now) × (at + 24 ≤ length out.old) }
     ensures { out.new ≡ pasted out.old at (record_words (take 5 v.now)) }
