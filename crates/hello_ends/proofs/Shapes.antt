@@ -117,9 +117,6 @@ suffix_head k =
 -- ---- a loop over many
 
 module _ {A : Type 0} (p : Taker A) (s : Suffix p) (ns : List ℕ) (i m : ℕ) where
-  pub many_start : reach (take_many p (m - 0)) ns i ≡ reach (take_many p m) ns i
-  many_start = let e : m - 0 ≡ m = omega arith in ap (λ (k : ℕ). reach (take_many p k) ns i) e
-
   module _ (j at : ℕ) (inv : reach (take_many p (m - j)) ns at ≡ reach (take_many p m) ns i) where
     pub many_next : j < m → (e : ℕ) → e ≡ reach p ns at → reach (take_many p (m - (j + 1))) ns e ≡ reach (take_many p m) ns i
     many_next h e f =

@@ -1,6 +1,6 @@
 -- The walk that judges and sizes: where it is not past the end, its cursor is that of the fold.
 -- Assumes nothing.
-use Prim.Native.Nat.{ℕ, ◌+◌, ◌-◌, ◌*◌, ◌^◌, ◌<◌, ◌≤◌}
+use Prim.Native.Nat.{ℕ, ◌+◌, ◌-◌, ◌*◌, ◌<◌, ◌≤◌}
 use mathlib.Core.Bool.{Bool, true, false}
 use mathlib.Core.List.{List}
 use mathlib.Core.Path.{◌≡◌, refl, sym, ap, ◌∙◌}
@@ -14,7 +14,6 @@ use Rattle.hello.specs.Calls.{area_written}
 use Rattle.hello_area.specs.Entries.{numbers_in, holder_for, take_sub, take_subs, reach, sub_at, subs_at}
 use Rattle.hello_area.proofs.Places.{reach_none}
 use Rattle.hello_ends.specs.Below.{entry_good, refusal_of}
-use Rattle.hello_ends.proofs.Numbers.{numbers_length}
 use Rattle.hello_ends.proofs.Shapes.{suffix_sub, many_next, many_over, section_none, section_on, subs_end}
 use Rattle.hello_put.specs.declared.Cursor.{Cursor}
 use Rattle.hello_put.specs.Placing.{unopened, stepped, stepped_all}
@@ -51,9 +50,6 @@ module _ (c r : Cursor) (h n : ℕ) (er : r ≡ stepped c h n) where
 
     pub sized_next : (i m j : ℕ) → j < m → (d : Cursor) → stepped_all c (subs_at k (numbers_in area) at (m - j)) ≡ stepped_all d (subs_at k (numbers_in area) i m) → (e : ℕ) → e ≡ reach (take_sub k) (numbers_in area) at → stepped_all r (subs_at k (numbers_in area) e (m - (j + 1))) ≡ stepped_all d (subs_at k (numbers_in area) i m)
     sized_next i m j more d inv = entries_next k (numbers_in area) i m j at more d c inv r (entry-stepped k area at good c h n eh en r er)
-
-pub walk_small : (area : List ℕ) (at x : ℕ) → x ≤ 9 * at → at ≤ length (numbers_in area) → length area * 1 < 2 ^ 63 → x < 3 * 2 ^ 62
-walk_small area at x h inside few = let n = numbers_length area in omega arith
 
 module _ (k : ℕ) (ns : List ℕ) (i m j at n : ℕ) (en : n ≡ length ns) (inv : reach (take_many (take_sub k) (m - j)) ns at ≡ reach (take_many (take_sub k) m) ns i) where
   pub entry_past : j < m → (e : ℕ) → e ≡ reach (take_sub k) ns at → n < e → (r : Walk) → r.next ≡ n + 1 → r.next ≡ reach (take_many (take_sub k) m) ns i

@@ -129,13 +129,7 @@ module _ (k : ℕ) (area : List ℕ) (i : ℕ) (good : reach (take_sub k) (numbe
 
 -- ---- the loop over entries
 
-sub_zero : (m : ℕ) → m - 0 ≡ m
-sub_zero m = omega arith
-
 module _ (k : ℕ) (ns : List ℕ) (i m : ℕ) where
-  pub entries_start : (c : Cursor) → stepped_all c (subs_at k ns i (m - 0)) ≡ stepped_all c (subs_at k ns i m)
-  entries_start c = ap (λ (n : ℕ). stepped_all c (subs_at k ns i n)) (sub_zero m)
-
   module _ (j at : ℕ) (more : j < m) where
     left : m - j ≡ suc (m - (j + 1))
     left = omega arith
@@ -164,9 +158,6 @@ module _ (k : ℕ) (ns : List ℕ) (i m : ℕ) where
 
 -- the same with the area
 module _ (k : ℕ) (ns : List ℕ) (i m : ℕ) where
-  pub puts_start : (c : Cursor) (o : List ℕ) → placed_all o c (subs_at k ns i (m - 0)) ≡ placed_all o c (subs_at k ns i m)
-  puts_start c o = ap (λ (n : ℕ). placed_all o c (subs_at k ns i n)) (sub_zero m)
-
   module _ (j at : ℕ) (more : j < m) (c d : Cursor) where
     pub puts_room : stepped_all d (subs_at k ns at (m - j)) ≡ stepped_all c (subs_at k ns i m) → (out o : List ℕ) → (stepped_all c (subs_at k ns i m)).at ≤ length out → length o ≡ length out → (stepped_by d (sub_at k ns at)).at ≤ length o
     unfolding subs_at stepped_all

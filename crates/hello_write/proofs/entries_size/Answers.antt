@@ -1,21 +1,11 @@
 -- `hello_write::entries_size` meets its contract. The invariant: what is left to take reaches where the whole does, the cursor, moved over it, is where the whole ends; and no number brings more than nine bytes.
-use Rattle.hello_ends.proofs.Shapes.{suffix_sub, many_start, many_next}
-use Rattle.hello_write.proofs.Walking.{entries_start}
-use Rattle.hello_write.proofs.Sizing.{past_follows, good_within, bad_past, next_within, sized_ordered, sized_most, sized_next, walk_small, entry_bad, walk_done, walk_follows}
+use Rattle.hello_ends.proofs.Shapes.{suffix_sub, many_next}
+use Rattle.hello_write.proofs.Sizing.{past_follows, good_within, bad_past, next_within, sized_ordered, sized_most, sized_next, entry_bad, walk_done, walk_follows}
 use borrow.Author.Rules.{rules}
 use Rattle.hello_write.proofs.entries_size.Goals as goal
 
-pub loop-init : goal.loop-init
-loop-init g c = ((search rules, (search rules, search rules)), (search (many_start, suffix_sub), search entries_start))
-
 pub returns-then-not-entry_good : goal.returns-then-not-entry_good
 returns-then-not-entry_good g c = ((search (entry_bad, bad_past), search past_follows), (search rules, search rules))
-
-pub measure-e-requires : goal.measure-e-requires
-measure-e-requires g c = (search rules, search good_within)
-
-pub step-d-requires : goal.step-d-requires
-step-d-requires g c = (search rules, (search walk_small, search rules))
 
 pub loop-preserved : goal.loop-preserved
 loop-preserved g c = ((search (next_within, good_within), (search sized_ordered, search (sized_most, good_within))), (search (many_next, suffix_sub), search (sized_next, good_within)))

@@ -1,12 +1,8 @@
 -- `hello_write::put_entries` meets its contract. The invariant: what is left, placed at the cursor, is the whole placed.
-use mathlib.Core.Path.{refl}
-use Rattle.hello_ends.proofs.Shapes.{suffix_sub, many_start, many_next}
-use Rattle.hello_write.proofs.Walking.{entry_ordered, entries_start, entry_good_lem, entries_next, entries_done, entries_end, puts_start, puts_room, puts_next, puts_done}
+use Rattle.hello_ends.proofs.Shapes.{suffix_sub, many_next}
+use Rattle.hello_write.proofs.Walking.{entry_ordered, entry_good_lem, entries_next, entries_done, entries_end, puts_room, puts_next, puts_done}
 use borrow.Author.Rules.{rules}
 use Rattle.hello_write.proofs.put_entries.Goals as goal
-
-pub loop-init : goal.loop-init
-loop-init g c = (search rules, (search (many_start, suffix_sub), (search entries_start, (refl, search puts_start))))
 
 pub put_entry-w-requires : goal.put_entry-w-requires
 put_entry-w-requires g c = (search rules, (search entry_good_lem, (search rules, search puts_room)))
