@@ -39,28 +39,20 @@ pub fn label_at(map: &[u8], at: usize) -> CampusLabel
 pub fn label_for(map: &[u8], v: PortVlan) -> LabelFound
     ensures { label_as result ≡ label_for (pairs_in map.now) v }
 {
-    let mut at = 0;
-    while PAIR_BYTES <= map.len() - at {
-        let here = vlan_at(map, at);
-        if here.0 == v.0 {
-            return LabelFound::Label(label_at(map, at));
-        }
-        at += PAIR_BYTES;
+    let mut pairs = map.chunks_exact(PAIR_BYTES);
+    match pairs.find(|pair| vlan_at(pair, 0).0 == v.0) {
+        Some(pair) => LabelFound::Label(label_at(pair, 0)),
+        None => LabelFound::Missing,
     }
-    LabelFound::Missing
 }
 
 // The VLAN of a label.
 pub fn vlan_for(map: &[u8], l: CampusLabel) -> VlanFound
     ensures { vlan_as result ≡ vlan_for (pairs_in map.now) l }
 {
-    let mut at = 0;
-    while PAIR_BYTES <= map.len() - at {
-        let here = label_at(map, at);
-        if here.0 == l.0 {
-            return VlanFound::Vlan(vlan_at(map, at));
-        }
-        at += PAIR_BYTES;
+    let mut pairs = map.chunks_exact(PAIR_BYTES);
+    match pairs.find(|pair| label_at(pair, 0).0 == l.0) {
+        Some(pair) => VlanFound::Vlan(vlan_at(pair, 0)),
+        None => VlanFound::Missing,
     }
-    VlanFound::Missing
 }

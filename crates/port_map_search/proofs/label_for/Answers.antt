@@ -1,18 +1,15 @@
--- `port_map_search::label_for` meets its contract. The invariant: what is sought is found in the map as it is from `at` on.
-use Prim.Native.Nat.{◌-◌}
-use mathlib.Core.Path.{refl}
-use Rattle.port_map_search.proofs.Laws.{label_hit, label_next, labels_done}
-use borrow.Author.Rules.{rules}
+-- `port_map_search::label_for` meets its contract: `find` stops at the first pair that is the one sought.
+use Rattle.std.proofs.Common.{rules, tests, ap, ◌∙◌}
+use Rattle.numbers.specs.Result.{got}
+use Rattle.port_map_search.proofs.Pairs.{label_found}
 use Rattle.port_map_search.proofs.label_for.Goals as goal
 
-pub loop-at-init : goal.loop-at-init
-loop-at-init c = (search rules, refl)
+pub returns-in-Some : goal.returns-in-Some
+returns-in-Some c =
+    let n = c.chunks_exact-pairs.ensures in
+    ap got c.label_at.ensures ∙ (rw c.in-Some.is at (label_found c.find.result _ c.args.map.now c.args.v n.size n.rest c.find.ensures.ran (λ x b q k. search (rules, tests))))
 
-pub returns-then-here-v : goal.returns-then-here-v
-returns-then-here-v c = search label_hit
-
-pub loop-at-preserved : goal.loop-at-preserved
-loop-at-preserved c = (search rules, search label_next)
-
-pub returns : goal.returns
-returns c = search labels_done
+pub returns-in-None : goal.returns-in-None
+returns-in-None c =
+    let n = c.chunks_exact-pairs.ensures in
+    rw c.in-None.is at (label_found c.find.result _ c.args.map.now c.args.v n.size n.rest c.find.ensures.ran (λ x b q k. search (rules, tests)))

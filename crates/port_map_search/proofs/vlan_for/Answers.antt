@@ -1,18 +1,15 @@
--- `port_map_search::vlan_for` meets its contract. The invariant: what is sought is found in the map as it is from `at` on.
-use Prim.Native.Nat.{◌-◌}
-use mathlib.Core.Path.{refl}
-use Rattle.port_map_search.proofs.Laws.{vlan_hit, vlan_next, vlans_done}
-use borrow.Author.Rules.{rules}
+-- `port_map_search::vlan_for` meets its contract: `find` stops at the first pair that is the one sought.
+use Rattle.std.proofs.Common.{rules, tests, ap, ◌∙◌}
+use Rattle.numbers.specs.Result.{got}
+use Rattle.port_map_search.proofs.Pairs.{vlan_found}
 use Rattle.port_map_search.proofs.vlan_for.Goals as goal
 
-pub loop-at-init : goal.loop-at-init
-loop-at-init c = (search rules, refl)
+pub returns-in-Some : goal.returns-in-Some
+returns-in-Some c =
+    let n = c.chunks_exact-pairs.ensures in
+    ap got c.vlan_at.ensures ∙ (rw c.in-Some.is at (vlan_found c.find.result _ c.args.map.now c.args.l n.size n.rest c.find.ensures.ran (λ x b q k. search (rules, tests))))
 
-pub returns-then-here-l : goal.returns-then-here-l
-returns-then-here-l c = search vlan_hit
-
-pub loop-at-preserved : goal.loop-at-preserved
-loop-at-preserved c = (search rules, search vlan_next)
-
-pub returns : goal.returns
-returns c = search vlans_done
+pub returns-in-None : goal.returns-in-None
+returns-in-None c =
+    let n = c.chunks_exact-pairs.ensures in
+    rw c.in-None.is at (vlan_found c.find.result _ c.args.map.now c.args.l n.size n.rest c.find.ensures.ran (λ x b q k. search (rules, tests)))
