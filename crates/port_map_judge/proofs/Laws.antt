@@ -103,21 +103,19 @@ module _ (q p : PortVlan) (is : p ≡ q) (g : Bool) (e : g ≡ vlan_good p.0) wh
 
 -- ---- all VLANs
 
-pub record Seen (m : List ℕ) (left : ℕ) (s : List ℕ) : Type 0 where
-  pub whole : left % pair_bytes ≡ 0
-  pub within : left ≤ length m
+pub record Seen (m : List ℕ) (j : ℕ) (s : List ℕ) : Type 0 where
+  pub within : pair_bytes * j ≤ length m
   pub long : length s ≡ seen_bytes
-  pub once : good_once vlan_good (vlans_in (drop left m)) ≡ true
-  pub bits : (x : ℕ) → bit_at x s ≡ any_of (eqb x) (vlans_in (drop left m))
+  pub once : good_once vlan_good (vlans_in (drop (pair_bytes * j) m)) ≡ true
+  pub bits : (x : ℕ) → bit_at x s ≡ any_of (eqb x) (vlans_in (drop (pair_bytes * j) m))
 
-pub seen_start : (m s : List ℕ) → length m % pair_bytes ≡ 0 → length s ≡ seen_bytes → ((x : ℕ) → bit_at x s ≡ false) → Seen m (length m) s
+pub seen_start : (m s : List ℕ) → length s ≡ seen_bytes → ((x : ℕ) → bit_at x s ≡ false) → Seen m (length m / pair_bytes) s
 unfolding any_of
-seen_start m s w l none = record {
-  whole = w;
+seen_start m s l none = record {
   within = omega arith;
   long = l;
-  once = once_none vlan_good vlan_of m (length m) (omega arith);
-  bits = λ x. none x ∙ sym (ap (λ (ps : List Pair). any_of (eqb x) (map vlan_of ps)) (pairs_done m (length m) (omega arith)));
+  once = once_none vlan_good vlan_of m (pair_bytes * (length m / pair_bytes)) (omega arith);
+  bits = λ x. none x ∙ sym (ap (λ (ps : List Pair). any_of (eqb x) (map vlan_of ps)) (pairs_done m (pair_bytes * (length m / pair_bytes)) (omega arith)));
 }
 
 within-one : (v x : ℕ) (b : Bool) → eqb x v ≡ b → both (leb v x) (leb (suc x) (v + 1)) ≡ b
@@ -142,55 +140,49 @@ no_more true true = refl
 no_more true false = refl
 no_more false b = refl
 
-module _ (m : List ℕ) (left : ℕ) (s : List ℕ) (i : Seen m left s) (some : 0 < left) where
-  pub seen_room : pair_bytes ≤ left
-  seen_room = let w = i.whole in omega arith
+module _ (m : List ℕ) (j : ℕ) (s : List ℕ) (i : Seen m j s) (some : 0 < j) where
+  pub seen_in : pair_bytes * (j - 1) + pair_bytes ≤ length m
+  seen_in = let k = i.within in omega arith
 
-  pub seen_in : left - pair_bytes + pair_bytes ≤ length m
-  seen_in = let w = i.whole in let k = i.within in omega arith
+  same : pair_bytes * (j - 1) + pair_bytes ≡ pair_bytes * j
+  same = omega arith
 
-  same : left - pair_bytes + pair_bytes ≡ left
-  same = let w = i.whole in omega arith
-
-  module _ (t : List ℕ) (r : Bool) (n : Noted (pair_at m (left - pair_bytes)).vlan.0 s t r) where
+  module _ (t : List ℕ) (r : Bool) (n : Noted (pair_at m (pair_bytes * (j - 1))).vlan.0 s t r) where
     abbrev v : ℕ
-    v = vlan_of (pair_at m (left - pair_bytes))
+    v = vlan_of (pair_at m (pair_bytes * (j - 1)))
 
-    step : good_once vlan_good (vlans_in (drop (left - pair_bytes) m)) ≡ r
+    step : good_once vlan_good (vlans_in (drop (pair_bytes * (j - 1)) m)) ≡ r
     step =
-        once_at vlan_good vlan_of m (left - pair_bytes) seen_in
+        once_at vlan_good vlan_of m (pair_bytes * (j - 1)) seen_in
         ∙ rw (same, i.once, ← i.bits v)
         (no_more (vlan_good v) (bit_at v s) ∙ sym n.says)
 
     pub seen_bad : r ≡ false → false ≡ good_once vlan_good (vlans_in m)
     seen_bad h =
-        let w = i.whole in
         let k = i.within in
-        sym (once_from vlan_good vlan_of m (left - pair_bytes) (omega arith) (omega arith) (step ∙ h))
+        sym (once_from vlan_good vlan_of m (pair_bytes * (j - 1)) (omega arith) (omega arith) (step ∙ h))
 
-    more : (x : ℕ) → any_of (eqb x) (vlans_in (drop (left - pair_bytes) m)) ≡ either (eqb x v) (any_of (eqb x) (vlans_in (drop left m)))
+    more : (x : ℕ) → any_of (eqb x) (vlans_in (drop (pair_bytes * (j - 1)) m)) ≡ either (eqb x v) (any_of (eqb x) (vlans_in (drop (pair_bytes * j) m)))
     unfolding any_of
-    more x = rw (pairs_at m (left - pair_bytes) seen_in, same)
+    more x = rw (pairs_at m (pair_bytes * (j - 1)) seen_in, same)
 
-    pub seen_next : r ≡ true → Seen m (left - pair_bytes) t
+    pub seen_next : r ≡ true → Seen m (j - 1) t
     seen_next h =
-        let w = i.whole in
         let k = i.within in
         let a = n.added h in
         record {
-          whole = omega arith;
           within = omega arith;
           long = a.long ∙ i.long;
           once = step ∙ h;
           bits = λ x.
               range_tells s t _ _ a x
               ∙ rw (i.bits x, within-one v x (eqb x v) refl)
-              (swap (any_of (eqb x) (vlans_in (drop left m))) (eqb x v) ∙ sym (more x));
+              (swap (any_of (eqb x) (vlans_in (drop (pair_bytes * j) m))) (eqb x v) ∙ sym (more x));
         }
 
-pub seen_done : (m : List ℕ) (s : List ℕ) (left : ℕ) → Seen m left s → left ≤ 0 → true ≡ good_once vlan_good (vlans_in m)
-seen_done m s left i h =
-    let z : left ≡ 0 = omega arith in
+pub seen_done : (m : List ℕ) (s : List ℕ) (j : ℕ) → Seen m j s → j ≤ 0 → true ≡ good_once vlan_good (vlans_in m)
+seen_done m s j i h =
+    let z : pair_bytes * j ≡ 0 = omega arith in
     sym (ap (λ (n : ℕ). good_once vlan_good (vlans_in (drop n m))) (sym z) ∙ i.once)
 
 -- ---- labels
@@ -348,23 +340,21 @@ module _ (q p : CampusLabel) (is : p ≡ q) (l s : List ℕ) where
     mark_new f t r = subst (λ (x : CampusLabel). LabelNoted x.0 l s t true) is (record { says = rw (le-leb p.0 last_fine fits, ← eb, f); added = λ z. r })
 
 -- no number, no bit
-met_none : (h : ℕ → ℕ) (m s : List ℕ) → MetAt h (labels_in (drop (length m) m)) s
+met_none : (h : ℕ → ℕ) (m s : List ℕ) → MetAt h (labels_in (drop (pair_bytes * (length m / pair_bytes)) m)) s
 unfolding any_of
-met_none h m s x e = never (sym (ap (λ (ps : List Pair). any_of (eqb x) (map label_of ps)) (pairs_done m (length m) (omega arith))) ∙ e)
+met_none h m s x e = never (sym (ap (λ (ps : List Pair). any_of (eqb x) (map label_of ps)) (pairs_done m (pair_bytes * (length m / pair_bytes)) (omega arith))) ∙ e)
 
-pub record Marked (m : List ℕ) (left : ℕ) (s : List ℕ) : Type 0 where
-  pub whole : left % pair_bytes ≡ 0
-  pub within : left ≤ length m
+pub record Marked (m : List ℕ) (j : ℕ) (s : List ℕ) : Type 0 where
+  pub within : pair_bytes * j ≤ length m
   pub long : length s ≡ met_bytes
-  pub once : good_once fine_good (labels_in (drop left m)) ≡ true
-  pub met : Met (labels_in (drop left m)) s
+  pub once : good_once fine_good (labels_in (drop (pair_bytes * j) m)) ≡ true
+  pub met : Met (labels_in (drop (pair_bytes * j) m)) s
 
-pub marked_start : (m s : List ℕ) → length m % pair_bytes ≡ 0 → length s ≡ met_bytes → Marked m (length m) s
-marked_start m s w l = record {
-  whole = w;
+pub marked_start : (m s : List ℕ) → length s ≡ met_bytes → Marked m (length m / pair_bytes) s
+marked_start m s l = record {
   within = omega arith;
   long = l;
-  once = once_none fine_good label_of m (length m) (omega arith);
+  once = once_none fine_good label_of m (pair_bytes * (length m / pair_bytes)) (omega arith);
   met = met_none (λ x. x % 16384) m s;
 }
 
@@ -382,59 +372,54 @@ met_more h l k x s t more met a y e =
     (sym (more y) ∙ e)
 
 -- the pair before those whose labels are good and stand once
-module _ (m : List ℕ) (left : ℕ) (w : left % pair_bytes ≡ 0) (k : left ≤ length m) (o : good_once fine_good (labels_in (drop left m)) ≡ true) (some : 0 < left) where
+module _ (m : List ℕ) (j : ℕ) (k : pair_bytes * j ≤ length m) (o : good_once fine_good (labels_in (drop (pair_bytes * j) m)) ≡ true) (some : 0 < j) where
   abbrev last : ℕ
-  last = label_of (pair_at m (left - pair_bytes))
+  last = label_of (pair_at m (pair_bytes * (j - 1)))
 
-  last_in : left - pair_bytes + pair_bytes ≤ length m
+  last_in : pair_bytes * (j - 1) + pair_bytes ≤ length m
   last_in = omega arith
 
-  back : left - pair_bytes + pair_bytes ≡ left
+  back : pair_bytes * (j - 1) + pair_bytes ≡ pair_bytes * j
   back = omega arith
 
-  more_labels : (y : ℕ) → any_of (eqb y) (labels_in (drop (left - pair_bytes) m)) ≡ either (eqb y last) (any_of (eqb y) (labels_in (drop left m)))
+  more_labels : (y : ℕ) → any_of (eqb y) (labels_in (drop (pair_bytes * (j - 1)) m)) ≡ either (eqb y last) (any_of (eqb y) (labels_in (drop (pair_bytes * j) m)))
   unfolding any_of
-  more_labels y = rw (pairs_at m (left - pair_bytes) last_in, back)
+  more_labels y = rw (pairs_at m (pair_bytes * (j - 1)) last_in, back)
 
-  module _ (r : Bool) (says : r ≡ both (fine_good last) (not (any_of (eqb last) (labels_in (drop (left - pair_bytes + pair_bytes) m))))) where
-    label_step : good_once fine_good (labels_in (drop (left - pair_bytes) m)) ≡ r
+  module _ (r : Bool) (says : r ≡ both (fine_good last) (not (any_of (eqb last) (labels_in (drop (pair_bytes * (j - 1) + pair_bytes) m))))) where
+    label_step : good_once fine_good (labels_in (drop (pair_bytes * (j - 1)) m)) ≡ r
     label_step =
-        once_at fine_good label_of m (left - pair_bytes) last_in
-        ∙ rw (back, o) (no_more (fine_good last) (any_of (eqb last) (labels_in (drop left m))) ∙ sym (rw back at says))
+        once_at fine_good label_of m (pair_bytes * (j - 1)) last_in
+        ∙ rw (back, o) (no_more (fine_good last) (any_of (eqb last) (labels_in (drop (pair_bytes * j) m))) ∙ sym (rw back at says))
 
     last_bad : r ≡ false → false ≡ good_once fine_good (labels_in m)
-    last_bad h = sym (once_from fine_good label_of m (left - pair_bytes) (omega arith) (omega arith) (label_step ∙ h))
+    last_bad h = sym (once_from fine_good label_of m (pair_bytes * (j - 1)) (omega arith) (omega arith) (label_step ∙ h))
 
-module _ (m : List ℕ) (left : ℕ) (s : List ℕ) (i : Marked m left s) (some : 0 < left) where
-  pub marked_room : pair_bytes ≤ left
-  marked_room = let w = i.whole in omega arith
+module _ (m : List ℕ) (j : ℕ) (s : List ℕ) (i : Marked m j s) (some : 0 < j) where
+  pub marked_in : pair_bytes * (j - 1) + pair_bytes ≤ length m
+  marked_in = last_in m j i.within i.once some
 
-  pub marked_in : left - pair_bytes + pair_bytes ≤ length m
-  marked_in = last_in m left i.whole i.within i.once some
+  pub marked_met : Met (labels_in (drop (pair_bytes * (j - 1) + pair_bytes) m)) s
+  marked_met = rw (back m j i.within i.once some) i.met
 
-  pub marked_met : Met (labels_in (drop (left - pair_bytes + pair_bytes) m)) s
-  marked_met = rw (back m left i.whole i.within i.once some) i.met
-
-  module _ (t : List ℕ) (r : Bool) (n : LabelNoted (pair_at m (left - pair_bytes)).label.0 (labels_in (drop (left - pair_bytes + pair_bytes) m)) s t r) where
+  module _ (t : List ℕ) (r : Bool) (n : LabelNoted (pair_at m (pair_bytes * (j - 1))).label.0 (labels_in (drop (pair_bytes * (j - 1) + pair_bytes) m)) s t r) where
     pub marked_bad : r ≡ false → false ≡ good_once fine_good (labels_in m)
-    marked_bad = last_bad m left i.whole i.within i.once some r n.says
+    marked_bad = last_bad m j i.within i.once some r n.says
 
-    pub marked_next : r ≡ true → Marked m (left - pair_bytes) t
+    pub marked_next : r ≡ true → Marked m (j - 1) t
     marked_next h =
-        let w = i.whole in
         let k = i.within in
         let a = n.added h in
         record {
-          whole = omega arith;
           within = omega arith;
           long = a.long ∙ i.long;
-          once = label_step m left i.whole i.within i.once some r n.says ∙ h;
-          met = met_more (λ x. x % 16384) (labels_in (drop left m)) (labels_in (drop (left - pair_bytes) m)) _ s t (more_labels m left i.whole i.within i.once some) i.met a;
+          once = label_step m j i.within i.once some r n.says ∙ h;
+          met = met_more (λ x. x % 16384) (labels_in (drop (pair_bytes * j) m)) (labels_in (drop (pair_bytes * (j - 1)) m)) _ s t (more_labels m j i.within i.once some) i.met a;
         }
 
-pub marked_done : (m : List ℕ) (s : List ℕ) (left : ℕ) → Marked m left s → left ≤ 0 → true ≡ good_once fine_good (labels_in m)
-marked_done m s left i h =
-    let z : left ≡ 0 = omega arith in
+pub marked_done : (m : List ℕ) (s : List ℕ) (j : ℕ) → Marked m j s → j ≤ 0 → true ≡ good_once fine_good (labels_in m)
+marked_done m s j i h =
+    let z : pair_bytes * j ≡ 0 = omega arith in
     sym (ap (λ (n : ℕ). good_once fine_good (labels_in (drop n m))) (sym z) ∙ i.once)
 
 -- ---- labels of long maps
@@ -460,63 +445,56 @@ module _ (q p : CampusLabel) (is : p ≡ q) (l s u : List ℕ) where
     unfolding both
     both_new f t v a c = subst (λ (x : CampusLabel). LabelNotedTwice x.0 l s t u v true) is (record { says = rw (le-leb p.0 last_fine fits, ← eb, f); low = λ z. a; high = λ z. c })
 
-pub record MarkedTwice (m : List ℕ) (left : ℕ) (s u : List ℕ) : Type 0 where
-  pub whole : left % pair_bytes ≡ 0
-  pub within : left ≤ length m
+pub record MarkedTwice (m : List ℕ) (j : ℕ) (s u : List ℕ) : Type 0 where
+  pub within : pair_bytes * j ≤ length m
   pub long_low : length s ≡ low_bytes
   pub long_high : length u ≡ high_bytes
-  pub once : good_once fine_good (labels_in (drop left m)) ≡ true
-  pub low : MetAt low_of (labels_in (drop left m)) s
-  pub high : MetAt high_of (labels_in (drop left m)) u
+  pub once : good_once fine_good (labels_in (drop (pair_bytes * j) m)) ≡ true
+  pub low : MetAt low_of (labels_in (drop (pair_bytes * j) m)) s
+  pub high : MetAt high_of (labels_in (drop (pair_bytes * j) m)) u
 
-pub twice_start : (m s u : List ℕ) → length m % pair_bytes ≡ 0 → length s ≡ low_bytes → length u ≡ high_bytes → MarkedTwice m (length m) s u
-twice_start m s u w l h = record {
-  whole = w;
+pub twice_start : (m s u : List ℕ) → length s ≡ low_bytes → length u ≡ high_bytes → MarkedTwice m (length m / pair_bytes) s u
+twice_start m s u l h = record {
   within = omega arith;
   long_low = l;
   long_high = h;
-  once = once_none fine_good label_of m (length m) (omega arith);
+  once = once_none fine_good label_of m (pair_bytes * (length m / pair_bytes)) (omega arith);
   low = met_none low_of m s;
   high = met_none high_of m u;
 }
 
-module _ (m : List ℕ) (left : ℕ) (s u : List ℕ) (i : MarkedTwice m left s u) (some : 0 < left) where
-  pub twice_room : pair_bytes ≤ left
-  twice_room = let w = i.whole in omega arith
+module _ (m : List ℕ) (j : ℕ) (s u : List ℕ) (i : MarkedTwice m j s u) (some : 0 < j) where
+  pub twice_in : pair_bytes * (j - 1) + pair_bytes ≤ length m
+  twice_in = last_in m j i.within i.once some
 
-  pub twice_in : left - pair_bytes + pair_bytes ≤ length m
-  twice_in = last_in m left i.whole i.within i.once some
+  pub twice_low : MetAt low_of (labels_in (drop (pair_bytes * (j - 1) + pair_bytes) m)) s
+  twice_low = rw (back m j i.within i.once some) i.low
 
-  pub twice_low : MetAt low_of (labels_in (drop (left - pair_bytes + pair_bytes) m)) s
-  twice_low = rw (back m left i.whole i.within i.once some) i.low
+  pub twice_high : MetAt high_of (labels_in (drop (pair_bytes * (j - 1) + pair_bytes) m)) u
+  twice_high = rw (back m j i.within i.once some) i.high
 
-  pub twice_high : MetAt high_of (labels_in (drop (left - pair_bytes + pair_bytes) m)) u
-  twice_high = rw (back m left i.whole i.within i.once some) i.high
-
-  module _ (t v : List ℕ) (r : Bool) (n : LabelNotedTwice (pair_at m (left - pair_bytes)).label.0 (labels_in (drop (left - pair_bytes + pair_bytes) m)) s t u v r) where
+  module _ (t v : List ℕ) (r : Bool) (n : LabelNotedTwice (pair_at m (pair_bytes * (j - 1))).label.0 (labels_in (drop (pair_bytes * (j - 1) + pair_bytes) m)) s t u v r) where
     pub twice_bad : r ≡ false → false ≡ good_once fine_good (labels_in m)
-    twice_bad = last_bad m left i.whole i.within i.once some r n.says
+    twice_bad = last_bad m j i.within i.once some r n.says
 
-    pub twice_next : r ≡ true → MarkedTwice m (left - pair_bytes) t v
+    pub twice_next : r ≡ true → MarkedTwice m (j - 1) t v
     twice_next h =
-        let w = i.whole in
         let k = i.within in
         let a = n.low h in
         let c = n.high h in
-        let more = more_labels m left i.whole i.within i.once some in
+        let more = more_labels m j i.within i.once some in
         record {
-          whole = omega arith;
           within = omega arith;
           long_low = a.long ∙ i.long_low;
           long_high = c.long ∙ i.long_high;
-          once = label_step m left i.whole i.within i.once some r n.says ∙ h;
-          low = met_more low_of (labels_in (drop left m)) (labels_in (drop (left - pair_bytes) m)) _ s t more i.low a;
-          high = met_more high_of (labels_in (drop left m)) (labels_in (drop (left - pair_bytes) m)) _ u v more i.high c;
+          once = label_step m j i.within i.once some r n.says ∙ h;
+          low = met_more low_of (labels_in (drop (pair_bytes * j) m)) (labels_in (drop (pair_bytes * (j - 1)) m)) _ s t more i.low a;
+          high = met_more high_of (labels_in (drop (pair_bytes * j) m)) (labels_in (drop (pair_bytes * (j - 1)) m)) _ u v more i.high c;
         }
 
-pub twice_done : (m s u : List ℕ) (left : ℕ) → MarkedTwice m left s u → left ≤ 0 → true ≡ good_once fine_good (labels_in m)
-twice_done m s u left i h =
-    let z : left ≡ 0 = omega arith in
+pub twice_done : (m s u : List ℕ) (j : ℕ) → MarkedTwice m j s u → j ≤ 0 → true ≡ good_once fine_good (labels_in m)
+twice_done m s u j i h =
+    let z : pair_bytes * j ≡ 0 = omega arith in
     sym (ap (λ (n : ℕ). good_once fine_good (labels_in (drop n m))) (sym z) ∙ i.once)
 
 -- ---- the whole map

@@ -50,10 +50,8 @@ fn vlans_noted(map: &[u8], seen: &mut [u8]) -> bool
     requires { (length map.now % pair_bytes ≡ 0) × ((length seen.old ≡ seen_bytes) × ((x : ℕ) → bit_at x seen.old ≡ false)) }
     ensures { result ≡ good_once vlan_good (vlans_in map.now) }
 {
-    let mut left = map.len();
-    while 0 < left {
-        left -= PAIR_BYTES;
-        if !note_vlan(map, left, seen) {
+    for i in (0..map.len() / PAIR_BYTES).rev() {
+        if !note_vlan(map, PAIR_BYTES * i, seen) {
             return false;
         }
     }
@@ -163,10 +161,8 @@ fn labels_noted(map: &[u8], met: &mut [u8]) -> bool
     requires { (length map.now % pair_bytes ≡ 0) × (length met.old ≡ met_bytes) }
     ensures { result ≡ good_once fine_good (labels_in map.now) }
 {
-    let mut left = map.len();
-    while 0 < left {
-        left -= PAIR_BYTES;
-        if !note_label(map, left, met) {
+    for i in (0..map.len() / PAIR_BYTES).rev() {
+        if !note_label(map, PAIR_BYTES * i, met) {
             return false;
         }
     }
@@ -198,9 +194,7 @@ fn make_keys(map: &[u8], keys: &mut [u64]) -> bool
     requires { (length map.now ≡ pair_bytes * length keys.old) × (length keys.old ≤ most_keys) }
     ensures { Keyed map.now keys.new result }
 {
-    let mut i = keys.len();
-    while 0 < i {
-        i -= 1;
+    for i in (0..keys.len()).rev() {
         let l = port_map_search::label_at(map, PAIR_BYTES * i);
         if LAST_FINE < l.0 as u64 {
             return false;
@@ -215,14 +209,12 @@ fn keys_apart(keys: &[u64]) -> bool
     requires { Sorted keys.now }
     ensures { Parted keys.now result }
 {
-    let mut i = 1;
-    while i < keys.len() {
+    for i in 1..keys.len() {
         let a = keys[i - 1];
         let b = keys[i];
         if (a / KEY_PAIRS == b / KEY_PAIRS) & (a != b) {
             return false;
         }
-        i += 1;
     }
     true
 }
@@ -307,16 +299,15 @@ fn labels_noted_twice(map: &[u8], low: &mut [u8], high: &mut [u8]) -> bool
     requires { ((length map.now % pair_bytes ≡ 0) × (length map.now ≤ pair_bytes * most_keys)) × ((length low.old ≡ low_bytes) × (length high.old ≡ high_bytes)) }
     ensures { result ≡ good_once fine_good (labels_in map.now) }
 {
-    let mut left = map.len();
     let mut doubts = 0;
-    while 0 < left {
+    for i in (0..map.len() / PAIR_BYTES).rev() {
         if MOST_DOUBTS < doubts {
             return labels_by_keys(map);
         }
-        left -= PAIR_BYTES;
-        let l = port_map_search::label_at(map, left);
+        let at = PAIR_BYTES * i;
+        let l = port_map_search::label_at(map, at);
         doubts += flush_sort::one(is_doubtful(l, low, high));
-        if !note_label_twice(map, left, low, high) {
+        if !note_label_twice(map, at, low, high) {
             return false;
         }
     }

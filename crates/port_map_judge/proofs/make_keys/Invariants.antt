@@ -5,6 +5,3 @@ use Rattle.port_map_judge.proofs.make_keys.Given as goal
 
 abbrev pub invariant-loop-i : goal.invariant-loop-i
 invariant-loop-i l = (length l.keys ≡ length l.initial.keys) × Making l.map l.keys l.i
-
-abbrev pub decreases-loop-i : goal.decreases-loop-i
-decreases-loop-i l = l.i
