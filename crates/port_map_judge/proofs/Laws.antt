@@ -3,13 +3,14 @@
 -- Assumes nothing.
 use Prim.Native.Nat.{ℕ, zero, suc, ◌+◌, ◌-◌, ◌*◌, ◌/◌, ◌%◌, ◌^◌, ◌≤◌, ◌<◌}
 use native.Mathlib.Omega.{arith}
-use mathlib.Core.Bool.{Bool, true, false, not}
+use mathlib.Core.Bool.{Bool, true, false, not, ◌&&◌}
 use mathlib.Core.List.{List, [], ◌∷◌, map}
 use mathlib.Core.Path.{◌≡◌, refl, sym, ap, ◌∙◌, subst}
 use lib.Dec.{leb, eqb}
 use lib.ListN.{length, take, drop, get_or, set, length-drop}
 use lib.Seq.{drop-drop, take_all}
 use borrow.Author.Tests.{eq-eqb, ne_eqb, eqb-true, eqb-false, le-leb, lt-leb, leb-true}
+use Rattle.std.specs.List.{list_all, range_with_len}
 use Rattle.numbers.specs.Tests.{pick, both, either, any_of, between}
 use Rattle.numbers.specs.Numberings.{bit_at}
 use Rattle.numbers.specs.Ranges.{first_vlan, last_vlan, vlan_good, last_fine}
@@ -28,7 +29,7 @@ use Rattle.port_map_search.specs.declared.LabelFound.{LabelFound}
 use Rattle.port_map_search.specs.declared.LabelFound.TheVariants as label
 use Rattle.port_map_search.specs.declared.VlanFound.{VlanFound}
 use Rattle.port_map_search.specs.declared.VlanFound.TheVariants as found
-use Rattle.port_map_judge.specs.Meaning.{vlans_in, labels_in, seen_bytes, Noted, met_bytes, Met, LabelNoted, low_bytes, high_bytes, low_of, high_of, MetAt, LabelNotedTwice}
+use Rattle.port_map_judge.specs.Meaning.{vlans_in, labels_in, alone_at, seen_bytes, Noted, met_bytes, Met, LabelNoted, low_bytes, high_bytes, low_of, high_of, MetAt, LabelNotedTwice}
 
 -- ---- one bit
 
@@ -221,45 +222,55 @@ module _ (m : List ℕ) (from : ℕ) (l : CampusLabel) (r : VlanFound) (e : vlan
   pub is_again : (v : PortVlan) → r ≡ found.Vlan v → true ≡ any_of (eqb l.0) (labels_in (drop from m))
   is_again v h = sym (some_any (pairs_in (drop from m)) l v (sym (rw h at rest)))
 
--- what is left decides, for either number of a pair
-module _ (good : ℕ → Bool) (f : Pair → ℕ) (m : List ℕ) (at : ℕ) (inv : good_once good (map f (pairs_in m)) ≡ good_once good (map f (pairs_in (drop at m)))) where
-  apart_done : length m - at < pair_bytes → true ≡ good_once good (map f (pairs_in m))
-  apart_done h = sym (inv ∙ once_none good f m at h)
+-- ---- each pair beside those after it, for either number of a pair
 
-  module _ (room : pair_bytes ≤ length m - at) (x : ℕ) (here : x ≡ f (pair_at m at)) where
-    apart_here : good_once good (map f (pairs_in m)) ≡ both (good x) (both (not (any_of (eqb x) (map f (pairs_in (drop (at + pair_bytes) m))))) (good_once good (map f (pairs_in (drop (at + pair_bytes) m)))))
-    apart_here = inv ∙ once_at good f m at (omega arith) ∙ rw here
+regroup : (a b c : Bool) → (both a b && c) ≡ both a (both b c)
+unfolding both
+regroup true true c = refl
+regroup true false c = refl
+regroup false b c = refl
 
-    apart_bad : good x ≡ false → false ≡ good_once good (map f (pairs_in m))
+module _ (good : ℕ → Bool) (f : Pair → ℕ) (m : List ℕ) where
+  module _ (at x : ℕ) (here : x ≡ f (pair_at m at)) where
+    alone_bad : good x ≡ false → false ≡ alone_at good f m at
     unfolding both
-    apart_bad h = sym (rw h at apart_here)
+    alone_bad h = rw (← here, h)
 
-    module _ (fits : good x ≡ true) (a : Bool) (again : a ≡ any_of (eqb x) (map f (pairs_in (drop (at + pair_bytes) m)))) where
-      apart_twice : a ≡ true → false ≡ good_once good (map f (pairs_in m))
-      unfolding both
-      apart_twice h = sym (rw (fits, ← again, h) at apart_here)
+    alone_again : good x ≡ true → (a : Bool) → a ≡ any_of (eqb x) (map f (pairs_in (drop (at + pair_bytes) m))) → not a ≡ alone_at good f m at
+    unfolding both
+    alone_again h a e = rw (← here, h, ← e)
 
-      apart_once : a ≡ false → good_once good (map f (pairs_in m)) ≡ good_once good (map f (pairs_in (drop (at + pair_bytes) m)))
-      unfolding both
-      apart_once h = rw (fits, ← again, h) at apart_here
+  from_pair : (k i : ℕ) → length m / pair_bytes ≡ i + k → list_all (λ j. alone_at good f m (pair_bytes * j)) (range_with_len i k) ≡ good_once good (map f (pairs_in (drop (pair_bytes * i) m)))
+  from_pair zero i h = sym (once_none good f m (pair_bytes * i) (omega arith))
+  from_pair (suc k) i h =
+      let next : pair_bytes * i + pair_bytes ≡ pair_bytes * (i + 1) = omega arith in
+      let q = once_at good f m (pair_bytes * i) (omega arith) in
+      ap (λ (b : Bool). alone_at good f m (pair_bytes * i) && b) (from_pair k (i + 1) (omega arith))
+      ∙ regroup _ _ _ ∙ sym (q ∙ rw next)
 
-module _ (m : List ℕ) (at : ℕ) (inv : good_once fine_good (labels_in m) ≡ good_once fine_good (labels_in (drop at m))) where
-  pub labels_done : length m - at < pair_bytes → true ≡ good_once fine_good (labels_in m)
-  labels_done = apart_done fine_good label_of m at inv
+  -- a chain over the pairs' numbers decides
+  pub all_alone : (r : Bool) → r ≡ list_all (λ j. alone_at good f m (pair_bytes * j)) (range_with_len 0 (length m / pair_bytes)) → r ≡ good_once good (map f (pairs_in m))
+  all_alone r e = e ∙ from_pair (length m / pair_bytes) 0 (omega arith)
 
-  module _ (room : pair_bytes ≤ length m - at) (x : CampusLabel) (here : x ≡ (pair_at m at).label) where
-    is_label : x.0 ≡ label_of (pair_at m at)
-    is_label = rw here
+module _ (m : List ℕ) (at : ℕ) (x : CampusLabel) (here : x ≡ (pair_at m at).label) where
+  is_label : x.0 ≡ label_of (pair_at m at)
+  is_label = rw here
 
-    pub label_over : last_fine < x.0 → false ≡ good_once fine_good (labels_in m)
-    label_over h = apart_bad fine_good label_of m at inv room x.0 is_label (lt-leb x.0 last_fine h)
+  pub label_over : last_fine < x.0 → false ≡ alone_at fine_good label_of m at
+  label_over h = alone_bad fine_good label_of m at x.0 is_label (lt-leb x.0 last_fine h)
 
-    module _ (fits : x.0 ≤ last_fine) (a : Bool) (again : a ≡ any_of (eqb x.0) (labels_in (drop (at + pair_bytes) m))) where
-      pub label_twice : a ≡ true → false ≡ good_once fine_good (labels_in m)
-      label_twice = apart_twice fine_good label_of m at inv room x.0 is_label (le-leb x.0 last_fine fits) a again
+  pub label_beside : x.0 ≤ last_fine → (a : Bool) → a ≡ any_of (eqb x.0) (labels_in (drop (at + pair_bytes) m)) → not a ≡ alone_at fine_good label_of m at
+  label_beside h = alone_again fine_good label_of m at x.0 is_label (le-leb x.0 last_fine h)
 
-      pub label_once : a ≡ false → good_once fine_good (labels_in m) ≡ good_once fine_good (labels_in (drop (at + pair_bytes) m))
-      label_once = apart_once fine_good label_of m at inv room x.0 is_label (le-leb x.0 last_fine fits) a again
+module _ (m : List ℕ) (at : ℕ) (x : PortVlan) (here : x ≡ (pair_at m at).vlan) (g : Bool) (is : g ≡ vlan_good x.0) where
+  is_vlan : x.0 ≡ vlan_of (pair_at m at)
+  is_vlan = rw here
+
+  pub vlan_bad : g ≡ false → false ≡ alone_at vlan_good vlan_of m at
+  vlan_bad h = alone_bad vlan_good vlan_of m at x.0 is_vlan (sym is ∙ h)
+
+  pub vlan_beside : g ≡ true → (a : Bool) → a ≡ any_of (eqb x.0) (vlans_in (drop (at + pair_bytes) m)) → not a ≡ alone_at vlan_good vlan_of m at
+  vlan_beside h = alone_again vlan_good vlan_of m at x.0 is_vlan (sym is ∙ h)
 
 -- ---- VLANs of short maps
 
@@ -296,24 +307,6 @@ module _ (m : List ℕ) (from : ℕ) (v : PortVlan) (r : LabelFound) (e : label_
 
   pub vlan_is_again : (l : CampusLabel) → r ≡ label.Label l → true ≡ any_of (eqb v.0) (vlans_in (drop from m))
   vlan_is_again l h = sym (some_vlan (pairs_in (drop from m)) v l (sym (rw h at rest_of)))
-
-module _ (m : List ℕ) (at : ℕ) (inv : good_once vlan_good (vlans_in m) ≡ good_once vlan_good (vlans_in (drop at m))) where
-  pub vlans_done : length m - at < pair_bytes → true ≡ good_once vlan_good (vlans_in m)
-  vlans_done = apart_done vlan_good vlan_of m at inv
-
-  module _ (room : pair_bytes ≤ length m - at) (x : PortVlan) (here : x ≡ (pair_at m at).vlan) (g : Bool) (is : g ≡ vlan_good x.0) where
-    is_vlan : x.0 ≡ vlan_of (pair_at m at)
-    is_vlan = rw here
-
-    pub vlan_bad : g ≡ false → false ≡ good_once vlan_good (vlans_in m)
-    vlan_bad h = apart_bad vlan_good vlan_of m at inv room x.0 is_vlan (sym is ∙ h)
-
-    module _ (fits : g ≡ true) (a : Bool) (again : a ≡ any_of (eqb x.0) (vlans_in (drop (at + pair_bytes) m))) where
-      pub vlan_twice : a ≡ true → false ≡ good_once vlan_good (vlans_in m)
-      vlan_twice = apart_twice vlan_good vlan_of m at inv room x.0 is_vlan (sym is ∙ fits) a again
-
-      pub vlan_once : a ≡ false → good_once vlan_good (vlans_in m) ≡ good_once vlan_good (vlans_in (drop (at + pair_bytes) m))
-      vlan_once = apart_once vlan_good vlan_of m at inv room x.0 is_vlan (sym is ∙ fits) a again
 
 -- ---- labels of middling maps
 

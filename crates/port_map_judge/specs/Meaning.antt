@@ -1,17 +1,22 @@
 -- The VLANs and the labels of a map, and the bits of VLANs that were seen.
 -- Assumes nothing.
-use Rattle.std.specs.Prelude.{ℕ, ◌+◌, ◌/◌, ◌%◌, Bool, true, not, List, map, eqb, ◌≡◌}
+use Rattle.std.specs.Prelude.{ℕ, ◌+◌, ◌/◌, ◌%◌, Bool, true, not, List, map, eqb, drop, ◌≡◌}
 use Rattle.numbers.specs.Tests.{both, any_of}
 use Rattle.numbers.specs.Numberings.{bit_at}
 use Rattle.numbers.specs.Ranges.{vlan_good}
 use Rattle.flush_bits.specs.Ranged.{Ranged}
-use Rattle.port_map.specs.Maps.{pairs_in, vlan_of, label_of, fine_good}
+use Rattle.port_map.specs.Maps.{Pair, pair_bytes, pairs_in, vlan_of, label_of, fine_good}
+use Rattle.port_map_search.specs.Meaning.{pair_at}
 
 abbrev pub vlans_in : List ℕ → List ℕ
 vlans_in m = map vlan_of (pairs_in m)
 
 abbrev pub labels_in : List ℕ → List ℕ
 labels_in m = map label_of (pairs_in m)
+
+-- whether a number of the pair at an offset is good, and that of no pair after it
+abbrev pub alone_at : (ℕ → Bool) → (Pair → ℕ) → List ℕ → ℕ → Bool
+alone_at good f m at = both (good (f (pair_at m at))) (not (any_of (eqb (f (pair_at m at))) (map f (pairs_in (drop (at + pair_bytes) m)))))
 
 -- a bit for each number that a VLAN may have
 abbrev pub seen_bytes : ℕ

@@ -8,9 +8,9 @@ ghost use Rattle.numbers.specs.Numberings.{bit_at};
 ghost use Rattle.numbers.specs.Ranges.{vlan_good};
 ghost use Rattle.flush_bits.specs.Ranged.{Ranged};
 ghost use Rattle.flush_sort.specs.Sorting.{Sorted};
-ghost use Rattle.port_map.specs.Maps.{pair_bytes, good_once, fine_good, map_good};
+ghost use Rattle.port_map.specs.Maps.{pair_bytes, good_once, vlan_of, label_of, fine_good, map_good};
 ghost use Rattle.port_map_search.specs.Meaning.{pair_at};
-ghost use Rattle.port_map_judge.specs.Meaning.{vlans_in, labels_in, seen_bytes, Noted, met_bytes, Met, LabelNoted, low_bytes, high_bytes, low_of, high_of, MetAt, LabelNotedTwice};
+ghost use Rattle.port_map_judge.specs.Meaning.{vlans_in, labels_in, alone_at, seen_bytes, Noted, met_bytes, Met, LabelNoted, low_bytes, high_bytes, low_of, high_of, MetAt, LabelNotedTwice};
 ghost use Rattle.port_map_judge.specs.Apart.{most_keys, Parted, Keyed};
 
 use numbers::LAST_FINE;
@@ -77,22 +77,23 @@ fn vlan_again(map: &[u8], from: usize, v: PortVlan) -> bool
     }
 }
 
+// Whether the VLAN of the pair at an offset is good, and stands in none of those after it.
+fn vlan_alone(map: &[u8], at: usize) -> bool
+    requires { at + pair_bytes ≤ length map.now }
+    ensures { result ≡ alone_at vlan_good vlan_of map.now at }
+{
+    let v = port_map_search::vlan_at(map, at);
+    if !numbers::vlan_good(v.0 as u64) {
+        return false;
+    }
+    !vlan_again(map, at + PAIR_BYTES, v)
+}
+
 // Whether each VLAN is good and stands once, each compared with those after it.
 fn vlans_apart(map: &[u8]) -> bool
     ensures { result ≡ good_once vlan_good (vlans_in map.now) }
 {
-    let mut at = 0;
-    while PAIR_BYTES <= map.len() - at {
-        let v = port_map_search::vlan_at(map, at);
-        if !numbers::vlan_good(v.0 as u64) {
-            return false;
-        }
-        if vlan_again(map, at + PAIR_BYTES, v) {
-            return false;
-        }
-        at += PAIR_BYTES;
-    }
-    true
+    (0..map.len() / PAIR_BYTES).all(|i| vlan_alone(map, PAIR_BYTES * i))
 }
 
 // Whether a label stands in the pairs from an offset on.
@@ -106,22 +107,23 @@ fn label_again(map: &[u8], from: usize, l: CampusLabel) -> bool
     }
 }
 
+// Whether the label of the pair at an offset is good, and stands in none of those after it.
+fn label_alone(map: &[u8], at: usize) -> bool
+    requires { at + pair_bytes ≤ length map.now }
+    ensures { result ≡ alone_at fine_good label_of map.now at }
+{
+    let l = port_map_search::label_at(map, at);
+    if LAST_FINE < l.0 as u64 {
+        return false;
+    }
+    !label_again(map, at + PAIR_BYTES, l)
+}
+
 // Whether each label is good and stands once, each compared with those after it.
 fn labels_apart(map: &[u8]) -> bool
     ensures { result ≡ good_once fine_good (labels_in map.now) }
 {
-    let mut at = 0;
-    while PAIR_BYTES <= map.len() - at {
-        let l = port_map_search::label_at(map, at);
-        if LAST_FINE < l.0 as u64 {
-            return false;
-        }
-        if label_again(map, at + PAIR_BYTES, l) {
-            return false;
-        }
-        at += PAIR_BYTES;
-    }
-    true
+    (0..map.len() / PAIR_BYTES).all(|i| label_alone(map, PAIR_BYTES * i))
 }
 
 // The bits of a middling map's labels: one for each number of 14 bits.

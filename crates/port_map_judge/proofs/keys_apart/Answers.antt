@@ -1,5 +1,4 @@
 -- `port_map_judge::keys_apart` meets its contract. The invariant: neighbours before `i` that are keys of one label are one key.
-use Prim.Native.Nat.{◌-◌}
 use Rattle.port_map_judge.proofs.Apart.{near_start, near_bad, near_next, near_done}
 use Rattle.port_map_judge.proofs.keys_apart.Goals as goal
 

@@ -1,5 +1,3 @@
-use Prim.Native.Nat.{◌-◌}
-use lib.ListN.{length}
 use Rattle.port_map_judge.proofs.Apart.{Near}
 use Rattle.port_map_judge.proofs.keys_apart.Given as goal
 

@@ -1,21 +1,14 @@
--- `port_map_judge::labels_apart` meets its contract. The invariant: the labels from `at` on decide.
-use Prim.Native.Nat.{◌-◌}
-use mathlib.Core.Path.{refl}
-use Rattle.port_map_judge.proofs.Laws.{labels_done, label_over, label_twice, label_once}
-use borrow.Author.Rules.{rules}
+-- `port_map_judge::labels_apart` meets its contract: all pairs, each beside those after it.
+use Rattle.std.proofs.Common.{◌*◌, ◌/◌, length, refl, rules, arith}
+use Rattle.std.proofs.lemmas.Iterator.{YieldsList-from_range}
+use Rattle.std.proofs.lemmas.Iterator.Search.{all_from_yields_List}
+use Rattle.port_map.specs.Maps.{pair_bytes, label_of, fine_good}
+use Rattle.port_map_judge.specs.Meaning.{alone_at}
+use Rattle.port_map_judge.proofs.Laws.{all_alone}
 use Rattle.port_map_judge.proofs.labels_apart.Goals as goal
 
-pub loop-at-init : goal.loop-at-init
-loop-at-init c = (search rules, refl)
-
-pub returns-then-l-gt-LAST_FINE : goal.returns-then-l-gt-LAST_FINE
-returns-then-l-gt-LAST_FINE c = search label_over
-
-pub returns-then-label_again : goal.returns-then-label_again
-returns-then-label_again c = search label_twice
-
-pub loop-at-preserved : goal.loop-at-preserved
-loop-at-preserved c = (search rules, search label_once)
-
 pub returns : goal.returns
-returns c = search labels_done
+returns c =
+    let m = c.args.map.now in
+    all_alone fine_good label_of m _
+    (all_from_yields_List (λ i. alone_at fine_good label_of m (pair_bytes * i)) _ _ c.all.result c.all.ensures.ran (YieldsList-from_range 0 (length m / pair_bytes) (length m / pair_bytes) refl (omega arith)) (λ x b q k. search rules))

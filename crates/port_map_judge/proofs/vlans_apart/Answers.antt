@@ -1,21 +1,15 @@
--- `port_map_judge::vlans_apart` meets its contract. The invariant: the VLANs from `at` on decide.
-use Prim.Native.Nat.{◌-◌}
-use mathlib.Core.Path.{refl}
-use Rattle.port_map_judge.proofs.Laws.{vlans_done, vlan_bad, vlan_twice, vlan_once}
-use borrow.Author.Rules.{rules}
+-- `port_map_judge::vlans_apart` meets its contract: all pairs, each beside those after it.
+use Rattle.std.proofs.Common.{◌*◌, ◌/◌, length, refl, rules, arith}
+use Rattle.std.proofs.lemmas.Iterator.{YieldsList-from_range}
+use Rattle.std.proofs.lemmas.Iterator.Search.{all_from_yields_List}
+use Rattle.numbers.specs.Ranges.{vlan_good}
+use Rattle.port_map.specs.Maps.{pair_bytes, vlan_of}
+use Rattle.port_map_judge.specs.Meaning.{alone_at}
+use Rattle.port_map_judge.proofs.Laws.{all_alone}
 use Rattle.port_map_judge.proofs.vlans_apart.Goals as goal
 
-pub loop-at-init : goal.loop-at-init
-loop-at-init c = (search rules, refl)
-
-pub returns-then-not-vlan_good : goal.returns-then-not-vlan_good
-returns-then-not-vlan_good c = search vlan_bad
-
-pub returns-then-vlan_again : goal.returns-then-vlan_again
-returns-then-vlan_again c = search vlan_twice
-
-pub loop-at-preserved : goal.loop-at-preserved
-loop-at-preserved c = (search rules, search vlan_once)
-
 pub returns : goal.returns
-returns c = search vlans_done
+returns c =
+    let m = c.args.map.now in
+    all_alone vlan_good vlan_of m _
+    (all_from_yields_List (λ i. alone_at vlan_good vlan_of m (pair_bytes * i)) _ _ c.all.result c.all.ensures.ran (YieldsList-from_range 0 (length m / pair_bytes) (length m / pair_bytes) refl (omega arith)) (λ x b q k. search rules))
