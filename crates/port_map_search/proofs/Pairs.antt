@@ -58,25 +58,26 @@ pairs_read {s} m e r = record { runs = read (length m) s m e r (omega arith) }
 
 -- ---- the searches: what is found is the first pair with that key, or none
 
-module _ {V : Type 0} (key : Pair → ℕ) (k : ℕ) (value : Pair → V) (seek : List Pair → Result V) where
-  abbrev answered : Option Pair → Result V
+module _ {A V : Type 0} (key : A → ℕ) (k : ℕ) (value : A → V) (seek : List A → Result V) where
+  abbrev pub answered : Option A → Result V
   answered o = option_map_or (λ p. got (value p)) o (refused no_pair)
 
-  module _ (none_left : seek [] ≡ refused no_pair) (one_more : (p : Pair) (ps : List Pair) → seek (p ∷ ps) ≡ pick (eqb (key p) k) (got (value p)) (seek ps)) where
-    sought : (ps : List Pair) → answered (find (λ p. eqb (key p) k) ps) ≡ seek ps
-    unfolding pick
-    sought [] = sym none_left
-    sought (p ∷ ps) = go (eqb (key p) k) (sought ps) ∙ sym (one_more p ps)
-      where
-        go : (c : Bool) → answered (find (λ q. eqb (key q) k) ps) ≡ seek ps → answered (cond c (Some p) (find (λ q. eqb (key q) k) ps)) ≡ pick c (got (value p)) (seek ps)
-        go true later = refl
-        go false later = later
+  pub sought : seek [] ≡ refused no_pair → ((p : A) (ps : List A) → seek (p ∷ ps) ≡ pick (eqb (key p) k) (got (value p)) (seek ps)) → (ps : List A) → answered (find (λ p. eqb (key p) k) ps) ≡ seek ps
+  unfolding pick
+  sought none_left one_more [] = sym none_left
+  sought none_left one_more (p ∷ ps) = go (eqb (key p) k) (sought none_left one_more ps) ∙ sym (one_more p ps)
+    where
+      go : (c : Bool) → answered (find (λ q. eqb (key q) k) ps) ≡ seek ps → answered (cond c (Some p) (find (λ q. eqb (key q) k) ps)) ≡ pick c (got (value p)) (seek ps)
+      go true later = refl
+      go false later = later
 
+module _ {V : Type 0} (key : Pair → ℕ) (k : ℕ) (value : Pair → V) (seek : List Pair → Result V) where
+  module _ (none_left : seek [] ≡ refused no_pair) (one_more : (p : Pair) (ps : List Pair) → seek (p ∷ ps) ≡ pick (eqb (key p) k) (got (value p)) (seek ps)) where
     module _ {F : Type 0} {g : Mut F (Bor (Bor (List ℕ)) × Unit {0}) Bool} {s : ChunksExact ℕ} {f : F} (r : Option (Bor (List ℕ))) (u : ChunksExact ℕ) where
       found : (m : List ℕ) → chunks_exact_size s ≡ pair_bytes → chunks_exact_rest s ≡ m → FindsItem chunks_exact_steps g s f r u
           → ((x : Bor (List ℕ)) (b : Bool) (q : F) → CalledAt g f x b q → (q ≡ f) × (b ≡ eqb (key (pair_read x)) k))
-          → answered (option_map pair_read r) ≡ seek (pairs_in m)
-      found m n e ran calls = ap answered (find_from_yields_List (λ p. eqb (key p) k) u f r ran (pairs_read m n e) calls) ∙ sought (pairs_in m)
+          → answered key k value seek (option_map pair_read r) ≡ seek (pairs_in m)
+      found m n e ran calls = ap (answered key k value seek) (find_from_yields_List (λ p. eqb (key p) k) u f r ran (pairs_read m n e) calls) ∙ sought key k value seek none_left one_more (pairs_in m)
 
 module _ {F : Type 0} {g : Mut F (Bor (Bor (List ℕ)) × Unit {0}) Bool} {s : ChunksExact ℕ} {f : F} (r : Option (Bor (List ℕ))) (u : ChunksExact ℕ) where
   pub label_found : (m : List ℕ) (v : PortVlan) → chunks_exact_size s ≡ pair_bytes → chunks_exact_rest s ≡ m → FindsItem chunks_exact_steps g s f r u
