@@ -9,7 +9,7 @@ use native.Mathlib.Nat.{add-zero}
 use native.Mathlib.Numerals.{add-one}
 use native.Mathlib.Omega.{arith}
 use lib.Dec.{eqb, leb}
-use lib.ListN.{length, take, drop, get_or, length-take, length-drop}
+use lib.ListN.{length, take, drop, get_or, length-drop}
 use lib.Seq.{take_all, drop-drop, get_or-drop}
 use borrow.Author.Tests.{ne_eqb, not-true}
 use Rattle.numbers.specs.Tests.{pick, both, either, any_of, between}
@@ -29,7 +29,7 @@ use Rattle.flush.specs.Meaning.{vlan_in, fine_in, brings_label}
 use Rattle.flush.proofs.Validity.{tlvs_end, tlvs_rest, tlvs_more}
 use Rattle.why.specs.Why.{place_of}
 use Rattle.flush_members.specs.Sound.{Sound}
-use Rattle.flush_members.proofs.Laws.{block_tells, blocks_below, blocks_above, block_near}
+use Rattle.flush_members.proofs.Laws.{block_tells, blocks_below, blocks_above}
 use Rattle.why_places.specs.Found.{first_from}
 use Rattle.why_places.specs.Reading.{LastByte, EmptyAt}
 
@@ -187,39 +187,15 @@ macs_by_last = record {
   last = λ l at room small. mac_last l at room small;
 }
 
--- ---- a walk over parts of k bytes
+-- ---- parts of k bytes
 
 -- the one part of a list of k bytes
-one_part : (p : List ℕ → Bool) (k : ℕ) → 0 < k → (b : List ℕ) → length b ≡ k → any_of p (parts k b) ≡ p b
+pub one_part : (p : List ℕ → Bool) (k : ℕ) → 0 < k → (b : List ℕ) → length b ≡ k → any_of p (parts k b) ≡ p b
 unfolding any_of
 one_part p k some b long =
     let d : length (drop k b) ≡ length b - k = length-drop k b in
     ap (any_of p) (parts_more k some b (omega arith))
     ∙ rw (parts_end k some (drop k b) (omega arith), take_all k b (omega arith)) (either_none (p b))
-
-module _ (p : List ℕ → Bool) (k : ℕ) (some : 0 < k) (v : List ℕ) (at i : ℕ) (x : Place) (inv : x ≡ first_from p i (parts k (drop at v))) where
-  pub parts_done : length v - at < k → Nowhere ≡ x
-  unfolding first_from
-  parts_done h =
-      let d : length (drop at v) ≡ length v - at = length-drop at v in
-      sym (inv ∙ ap (first_from p i) (parts_end k some (drop at v) (omega arith)))
-
-  module _ (room : k ≤ length v - at) (h : Bool) (here : h ≡ any_of p (parts k (take (at + k - at) (drop at v)))) where
-    part_here : x ≡ pick h (At i) (first_from p (suc i) (parts k (drop (at + k) v)))
-    unfolding first_from
-    part_here =
-        let d : length (drop at v) ≡ length v - at = length-drop at v in
-        let n : at + k - at ≡ k = omega arith in
-        let one : h ≡ p (take k (drop at v)) = here ∙ rw n (one_part p k some (take k (drop at v)) (simp length-take (omega arith))) in
-        inv ∙ ap (first_from p i) (parts_more k some (drop at v) (omega arith)) ∙ rw (← one, drop-drop k at v)
-
-    pub part_hit : h ≡ true → At i ≡ x
-    unfolding pick
-    part_hit t = sym (rw t at part_here)
-
-    pub part_next : h ≡ false → x ≡ first_from p (i + 1) (parts k (drop (at + k) v))
-    unfolding pick
-    part_next t = rw (add-one i) (rw t at part_here)
 
 -- ---- VLAN blocks
 
@@ -237,21 +213,3 @@ module _ (x : ℕ) (v : List ℕ) where
   pub block_above : last_vlan < x → Nowhere ≡ first_from (in_block vlans x) 0 (parts block_bytes v)
   unfolding in_blocks
   block_above h = sym (none_first (in_block vlans x) 0 _ (sym (blocks_above vlans x v h)))
-
-  module _ (at i : ℕ) (y : Place) (inv : y ≡ first_from (in_block vlans x) i (parts block_bytes (drop at v))) where
-    pub block_done : length v - at < 4 → Nowhere ≡ y
-    block_done h = parts_done (in_block vlans x) 4 (omega arith) v at i y inv h
-
-    module _ (room : 4 ≤ length v - at) (h : Bool) (here : h ≡ in_block vlans x (drop at v)) where
-      lent : h ≡ any_of (in_block vlans x) (parts 4 (take (at + 4 - at) (drop at v)))
-      lent =
-          let d : length (drop at v) ≡ length v - at = length-drop at v in
-          let n : at + 4 - at ≡ 4 = omega arith in
-          let q : any_of (in_block vlans x) (parts 4 (take (at + 4 - at) (drop at v))) ≡ in_block vlans x (take 4 (drop at v)) = rw n (one_part (in_block vlans x) 4 (omega arith) (take 4 (drop at v)) (simp length-take (omega arith))) in
-          here ∙ sym (block_near vlans x (drop at v) (omega arith)) ∙ sym q
-
-      pub block_hit : h ≡ true → At i ≡ y
-      block_hit t = part_hit (in_block vlans x) 4 (omega arith) v at i y inv room h lent t
-
-      pub block_next : h ≡ false → y ≡ first_from (in_block vlans x) (i + 1) (parts block_bytes (drop (at + 4) v))
-      block_next t = part_next (in_block vlans x) 4 (omega arith) v at i y inv room h lent t

@@ -1,3 +1,4 @@
 pub mod Laws
 pub mod Meant
 mod Apart
+pub mod Places

@@ -93,6 +93,7 @@ fn pass_apart(v: &[u8], from: usize, w: Numbering, x: u64) -> usize
     ensures { ((from ≤ result) × (result ≤ length v.now)) × (left_has w x v.now from ≡ left_has w x v.now result) }
 {
     let mut at = from;
+    // A `while`: its answer is the offset where it stops, which chunks would have twice, for a stop and for the end.
     while 4 * w.size <= v.len() - at {
         if !four_apart(v, at, w, x) {
             return at;
@@ -114,6 +115,7 @@ fn in_list(v: &[u8], size: usize, modulus: u64, low: u64, high: u64, x: u64) -> 
         high,
     };
     let mut at = pass_apart(v, 0, w, x);
+    // A `while`: `pass_apart` says how far the next step goes.
     while size <= v.len() - at {
         if number_is(v, at, w, x) {
             return true;
@@ -201,26 +203,20 @@ fn brings_mac(m: u64, k: u8, v: &[u8]) -> bool
 fn listed_place(nicks: &[u8], x: u64) -> Place
     ensures { result ≡ first_from (nickname_is x) 0 (listed nicks.now) }
 {
-    let mut at = 0;
-    let mut nickname = 0;
-    while NICKNAME_BYTES <= nicks.len() - at {
-        let e = at + NICKNAME_BYTES;
-        if flush_members::in_nicknames(&nicks[at..e], x) {
-            return Place::At(nickname);
-        }
-        at = e;
-        nickname += 1;
+    let mut parts = nicks.chunks_exact(NICKNAME_BYTES);
+    match parts.position(|n| flush_members::in_nicknames(n, x)) {
+        Some(i) => Place::At(i),
+        None => Place::Nowhere,
     }
-    Place::Nowhere
 }
 
-// Whether x, a VLAN that there is, is in the block at a place.
-fn block_has(v: &[u8], at: usize, x: u64) -> bool
-    requires { (at + block_bytes ≤ length v.now) × ((first_vlan ≤ x) × (x ≤ last_vlan)) }
-    ensures { result ≡ in_block vlans x (drop at v.now) }
+// Whether x, a VLAN that there is, is in a block.
+fn block_has(b: &[u8], x: u64) -> bool
+    requires { (block_bytes ≤ length b.now) × ((first_vlan ≤ x) × (x ≤ last_vlan)) }
+    ensures { result ≡ in_block vlans x b.now }
 {
-    let start = numbers::be2(v, at);
-    let end = numbers::be2(v, at + 2);
+    let start = numbers::be2(b, 0);
+    let end = numbers::be2(b, 2);
     (start % VLANS <= x) & (x <= end % VLANS)
 }
 
@@ -234,16 +230,11 @@ fn block_place(v: &[u8], x: u64) -> Place
     if LAST_VLAN < x {
         return Place::Nowhere;
     }
-    let mut at = 0;
-    let mut block = 0;
-    while BLOCK_BYTES <= v.len() - at {
-        if block_has(v, at, x) {
-            return Place::At(block);
-        }
-        at += BLOCK_BYTES;
-        block += 1;
+    let mut blocks = v.chunks_exact(BLOCK_BYTES);
+    match blocks.position(|b| block_has(b, x)) {
+        Some(i) => Place::At(i),
+        None => Place::Nowhere,
     }
-    Place::Nowhere
 }
 
 // Whether an empty TLV of a type without a rule is next: it brings nothing, and the next one lies two bytes on.

@@ -1,5 +1,4 @@
 -- `why_places::in_list` meets its contract. The invariant: the list has x in it exactly if it has it from `at` on.
-use Prim.Native.Nat.{◌-◌}
 use mathlib.Core.Path.{sym, ◌∙◌}
 use native.Mathlib.Omega.{arith}
 use Rattle.flush_members.proofs.Laws.{item_near, parts_done, part_hit}

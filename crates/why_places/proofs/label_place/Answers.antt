@@ -1,6 +1,5 @@
 -- `why_places::label_place` meets its contract. The invariant: the first TLV that brings the label is the first from `at` on, which are counted on
 -- from `i`; a TLV has two bytes or more, so that `i` is not past `at`.
-use Prim.Native.Nat.{◌-◌}
 use mathlib.Core.Path.{refl}
 use Rattle.flush.specs.Meaning.{brings_label}
 use Rattle.why_places.proofs.Laws.{empty_room, walk_unlabelled, walk_done, walk_cut, walk_hit, walk_next}

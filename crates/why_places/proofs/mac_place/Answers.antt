@@ -1,6 +1,5 @@
 -- `why_places::mac_place` meets its contract. The invariant: the first TLV that brings the MAC is the first from `at` on, which are counted on
 -- from `i`; a TLV has two bytes or more, so that `i` is not past `at`.
-use Prim.Native.Nat.{◌-◌}
 use mathlib.Core.Path.{refl}
 use Rattle.flush.specs.Meaning.{brings_mac}
 use Rattle.why_places.proofs.Laws.{walk_done, walk_cut, walk_hit, walk_next}

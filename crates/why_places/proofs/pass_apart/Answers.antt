@@ -1,5 +1,4 @@
 -- `why_places::pass_apart` meets its contract. The invariant: what is left decides.
-use Prim.Native.Nat.{◌-◌}
 use mathlib.Core.Path.{refl, ◌∙◌}
 use borrow.Author.Rules.{rules}
 use Rattle.why_places.proofs.pass_apart.Goals as goal
