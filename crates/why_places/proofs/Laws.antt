@@ -25,7 +25,7 @@ use Rattle.table.specs.declared.Label.TheVariants.{Vlan, Fine}
 use Rattle.table.specs.declared.Place.{Place}
 use Rattle.table.specs.declared.Place.TheVariants.{At, Nowhere}
 use Rattle.flush.specs.Payload.{every_type, Piece, tlv, stump, tlv_end, tlvs, block_bytes}
-use Rattle.flush.specs.Meaning.{vlan_in, fine_in, brings_label}
+use Rattle.flush.specs.Meaning.{vlan_in, fine_in, mac_in, brings_label, brings_mac}
 use Rattle.flush.proofs.Validity.{tlvs_end, tlvs_rest, tlvs_more}
 use Rattle.why.specs.Why.{place_of}
 use Rattle.flush_members.specs.Sound.{Sound}
@@ -118,14 +118,15 @@ module _ (k : ℕ) (none : between 1 8 k ≡ false) where
   outside : (n : ℕ) → 1 ≤ n → n ≤ 8 → eqb k n ≡ false
   outside n a b = ne_eqb k n (λ s. let t = between_in 1 8 k (omega arith) (omega arith) in false_true (sym none ∙ t))
 
-  -- and brings no label
-  unruled_label : (x : Label) → brings_label every_type x (tlv k []) ≡ false
+  -- and brings no label and no MAC
+  pub unruled_label : (x : Label) → brings_label every_type x (tlv k []) ≡ false
   unfolding brings_label vlan_in fine_in both pick
   unruled_label (Vlan x) = rw (outside 6 (omega arith) (omega arith), outside 1 (omega arith) (omega arith), outside 2 (omega arith) (omega arith))
   unruled_label (Fine x) = rw (outside 6 (omega arith) (omega arith), outside 3 (omega arith) (omega arith), outside 4 (omega arith) (omega arith), outside 5 (omega arith) (omega arith))
 
-pub walk_unlabelled : (y : Label) (l : List ℕ) (at i : ℕ) (x : Place) → x ≡ first_from (brings_label every_type y) i (tlvs (drop at l)) → (r : Bool) → EmptyAt l at r → r ≡ true → x ≡ first_from (brings_label every_type y) (i + 1) (tlvs (drop (at + 2) l))
-walk_unlabelled y l at i x inv r e is = walk_empty (brings_label every_type y) l at i x inv r e is (λ k none. unruled_label k none y)
+  pub unruled_mac : (m : ℕ) → brings_mac every_type m (tlv k []) ≡ false
+  unfolding brings_mac mac_in both pick
+  unruled_mac m = rw (outside 7 (omega arith) (omega arith), outside 8 (omega arith) (omega arith))
 
 -- what is read of a TLV
 module _ (l : List ℕ) (at : ℕ) where

@@ -2,18 +2,18 @@
 // that it is meant is that there is such a place.
 #![tactic(auto)]
 
-ghost use Rattle.std.specs.Prelude.{◌+◌, ◌*◌, ◌<◌, ◌≤◌, true, false, ◌≡◌, eqb, length, drop};
+ghost use Rattle.std.specs.Prelude.{◌+◌, ◌*◌, ◌<◌, ◌≤◌, Bool, true, false, ◌≡◌, eqb, length, drop};
 ghost use Rattle.numbers.specs.Tests.{any_of};
 ghost use Rattle.numbers.specs.Ranges.{first_vlan, last_vlan};
 ghost use Rattle.numbers.specs.Bytes.{parts};
 ghost use Rattle.numbers.specs.Numberings.{vlans, fines, macs, number_of, in_block, in_list};
 ghost use Rattle.table.specs.Record.{label_from};
-ghost use Rattle.flush.specs.Payload.{every_type, tlv, tlvs, block_bytes, pieces_of};
+ghost use Rattle.flush.specs.Payload.{every_type, Piece, tlv, tlvs, block_bytes, pieces_of};
 ghost use Rattle.flush.specs.Meaning.{vlan_in, fine_in, brings_label, brings_mac};
 ghost use Rattle.flush_payload.specs.Judging.{mac_kind, of_kind};
 ghost use Rattle.why.specs.Why.{nickname_is, listed};
 ghost use Rattle.flush_members.specs.Sound.{numbering};
-ghost use Rattle.why_places.specs.Reading.{LastByte, left_has, EmptyAt};
+ghost use Rattle.why_places.specs.Reading.{LastByte, left_has, EmptyAt, Asks};
 ghost use Rattle.why_places.specs.Found.{first_from, nickname_found, label_found, mac_found};
 
 use flush_members::{FINES, MACS};
@@ -252,51 +252,46 @@ fn empty_at(l: &[u8], at: usize) -> bool
     !((FIRST_TYPE <= k) & (k <= LAST_TYPE))
 }
 
-// The first TLV that brings a label, which is given by its kind and its number.
-fn label_place(l: &[u8], kind: u64, x: u64) -> Place
-    ensures { result ≡ first_from (brings_label every_type (label_from kind x)) 0 (tlvs l.now) }
+// The first TLV that brings what is sought: of these `brings` says so at the type and the value.
+fn tlv_place<F: Fn(u8, &[u8]) -> bool>(l: &[u8], brings: F) -> Place
+    requires { F.IsAlwaysCallable brings }
+    ensures { (ask : Piece → Bool) → Asks F.Fn brings ask → result ≡ first_from ask 0 (tlvs l.now) }
 {
     let mut at = 0;
     let mut tlv = 0;
+    // A `while`: the step is the length of the TLV.
     while at < l.len() {
         if empty_at(l, at) {
             at += 2;
             tlv += 1;
-        } else {
-            let e = flush_tlvs::end_of(l, at);
-            if l.len() < e {
-                return Place::Nowhere;
-            }
-            let s = at + 2;
-            if brings_label(kind, x, l[at], &l[s..e]) {
-                return Place::At(tlv);
-            }
-            at = e;
-            tlv += 1;
+            continue;
         }
+        let e = flush_tlvs::end_of(l, at);
+        if l.len() < e {
+            return Place::Nowhere;
+        }
+        let s = at + 2;
+        if brings(l[at], &l[s..e]) {
+            return Place::At(tlv);
+        }
+        at = e;
+        tlv += 1;
     }
     Place::Nowhere
+}
+
+// The first TLV that brings a label, which is given by its kind and its number.
+fn label_place(l: &[u8], kind: u64, x: u64) -> Place
+    ensures { result ≡ first_from (brings_label every_type (label_from kind x)) 0 (tlvs l.now) }
+{
+    tlv_place(l, |k, v| brings_label(kind, x, k, v))
 }
 
 // The first TLV that brings a MAC.
 fn mac_place(l: &[u8], m: u64) -> Place
     ensures { result ≡ first_from (brings_mac every_type m) 0 (tlvs l.now) }
 {
-    let mut at = 0;
-    let mut k = 0;
-    while at < l.len() {
-        let e = flush_tlvs::end_of(l, at);
-        if l.len() < e {
-            return Place::Nowhere;
-        }
-        let s = at + 2;
-        if brings_mac(m, l[at], &l[s..e]) {
-            return Place::At(k);
-        }
-        at = e;
-        k += 1;
-    }
-    Place::Nowhere
+    tlv_place(l, |k, v| brings_mac(m, k, v))
 }
 
 // The nickname: without a list only the sender is meant, otherwise the listed ones. A payload lists at most 255.

@@ -1,26 +1,11 @@
--- `why_places::label_place` meets its contract. The invariant: the first TLV that brings the label is the first from `at` on, which are counted on
--- from `i`; a TLV has two bytes or more, so that `i` is not past `at`.
-use mathlib.Core.Path.{refl}
+-- `why_places::label_place` meets its contract: the closure asks of a TLV what the definition does.
+use Rattle.std.proofs.Common.{rules, refl}
+use Rattle.table.specs.Record.{label_from}
+use Rattle.flush.specs.Payload.{every_type}
 use Rattle.flush.specs.Meaning.{brings_label}
-use Rattle.why_places.proofs.Laws.{empty_room, walk_unlabelled, walk_done, walk_cut, walk_hit, walk_next}
-use borrow.Author.Rules.{rules}
+use Rattle.why_places.proofs.Laws.{unruled_label}
 use Rattle.why_places.proofs.label_place.Goals as goal
 
-pub loop-at-init : goal.loop-at-init
-loop-at-init c = (search rules, (search rules, refl))
-
-pub loop-at-preserved-then-empty_at : goal.loop-at-preserved-then-empty_at
-loop-at-preserved-then-empty_at c = (search empty_room, (search rules, search walk_unlabelled))
-
-pub returns-then-l-e : goal.returns-then-l-e
-unfolding brings_label
-returns-then-l-e c = search walk_cut
-
-pub returns-then-brings_label : goal.returns-then-brings_label
-returns-then-brings_label c = search walk_hit
-
-pub loop-at-preserved : goal.loop-at-preserved
-loop-at-preserved c = (search rules, (search rules, search walk_next))
-
 pub returns : goal.returns
-returns c = search walk_done
+unfolding brings_label
+returns c = c.tlv_place.ensures (brings_label every_type (label_from c.args.kind c.args.x)) (record { says = λ k v r h. search rules; cut = refl; unruled = λ k none. unruled_label k none (label_from c.args.kind c.args.x) })

@@ -1,23 +1,10 @@
--- `why_places::mac_place` meets its contract. The invariant: the first TLV that brings the MAC is the first from `at` on, which are counted on
--- from `i`; a TLV has two bytes or more, so that `i` is not past `at`.
-use mathlib.Core.Path.{refl}
+-- `why_places::mac_place` meets its contract: the closure asks of a TLV what the definition does.
+use Rattle.std.proofs.Common.{rules, refl}
+use Rattle.flush.specs.Payload.{every_type}
 use Rattle.flush.specs.Meaning.{brings_mac}
-use Rattle.why_places.proofs.Laws.{walk_done, walk_cut, walk_hit, walk_next}
-use borrow.Author.Rules.{rules}
+use Rattle.why_places.proofs.Laws.{unruled_mac}
 use Rattle.why_places.proofs.mac_place.Goals as goal
 
-pub loop-at-init : goal.loop-at-init
-loop-at-init c = (search rules, (search rules, refl))
-
-pub returns-then-l-e : goal.returns-then-l-e
-unfolding brings_mac
-returns-then-l-e c = search walk_cut
-
-pub returns-then-brings_mac : goal.returns-then-brings_mac
-returns-then-brings_mac c = search walk_hit
-
-pub loop-at-preserved : goal.loop-at-preserved
-loop-at-preserved c = (search rules, (search rules, search walk_next))
-
 pub returns : goal.returns
-returns c = search walk_done
+unfolding brings_mac
+returns c = c.tlv_place.ensures (brings_mac every_type c.args.m) (record { says = λ k v r h. search rules; cut = refl; unruled = λ k none. unruled_mac k none c.args.m })
