@@ -18,6 +18,7 @@ fn read_full(from: &mut impl Read, area: &mut [u8]) -> io::Result<usize>
     ensures { ReadsAtMost result area.new }
 {
     let mut done = 0;
+    // A `while`: a read says how far the next one goes on.
     while done < area.len() {
         let n = from.read(&mut area[done..])?;
         if n == 0 {

@@ -57,13 +57,11 @@ fn digit_of(c: u64) -> u64
 fn next_digit(from: &mut impl Read) -> io::Result<u64>
     ensures { IfOk result (λ d. d ≤ 17) }
 {
-    let mut turns = u64::MAX;
-    while 0 < turns {
+    for _ in 0..u64::MAX {
         let d = digit_of(next_char(from)?);
         if d != 16 {
             return Ok(d);
         }
-        turns -= 1;
     }
     Ok(17)
 }
@@ -80,24 +78,20 @@ fn next_byte(from: &mut impl Read) -> io::Result<u64> {
 
 // Fills an area, and answers whether the input held it all.
 fn fill(from: &mut impl Read, area: &mut [u8]) -> io::Result<bool> {
-    let mut i = 0;
-    while i < area.len() {
+    for x in area.iter_mut() {
         let b = next_byte(from)?;
         if 255 < b {
             return Ok(false);
         }
-        area[i] = b as u8;
-        i += 1;
+        *x = b as u8;
     }
     Ok(true)
 }
 
 fn print_bytes(to: &mut impl Write, b: &[u8]) -> io::Result<()> {
     to.write_all(&[b' '])?;
-    let mut i = 0;
-    while i < b.len() {
-        write!(to, "{:02x}", b[i])?;
-        i += 1;
+    for x in b {
+        write!(to, "{x:02x}")?;
     }
     Ok(())
 }
@@ -777,8 +771,7 @@ fn replay(
     area: &mut [u8],
 ) -> io::Result<()> {
     let mut size = 0;
-    let mut turns = u64::MAX;
-    while 0 < turns {
+    for _ in 0..u64::MAX {
         let kind = next_byte(from)?;
         let n = next_length(from)?;
         if body.len() < n {
@@ -794,7 +787,6 @@ fn replay(
         if table.len() < size {
             return Ok(());
         }
-        turns -= 1;
     }
     Ok(())
 }

@@ -31,14 +31,8 @@ pub fn pairs_in(b: &[u8]) -> [MapPair; 164] {
     let l = CampusLabel(0);
     let p = MapPair { vlan: v, label: l };
     let mut pairs = [p; 164];
-    let mut i = 0;
-    while i < MOST_PAIRS {
-        let at = i * PAIR_BYTES;
-        if b.len() < at + PAIR_BYTES {
-            return pairs;
-        }
-        pairs[i] = pair_at(b, at);
-        i += 1;
+    for i in 0..MOST_PAIRS.min(b.len() / PAIR_BYTES) {
+        pairs[i] = pair_at(b, i * PAIR_BYTES);
     }
     pairs
 }
