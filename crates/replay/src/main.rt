@@ -1,6 +1,6 @@
 #![tactic(auto)]
 
-ghost use Rattle.std.specs.Prelude.{◌/◌, ◌≤◌, true, ◌≡◌, length, IfOk};
+ghost use Rattle.std.specs.Prelude.{◌+◌, ◌/◌, ◌≤◌, true, ◌≡◌, length, IfSome, IfOk};
 
 use frame::Settings;
 use ingress::Given;
@@ -122,6 +122,21 @@ fn settings_in(b: &[u8]) -> Settings
     )
 }
 
+// The output area of a call, whose length stands in two bytes at an offset; none where the call or the area is too short for it.
+fn out_area<'a>(b: &[u8], at: usize, area: &'a mut [u8]) -> Option<&'a mut [u8]>
+    requires { at ≤ 1024 }
+    ensures { IfSome result (λ _. at + 2 ≤ length b.now) }
+{
+    if b.len() < at + 2 {
+        return None;
+    }
+    let n = numbers::be2(b, at) as usize;
+    if area.len() < n {
+        return None;
+    }
+    Some(&mut area[0..n])
+}
+
 // 01: settings, the output area's length, the frame.
 fn read_frame(to: &mut impl Write, b: &[u8], table: &mut [u8], out: &mut [u8]) -> io::Result<()>
     requires { 34 ≤ length b.now }
@@ -147,14 +162,10 @@ fn replay_receive(
     table: &mut [u8],
     area: &mut [u8],
 ) -> io::Result<bool> {
-    if b.len() < 34 {
+    let Some(out) = out_area(b, 32, area) else {
         return Ok(false);
-    }
-    let n = numbers::be2(b, 32) as usize;
-    if area.len() < n {
-        return Ok(false);
-    }
-    read_frame(to, b, table, &mut area[0..n])?;
+    };
+    read_frame(to, b, table, out)?;
     Ok(true)
 }
 
@@ -224,14 +235,10 @@ fn replay_compact(
     table: &[u8],
     area: &mut [u8],
 ) -> io::Result<bool> {
-    if b.len() < 34 {
+    let Some(out) = out_area(b, 32, area) else {
         return Ok(false);
-    }
-    let n = numbers::be2(b, 32) as usize;
-    if area.len() < n {
-        return Ok(false);
-    }
-    compact_frame(to, b, table, &mut area[0..n])?;
+    };
+    compact_frame(to, b, table, out)?;
     Ok(true)
 }
 
@@ -257,14 +264,10 @@ fn expand_frame(to: &mut impl Write, b: &[u8], table: &[u8], out: &mut [u8]) -> 
 }
 
 fn replay_expand(to: &mut impl Write, b: &[u8], table: &[u8], area: &mut [u8]) -> io::Result<bool> {
-    if b.len() < 50 {
+    let Some(out) = out_area(b, 48, area) else {
         return Ok(false);
-    }
-    let n = numbers::be2(b, 48) as usize;
-    if area.len() < n {
-        return Ok(false);
-    }
-    expand_frame(to, b, table, &mut area[0..n])?;
+    };
+    expand_frame(to, b, table, out)?;
     Ok(true)
 }
 
@@ -281,14 +284,10 @@ fn send_frame(to: &mut impl Write, b: &[u8], table: &[u8], work: &mut [u8]) -> i
 }
 
 fn replay_send(to: &mut impl Write, b: &[u8], table: &[u8], area: &mut [u8]) -> io::Result<bool> {
-    if b.len() < 34 {
+    let Some(out) = out_area(b, 32, area) else {
         return Ok(false);
-    }
-    let n = numbers::be2(b, 32) as usize;
-    if area.len() < n {
-        return Ok(false);
-    }
-    send_frame(to, b, table, &mut area[0..n])?;
+    };
+    send_frame(to, b, table, out)?;
     Ok(true)
 }
 
@@ -308,14 +307,10 @@ fn widen_table(to: &mut impl Write, b: &[u8], table: &[u8], out: &mut [u8]) -> i
 }
 
 fn replay_widen(to: &mut impl Write, b: &[u8], table: &[u8], area: &mut [u8]) -> io::Result<bool> {
-    if b.len() < 2 {
+    let Some(out) = out_area(b, 0, area) else {
         return Ok(false);
-    }
-    let n = numbers::be2(b, 0) as usize;
-    if area.len() < n {
-        return Ok(false);
-    }
-    widen_table(to, b, table, &mut area[0..n])?;
+    };
+    widen_table(to, b, table, out)?;
     Ok(true)
 }
 
@@ -577,14 +572,10 @@ fn read_hello(to: &mut impl Write, b: &[u8], table: &[u8], contents: &mut [u8]) 
 }
 
 fn replay_hello(to: &mut impl Write, b: &[u8], table: &[u8], area: &mut [u8]) -> io::Result<bool> {
-    if b.len() < 2 {
+    let Some(out) = out_area(b, 0, area) else {
         return Ok(false);
-    }
-    let n = numbers::be2(b, 0) as usize;
-    if area.len() < n {
-        return Ok(false);
-    }
-    read_hello(to, b, table, &mut area[0..n])?;
+    };
+    read_hello(to, b, table, out)?;
     Ok(true)
 }
 
@@ -602,14 +593,10 @@ fn replay_hello_write(
     table: &[u8],
     area: &mut [u8],
 ) -> io::Result<bool> {
-    if b.len() < 2 {
+    let Some(out) = out_area(b, 0, area) else {
         return Ok(false);
-    }
-    let n = numbers::be2(b, 0) as usize;
-    if area.len() < n {
-        return Ok(false);
-    }
-    write_hello(to, b, table, &mut area[0..n])?;
+    };
+    write_hello(to, b, table, out)?;
     Ok(true)
 }
 
@@ -620,14 +607,10 @@ fn write_report(to: &mut impl Write, table: &[u8], out: &mut [u8]) -> io::Result
 }
 
 fn replay_report(to: &mut impl Write, b: &[u8], table: &[u8], area: &mut [u8]) -> io::Result<bool> {
-    if b.len() < 2 {
+    let Some(out) = out_area(b, 0, area) else {
         return Ok(false);
-    }
-    let n = numbers::be2(b, 0) as usize;
-    if area.len() < n {
-        return Ok(false);
-    }
-    write_report(to, table, &mut area[0..n])?;
+    };
+    write_report(to, table, out)?;
     Ok(true)
 }
 

@@ -75,13 +75,9 @@ pub fn replay_send(
     table: &[u8],
     area: &mut [u8],
 ) -> io::Result<bool> {
-    if b.len() < 46 {
+    let Some(out) = crate::out_area(b, 44, area) else {
         return Ok(false);
-    }
-    let n = numbers::be2(b, 44) as usize;
-    if area.len() < n {
-        return Ok(false);
-    }
-    send_frame(to, b, table, &mut area[0..n])?;
+    };
+    send_frame(to, b, table, out)?;
     Ok(true)
 }
