@@ -11,8 +11,7 @@ use lib.Dec.{leb}
 use lib.ListN.{length, drop, length-drop}
 use borrow.Author.Tests.{leb-true, leb-false, le-leb}
 use Rattle.numbers.specs.Tests.{pick}
-use Rattle.numbers.specs.Result.{Result, refused, got, check, and_then, settled}
-use Rattle.numbers.specs.Refusals.{settings_bad, area_short, not_compactable}
+use Rattle.numbers.specs.Result.{Outcome, check, and_then, settled}
 use Rattle.numbers.specs.After.{on_area}
 use Rattle.numbers.specs.Bytes.{num, laid}
 use Rattle.numbers.proofs.Truth.{between_is}
@@ -28,10 +27,12 @@ use Rattle.frame.proofs.Parts.{after_outer, compact_parts, OuterIs, untagged, ta
 use Rattle.convert.specs.Compaction.{compact_bytes, stays_general, general_only, general_frame, general_fields, compacting, compact_room, written, compacted}
 use Rattle.convert.specs.Sending.{room_good, sent_fields, sending, sent}
 use Rattle.convert.specs.Claims.{RoomForCompaction, SendRoom}
-use Rattle.convert.specs.declared.ConvertAnswer.TheVariants.{Refused, Written}
-use Rattle.convert.specs.declared.SendAnswer.TheVariants as send
 use Rattle.convert.proofs.Compacting.{length-parts}
 use Rattle.convert.proofs.Fronts.{general_front}
+use Rattle.std.specs.Prelude.{Some, None, Ok, Err}
+use Rattle.numbers.specs.declared.refusals.Refusal.TheVariants.{SettingsBad, AreaShort, NotCompactable}
+use Rattle.numbers.specs.declared.refusals.Refusal.{Refusal}
+use Rattle.numbers.specs.Refusals.{number_of}
 
 -- ---- 9,204 bytes hold every compacted frame
 
@@ -40,7 +41,7 @@ outer_least f o (untagged e d t) = omega arith
 outer_least f o (tagged e d t) = omega arith
 
 module _ (s : Settings) (f : List ℕ) where
-  pub general_short : (p : Fields) → general_frame s f ≡ got p → length (compact_bytes p) ≤ compact_room
+  pub general_short : (p : Fields) → general_frame s f ≡ Ok p → length (compact_bytes p) ≤ compact_room
   unfolding compact_bytes frame_length_good
   general_short p e =
       let b = check_got _ _ _ _ e in
@@ -54,7 +55,7 @@ module _ (s : Settings) (f : List ℕ) where
       let l : length (compact_parts p) ≤ compact_room = (let k = length-parts p i.good in omega arith) in
       l
 
-  pub room_fits : (work : List ℕ) → room_good work ≡ true → (p : Fields) → general_frame s f ≡ got p → leb (length (compact_bytes p)) (length work) ≡ true
+  pub room_fits : (work : List ℕ) → room_good work ≡ true → (p : Fields) → general_frame s f ≡ Ok p → leb (length (compact_bytes p)) (length work) ≡ true
   unfolding room_good
   room_fits work h p e =
       let short = general_short p e in
@@ -63,26 +64,26 @@ module _ (s : Settings) (f : List ℕ) where
 
 -- ---- reading never gives 16
 
-abbrev Never16 : {A : Type 0} → Result A → Type 0
-Never16 r = r ≡ refused area_short → ⊥
+abbrev Never16 : {A : Type 0} → Outcome A → Type 0
+Never16 r = r ≡ Err AreaShort → ⊥
 
-got_never : {A : Type 0} (a : A) → Never16 (got a)
-got_never a e = refused_got area_short a (sym e)
+got_never : {A : Type 0} (a : A) → Never16 (Ok a)
+got_never a e = refused_got AreaShort a (sym e)
 
-refused_never : {A : Type 0} (n : ℕ) → (n ≡ 16 → ⊥) → Never16 {A = A} (refused n)
-refused_never n other e = other cc
+refused_never : {A : Type 0} (n : Refusal) → (number_of n ≡ 16 → ⊥) → Never16 {A = A} (Err n)
+refused_never n other e = let same : n ≡ AreaShort = cc in other (ap number_of same)
 
-check_never : {A : Type 0} (b : Bool) (n : ℕ) (r : Result A) → (n ≡ 16 → ⊥) → Never16 r → Never16 (check b n r)
+check_never : {A : Type 0} (b : Bool) (n : Refusal) (r : Outcome A) → (number_of n ≡ 16 → ⊥) → Never16 r → Never16 (check b n r)
 unfolding check
 check_never true n r other next = next
 check_never false n r other next = refused_never n other
 
-then_never : {A B : Type 0} (x : Result A) (k : A → Result B) → Never16 x → ((a : A) → Never16 (k a)) → Never16 (and_then x k)
+then_never : {A B : Type 0} (x : Outcome A) (k : A → Outcome B) → Never16 x → ((a : A) → Never16 (k a)) → Never16 (and_then x k)
 unfolding and_then
-then_never (refused n) k first next e = let z : n ≡ area_short = cc in first (ap refused z)
-then_never (got a) k first next e = next a e
+then_never (Err n) k first next e = let z : n ≡ AreaShort = cc in first (ap Err z)
+then_never (Ok a) k first next e = next a e
 
-pick_never : {A : Type 0} (b : Bool) (x y : Result A) → Never16 x → Never16 y → Never16 (pick b x y)
+pick_never : {A : Type 0} (b : Bool) (x y : Outcome A) → Never16 x → Never16 y → Never16 (pick b x y)
 unfolding pick
 pick_never true x y p q = p
 pick_never false x y p q = q
@@ -136,18 +137,18 @@ frame_never s f = check_never _ _ _ (λ e. omega arith) (only_never (front_of s 
 
 module _ (area : List ℕ) (p : Fields) where
   stays_cases : (z : Bool) → leb (length (compact_bytes p)) (length area) ≡ true
-      → (settled (λ n. on_area (Refused n) area) (and_then (check z not_compactable (got (compact_bytes p))) λ b. written Written b area)).answer ≡ Refused area_short → ⊥
+      → (settled (λ n. on_area (Err n) area) (and_then (check z NotCompactable (Ok (compact_bytes p))) λ b. written Ok b area)).answer ≡ Err AreaShort → ⊥
   unfolding settled and_then check written
   stays_cases true fits e = let q = rw fits at e in let z : ◌≡◌ {A = ℕ} 0 1 = cc in omega arith
-  stays_cases false fits e = let z : ◌≡◌ {A = ℕ} 16 17 = cc in omega arith
+  stays_cases false fits e = let z : ◌≡◌ {A = ℕ} 0 1 = cc in omega arith
 
 module _ (s : Settings) (area : List ℕ) where
-  compaction_cases_lem : (good : Bool) (x : Result Fields) → Never16 x → ((p : Fields) → x ≡ got p → leb (length (compact_bytes p)) (length area) ≡ true)
-      → (settled (λ n. on_area (Refused n) area) (and_then (and_then (check good settings_bad x) λ p. check (not (stays_general s (num p.dst))) not_compactable (got (compact_bytes p))) λ b. written Written b area)).answer ≡ Refused area_short → ⊥
+  compaction_cases_lem : (good : Bool) (x : Outcome Fields) → Never16 x → ((p : Fields) → x ≡ Ok p → leb (length (compact_bytes p)) (length area) ≡ true)
+      → (settled (λ n. on_area (Err n) area) (and_then (and_then (check good SettingsBad x) λ p. check (not (stays_general s (num p.dst))) NotCompactable (Ok (compact_bytes p))) λ b. written Ok b area)).answer ≡ Err AreaShort → ⊥
   unfolding settled and_then check
-  compaction_cases_lem false x never fits e = let z : ◌≡◌ {A = ℕ} 1 16 = cc in omega arith
-  compaction_cases_lem true (refused n) never fits e = let z : n ≡ 16 = cc in never (ap refused z)
-  compaction_cases_lem true (got p) never fits e = stays_cases area p (not (stays_general s (num p.dst))) (fits p refl) e
+  compaction_cases_lem false x never fits e = let z : ◌≡◌ {A = ℕ} 0 1 = cc in omega arith
+  compaction_cases_lem true (Err n) never fits e = let z : n ≡ AreaShort = cc in never (ap Err z)
+  compaction_cases_lem true (Ok p) never fits e = stays_cases area p (not (stays_general s (num p.dst))) (fits p refl) e
 
 pub room_for_compaction : RoomForCompaction
 unfolding compacted compacting general_fields room_good
@@ -155,18 +156,18 @@ room_for_compaction s f area room e =
     compaction_cases_lem s area (settings_good s) (general_frame s f) (frame_never s f) (room_fits s f area (le-leb compact_room (length area) room)) e
 
 module _ (s : Settings) (on : Bool) (work : List ℕ) where
-  pick_other : (z : Bool) (b : List ℕ) → (pick z (on_area (send.Compacted (length b)) (laid b work)) (on_area send.Itself work)).answer ≡ send.Refused area_short → ⊥
+  pick_other : (z : Bool) (b : List ℕ) → (pick z (on_area (Ok (Some (length b))) (laid b work)) (on_area (Ok None) work)).answer ≡ Err AreaShort → ⊥
   unfolding pick
   pick_other true b e = let z : ◌≡◌ {A = ℕ} 0 1 = cc in omega arith
   pick_other false b e = let z : ◌≡◌ {A = ℕ} 0 1 = cc in omega arith
 
-  sending_cases : (x : Result Fields) → Never16 x → (settled (λ n. on_area (send.Refused n) work) (and_then x λ p. got (sent_fields on s work p))).answer ≡ send.Refused area_short → ⊥
+  sending_cases : (x : Outcome Fields) → Never16 x → (settled (λ n. on_area (Err n) work) (and_then x λ p. Ok (sent_fields on s work p))).answer ≡ Err AreaShort → ⊥
   unfolding settled and_then sent_fields
-  sending_cases (refused n) never e = let z : n ≡ 16 = cc in never (ap refused z)
-  sending_cases (got p) never e = pick_other _ (compact_bytes p) e
+  sending_cases (Err n) never e = let z : n ≡ AreaShort = cc in never (ap Err z)
+  sending_cases (Ok p) never e = pick_other _ (compact_bytes p) e
 
-  by_room : (room : Bool) (x : Result Fields) → Never16 x → leb compact_room (length work) ≡ room
-      → ((settled (λ n. on_area (send.Refused n) work) (check room area_short (and_then x λ p. got (sent_fields on s work p)))).answer ≡ send.Refused area_short) ↔ (length work < compact_room)
+  by_room : (room : Bool) (x : Outcome Fields) → Never16 x → leb compact_room (length work) ≡ room
+      → ((settled (λ n. on_area (Err n) work) (check room AreaShort (and_then x λ p. Ok (sent_fields on s work p)))).answer ≡ Err AreaShort) ↔ (length work < compact_room)
   unfolding settled check
   by_room true x never h = (λ e. absurd (sending_cases x never e), λ k. let long = leb-true compact_room (length work) h in absurd (omega arith))
   by_room false x never h = (λ e. leb-false compact_room (length work) h, λ k. refl)

@@ -10,8 +10,7 @@ use mathlib.Core.Path.{◌≡◌, refl, sym, ap, ◌∙◌}
 use lib.Dec.{leb}
 use lib.ListN.{length}
 use Rattle.numbers.specs.Tests.{pick, both}
-use Rattle.numbers.specs.Result.{Result, refused, got, check, and_then, settled}
-use Rattle.numbers.specs.Refusals.{settings_bad, not_compactable, area_short}
+use Rattle.numbers.specs.Result.{Outcome, check, and_then, settled}
 use Rattle.numbers.specs.After.{OnArea, on_area}
 use Rattle.numbers.specs.Bytes.{num, laid}
 use Rattle.numbers.proofs.Answers.{refused_got, got_got}
@@ -21,11 +20,10 @@ use Rattle.frame.specs.declared.Settings.{Settings}
 use Rattle.convert.specs.Compaction.{compact_bytes, stays_general, general_frame, general_fields, compacting, written, compacted}
 use Rattle.convert.specs.Sending.{room_good, sent_fields, sending, sent}
 use Rattle.convert.specs.Claims.{SendsExactly}
-use Rattle.convert.specs.declared.SendAnswer.{SendAnswer}
-use Rattle.convert.specs.declared.SendAnswer.TheVariants as send
-use Rattle.convert.specs.declared.ConvertAnswer.{ConvertAnswer}
-use Rattle.convert.specs.declared.ConvertAnswer.TheVariants.{Refused, Written}
 use Rattle.convert.proofs.Room.{room_fits}
+use Rattle.std.specs.Prelude.{Option, Some, None, Ok, Err}
+use Rattle.numbers.specs.declared.refusals.Refusal.TheVariants.{SettingsBad, AreaShort, NotCompactable}
+use Rattle.numbers.specs.declared.refusals.Refusal.{Refusal}
 
 -- two answers that differ make any two numbers equal
 apart : {C : Type 0} → ◌≡◌ {A = ℕ} 0 1 → C
@@ -33,43 +31,43 @@ apart e = absurd (omega arith)
 
 -- both calls on the settings' test, the test of the room and what the frame's checks gave
 module _ (stays : Fields → Bool) (work : List ℕ) where
-  abbrev sent_by : Bool → Bool → Result Fields → Bool → OnArea SendAnswer
+  abbrev sent_by : Bool → Bool → Outcome Fields → Bool → OnArea (Outcome (Option ℕ))
   sent_by good room r on =
-      settled (λ n. on_area (send.Refused n) work)
-      (check good settings_bad
-      (check room area_short
-      (and_then r λ p. got (pick (both on (not (stays p))) (on_area (send.Compacted (length (compact_bytes p))) (laid (compact_bytes p) work)) (on_area send.Itself work)))))
+      settled (λ n. on_area (Err n) work)
+      (check good SettingsBad
+      (check room AreaShort
+      (and_then r λ p. Ok (pick (both on (not (stays p))) (on_area (Ok (Some (length (compact_bytes p)))) (laid (compact_bytes p) work)) (on_area (Ok None) work)))))
 
-  abbrev compacted_by : Bool → Result Fields → OnArea ConvertAnswer
+  abbrev compacted_by : Bool → Outcome Fields → OnArea (Outcome ℕ)
   compacted_by good r =
-      settled (λ n. on_area (Refused n) work)
-      (and_then (and_then (check good settings_bad r) λ p. check (not (stays p)) not_compactable (got (compact_bytes p))) λ b. written Written b work)
+      settled (λ n. on_area (Err n) work)
+      (and_then (and_then (check good SettingsBad r) λ p. check (not (stays p)) NotCompactable (Ok (compact_bytes p))) λ b. written Ok b work)
 
-  abbrev ItselfBy : Result Fields → Bool → Type 0
-  ItselfBy r on = (p : Fields) × (r ≡ got p) × ((stays p ≡ true) ⊎ (on ≡ false))
+  abbrev ItselfBy : Outcome Fields → Bool → Type 0
+  ItselfBy r on = (p : Fields) × (r ≡ Ok p) × ((stays p ≡ true) ⊎ (on ≡ false))
 
-  abbrev RefusesBy : Bool → Bool → Result Fields → Bool → OnArea ConvertAnswer → ℕ → Type 0
+  abbrev RefusesBy : Bool → Bool → Outcome Fields → Bool → OnArea (Outcome ℕ) → Refusal → Type 0
   RefusesBy good room r on c n =
-      ((room ≡ true) × (ItselfBy r on → ⊥) × (c.answer ≡ Refused n))
-      ⊎ ((room ≡ false) × (pick good area_short settings_bad ≡ n))
+      ((room ≡ true) × (ItselfBy r on → ⊥) × (c.answer ≡ Err n))
+      ⊎ ((room ≡ false) × (pick good AreaShort SettingsBad ≡ n))
 
-  record Exactly (good room : Bool) (r : Result Fields) (on : Bool) (a : OnArea SendAnswer) (c : OnArea ConvertAnswer) : Type 0 where
-    itself : (a.answer ≡ send.Itself) ↔ ((room ≡ true) × ItselfBy r on)
-    part : (n : ℕ) → (a.answer ≡ send.Compacted n) ↔ ((room ≡ true) × (on ≡ true) × (c.answer ≡ Written n))
-    area : (n : ℕ) → a.answer ≡ send.Compacted n → a.area ≡ c.area
-    refusal : (n : ℕ) → (a.answer ≡ send.Refused n) ↔ RefusesBy good room r on c n
+  record Exactly (good room : Bool) (r : Outcome Fields) (on : Bool) (a : OnArea (Outcome (Option ℕ))) (c : OnArea (Outcome ℕ)) : Type 0 where
+    itself : (a.answer ≡ (Ok None)) ↔ ((room ≡ true) × ItselfBy r on)
+    part : (n : ℕ) → (a.answer ≡ (Ok (Some n))) ↔ ((room ≡ true) × (on ≡ true) × (c.answer ≡ Ok n))
+    area : (n : ℕ) → a.answer ≡ (Ok (Some n)) → a.area ≡ c.area
+    refusal : (n : Refusal) → (a.answer ≡ Err n) ↔ RefusesBy good room r on c n
 
   -- no room: 16, or 1 before it
-  as_short : (good : Bool) (r : Result Fields) (on : Bool) (c : OnArea ConvertAnswer) → Exactly good false r on (on_area (send.Refused (pick good area_short settings_bad)) work) c
+  as_short : (good : Bool) (r : Outcome Fields) (on : Bool) (c : OnArea (Outcome ℕ)) → Exactly good false r on (on_area (Err (pick good AreaShort SettingsBad)) work) c
   as_short good r on c = record {
     itself = (λ e. apart cc, λ j. apart cc);
     part = λ n. (λ e. apart cc, λ h. apart cc);
     area = λ n e. cc;
-    refusal = λ n. (λ e. inr (refl, cc), λ h. ⊎_elim (λ x. apart cc) (λ x. ap send.Refused x.1) h);
+    refusal = λ n. (λ e. inr (refl, cc), λ h. ⊎_elim (λ x. apart cc) (λ x. ap Err x.1) h);
   }
 
   -- the frame itself, whatever compaction gives
-  as_itself : (good : Bool) (r : Result Fields) (on : Bool) (c : OnArea ConvertAnswer) → ItselfBy r on → ((n : ℕ) → on ≡ true → c.answer ≡ Written n → ⊥) → Exactly good true r on (on_area send.Itself work) c
+  as_itself : (good : Bool) (r : Outcome Fields) (on : Bool) (c : OnArea (Outcome ℕ)) → ItselfBy r on → ((n : ℕ) → on ≡ true → c.answer ≡ Ok n → ⊥) → Exactly good true r on (on_area (Ok None) work) c
   as_itself good r on c i none = record {
     itself = (λ e. (refl, i), λ j. refl);
     part = λ n. (λ e. apart cc, λ h. absurd (none n h.1 h.2));
@@ -78,7 +76,7 @@ module _ (stays : Fields → Bool) (work : List ℕ) where
   }
 
   -- a refusal, which is compaction's
-  as_refused : (good : Bool) (r : Result Fields) (on : Bool) (k : ℕ) → (ItselfBy r on → ⊥) → Exactly good true r on (on_area (send.Refused k) work) (on_area (Refused k) work)
+  as_refused : (good : Bool) (r : Outcome Fields) (on : Bool) (k : Refusal) → (ItselfBy r on → ⊥) → Exactly good true r on (on_area (Err k) work) (on_area (Err k) work)
   as_refused good r on k none = record {
     itself = (λ e. apart cc, λ j. absurd (none j.1));
     part = λ n. (λ e. apart cc, λ h. let z = h.2 in apart cc);
@@ -87,7 +85,7 @@ module _ (stays : Fields → Bool) (work : List ℕ) where
   }
 
   -- a part, which is compaction's
-  as_part : (good : Bool) (r : Result Fields) (k : ℕ) (area : List ℕ) → (ItselfBy r true → ⊥) → Exactly good true r true (on_area (send.Compacted k) area) (on_area (Written k) area)
+  as_part : (good : Bool) (r : Outcome Fields) (k : ℕ) (area : List ℕ) → (ItselfBy r true → ⊥) → Exactly good true r true (on_area (Ok (Some k)) area) (on_area (Ok k) area)
   as_part good r k area none = record {
     itself = (λ e. apart cc, λ j. absurd (none j.1));
     part = λ n. (λ e. (refl, refl, cc), λ h. let z = h.2 in cc);
@@ -100,7 +98,7 @@ module _ (stays : Fields → Bool) (work : List ℕ) where
     bytes = compact_bytes p
 
     -- another inner destination, and Compact on: what is compacted is sent
-    none : stays p ≡ false → ItselfBy (got p) true → ⊥
+    none : stays p ≡ false → ItselfBy (Ok p) true → ⊥
     none e j =
         ⊎_elim
         (λ h. let same = got_got p j.0 j.1 in let z : ◌≡◌ {A = Bool} true false = sym h ∙ ap stays (sym same) ∙ e in apart cc)
@@ -108,29 +106,29 @@ module _ (stays : Fields → Bool) (work : List ℕ) where
         j.2
 
     by_destination : (on z : Bool) → stays p ≡ z → leb (length bytes) (length work) ≡ true
-        → Exactly true true (got p) on (pick (both on (not z)) (on_area (send.Compacted (length bytes)) (laid bytes work)) (on_area send.Itself work))
-        (settled (λ n. on_area (Refused n) work) (and_then (check (not z) not_compactable (got bytes)) λ b. written Written b work))
+        → Exactly true true (Ok p) on (pick (both on (not z)) (on_area (Ok (Some (length bytes))) (laid bytes work)) (on_area (Ok None) work))
+        (settled (λ n. on_area (Err n) work) (and_then (check (not z) NotCompactable (Ok bytes)) λ b. written Ok b work))
     unfolding settled and_then check pick both written
-    by_destination false z e fits = as_itself true (got p) false _ (p, refl, inr refl) (λ n h k. apart cc)
-    by_destination true true e fits = as_itself true (got p) true _ (p, refl, inl e) (λ n h k. apart cc)
-    by_destination true false e fits = rw fits (as_part true (got p) (length bytes) (laid bytes work) (none e))
+    by_destination false z e fits = as_itself true (Ok p) false _ (p, refl, inr refl) (λ n h k. apart cc)
+    by_destination true true e fits = as_itself true (Ok p) true _ (p, refl, inl e) (λ n h k. apart cc)
+    by_destination true false e fits = rw fits (as_part true (Ok p) (length bytes) (laid bytes work) (none e))
 
-  exactly : (good room : Bool) (r : Result Fields) (on : Bool)
-      → (room ≡ true → (p : Fields) → r ≡ got p → leb (length (compact_bytes p)) (length work) ≡ true)
-      → Exactly good room (check good settings_bad r) on (sent_by good room r on) (compacted_by good r)
+  exactly : (good room : Bool) (r : Outcome Fields) (on : Bool)
+      → (room ≡ true → (p : Fields) → r ≡ Ok p → leb (length (compact_bytes p)) (length work) ≡ true)
+      → Exactly good room (check good SettingsBad r) on (sent_by good room r on) (compacted_by good r)
   unfolding settled and_then check pick
   exactly false false r on fits = as_short false _ on _
-  exactly false true r on fits = as_refused false _ on settings_bad (λ j. refused_got settings_bad j.0 j.1)
+  exactly false true r on fits = as_refused false _ on SettingsBad (λ j. refused_got SettingsBad j.0 j.1)
   exactly true false r on fits = as_short true r on _
-  exactly true true (refused k) on fits = as_refused true (refused k) on k (λ j. refused_got k j.0 j.1)
-  exactly true true (got p) on fits = by_destination p on (stays p) refl (fits refl p refl)
+  exactly true true (Err k) on fits = as_refused true (Err k) on k (λ j. refused_got k j.0 j.1)
+  exactly true true (Ok p) on fits = by_destination p on (stays p) refl (fits refl p refl)
 
 module _ (s : Settings) (f work : List ℕ) where
   sends : Exactly (λ p. stays_general s (num p.dst)) work (settings_good s) (room_good work) (general_fields s f) (compact_on s) (sent s f work) (compacted s f work)
   unfolding sent sending sent_fields compacted compacting general_fields
   sends = exactly (λ p. stays_general s (num p.dst)) work (settings_good s) (room_good work) (general_frame s f) (compact_on s) (room_fits s f work)
 
-  seventeen : (p : Fields) → general_fields s f ≡ got p → stays_general s (num p.dst) ≡ true → (compacted s f work).answer ≡ Refused not_compactable
+  seventeen : (p : Fields) → general_fields s f ≡ Ok p → stays_general s (num p.dst) ≡ true → (compacted s f work).answer ≡ Err NotCompactable
   unfolding compacted compacting settled and_then check
   seventeen p e h = rw (e, h)
 

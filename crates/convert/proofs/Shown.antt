@@ -9,7 +9,7 @@ use lib.ListN.{length, take, drop}
 use lib.Seq.{take-append_seam}
 use borrow.Author.Tests.{leb-true}
 use Rattle.numbers.specs.Tests.{pick, both}
-use Rattle.numbers.specs.Result.{Result, refused, got, check, and_then, settled}
+use Rattle.numbers.specs.Result.{check, and_then, settled}
 use Rattle.numbers.specs.After.{OnArea, on_area}
 use Rattle.numbers.specs.Bytes.{num, laid}
 use Rattle.frame.specs.Settings.{settings_good, compact_on}
@@ -17,40 +17,41 @@ use Rattle.frame.specs.Fields.{Fields}
 use Rattle.frame.specs.declared.Settings.{Settings}
 use Rattle.convert.specs.Compaction.{compact_bytes, stays_general, general_frame, general_fields, compacting, compacted}
 use Rattle.convert.specs.Sending.{room_good, sent_fields, sending, sent, chosen}
-use Rattle.convert.specs.declared.SendAnswer.{SendAnswer}
-use Rattle.convert.specs.declared.SendAnswer.TheVariants.{Refused, Compacted, Itself}
 use Rattle.convert.specs.Claims.{converted}
 use Rattle.convert.proofs.Areas.{writes}
 use Rattle.convert.proofs.Room.{room_fits}
 use Rattle.convert.specs.Chosen.{ChosenSent}
+use Rattle.std.specs.Prelude.{Option, Result, Some, None, Ok, Err}
+use Rattle.numbers.specs.declared.refusals.Refusal.TheVariants.{SettingsBad, AreaShort, NotCompactable}
+use Rattle.numbers.specs.declared.refusals.Refusal.{Refusal}
 
 -- an outcome of sending, `bytes` being the compacted frame or its refusal
-data Outcome (bytes : Result (List ℕ)) (work : List ℕ) : OnArea SendAnswer → Type 0 where
-  left : (n : ℕ) → Outcome bytes work (on_area (Refused n) work)
-  same : Outcome bytes work (on_area Itself work)
-  short : (b : List ℕ) → bytes ≡ got b → length b ≤ length work → Outcome bytes work (on_area (Compacted (length b)) (laid b work))
+data Outcome (bytes : Result (List ℕ) Refusal) (work : List ℕ) : OnArea (Result (Option ℕ) Refusal) → Type 0 where
+  left : (n : Refusal) → Outcome bytes work (on_area (Err n) work)
+  same : Outcome bytes work (on_area (Ok None) work)
+  short : (b : List ℕ) → bytes ≡ Ok b → length b ≤ length work → Outcome bytes work (on_area (Ok (Some (length b))) (laid b work))
 
 module _ (work : List ℕ) where
   -- the compacted frame, where it may be compacted
-  abbrev compacted_of : (Fields → Bool) → Result Fields → Result (List ℕ)
-  compacted_of stays x = and_then x λ p. check (not (stays p)) 17 (got (compact_bytes p))
+  abbrev compacted_of : (Fields → Bool) → Result Fields Refusal → Result (List ℕ) Refusal
+  compacted_of stays x = and_then x λ p. check (not (stays p)) NotCompactable (Ok (compact_bytes p))
 
   may_cases : (on t : Bool) (p : Fields) → length (compact_bytes p) ≤ length work
-      → Outcome (check (not t) 17 (got (compact_bytes p))) work (pick (both on (not t)) (on_area (Compacted (length (compact_bytes p))) (laid (compact_bytes p) work)) (on_area Itself work))
+      → Outcome (check (not t) NotCompactable (Ok (compact_bytes p))) work (pick (both on (not t)) (on_area (Ok (Some (length (compact_bytes p)))) (laid (compact_bytes p) work)) (on_area (Ok None) work))
   unfolding pick both check
   may_cases true true p fits = same
   may_cases true false p fits = short (compact_bytes p) refl fits
   may_cases false t p fits = same
 
-  field_cases : (on : Bool) (stays : Fields → Bool) (good room : Bool) (x : Result Fields)
-      → (room ≡ true → (p : Fields) → x ≡ got p → length (compact_bytes p) ≤ length work)
-      → Outcome (compacted_of stays (check good 1 x)) work
-      (settled (λ k. on_area (Refused k) work) (check good 1 (check room 16 (and_then x λ p. got (pick (both on (not (stays p))) (on_area (Compacted (length (compact_bytes p))) (laid (compact_bytes p) work)) (on_area Itself work))))))
+  field_cases : (on : Bool) (stays : Fields → Bool) (good room : Bool) (x : Result Fields Refusal)
+      → (room ≡ true → (p : Fields) → x ≡ Ok p → length (compact_bytes p) ≤ length work)
+      → Outcome (compacted_of stays (check good SettingsBad x)) work
+      (settled (λ k. on_area (Err k) work) (check good SettingsBad (check room AreaShort (and_then x λ p. Ok (pick (both on (not (stays p))) (on_area (Ok (Some (length (compact_bytes p)))) (laid (compact_bytes p) work)) (on_area (Ok None) work))))))
   unfolding and_then settled check
-  field_cases on stays false room x fits = left 1
-  field_cases on stays true false x fits = left 16
-  field_cases on stays true true (refused n) fits = left n
-  field_cases on stays true true (got p) fits = may_cases on (stays p) p (fits refl p refl)
+  field_cases on stays false room x fits = left SettingsBad
+  field_cases on stays true false x fits = left AreaShort
+  field_cases on stays true true (Err n) fits = left n
+  field_cases on stays true true (Ok p) fits = may_cases on (stays p) p (fits refl p refl)
 
 sent_outcome : (s : Settings) (f work : List ℕ) → Outcome (compacting s f) work (sent s f work)
 unfolding sent sending sent_fields compacting general_fields
@@ -59,23 +60,23 @@ sent_outcome s f work =
     (λ h p e. leb-true (length (compact_bytes p)) (length work) (room_fits s f work h p e))
 
 module _ (s : Settings) (f work : List ℕ) where
-  short_shown : (r : OnArea SendAnswer) → Outcome (compacting s f) work r → (n : ℕ) → r.answer ≡ Compacted n
-      → (converted (compacted s f work) ≡ got (chosen r.answer r.area f)) × (length (chosen r.answer r.area f) ≡ n)
+  short_shown : (r : OnArea (Result (Option ℕ) Refusal)) → Outcome (compacting s f) work r → (n : ℕ) → r.answer ≡ (Ok (Some n))
+      → (converted (compacted s f work) ≡ Ok (chosen r.answer r.area f)) × (length (chosen r.answer r.area f) ≡ n)
   unfolding chosen compacted laid
   short_shown _ (left k) n e = let z : ◌≡◌ {A = ℕ} 0 1 = cc in absurd (omega arith)
   short_shown _ same n e = let z : ◌≡◌ {A = ℕ} 0 1 = cc in absurd (omega arith)
   short_shown _ (short b q fits) n e =
       let seam : take (length b) (b ++ drop (length b) work) ≡ b = take-append_seam b (drop (length b) work) in
       let long : length b ≡ n = cc in
-      (writes (compacting s f) work b q fits ∙ ap got (sym seam), ap length seam ∙ long)
+      (writes (compacting s f) work b q fits ∙ ap Ok (sym seam), ap length seam ∙ long)
 
-  itself_shown : (r : OnArea SendAnswer) → Outcome (compacting s f) work r → r.answer ≡ Itself → chosen r.answer r.area f ≡ f
+  itself_shown : (r : OnArea (Result (Option ℕ) Refusal)) → Outcome (compacting s f) work r → r.answer ≡ (Ok None) → chosen r.answer r.area f ≡ f
   unfolding chosen
   itself_shown _ (left k) e = let z : ◌≡◌ {A = ℕ} 0 1 = cc in absurd (omega arith)
   itself_shown _ same e = refl
   itself_shown _ (short b q fits) e = let z : ◌≡◌ {A = ℕ} 0 1 = cc in absurd (omega arith)
 
-  nothing-shown : (r : OnArea SendAnswer) → Outcome (compacting s f) work r → (n : ℕ) → r.answer ≡ Refused n → chosen r.answer r.area f ≡ []
+  nothing-shown : (r : OnArea (Result (Option ℕ) Refusal)) → Outcome (compacting s f) work r → (n : Refusal) → r.answer ≡ Err n → chosen r.answer r.area f ≡ []
   unfolding chosen
   nothing-shown _ (left k) n e = refl
   nothing-shown _ same n e = let z : ◌≡◌ {A = ℕ} 0 1 = cc in absurd (omega arith)

@@ -2,14 +2,12 @@
 -- Assumes nothing.
 use Prim.Native.Nat.{ℕ, ◌+◌, ◌≤◌, ◌<◌}
 use mathlib.Core.Bool.{Bool, true, false}
-use mathlib.Core.List.{List, [], ◌∷◌, ◌++◌, append_assoc}
-use mathlib.Core.Logic.{◌⊎◌, inl, inr, ⊎_elim}
+use mathlib.Core.List.{List, ◌++◌, append_assoc}
+use mathlib.Core.Logic.{◌⊎◌, inl, inr}
 use mathlib.Core.Path.{◌≡◌, refl, sym, ap, ◌∙◌}
 use native.Mathlib.Omega.{arith}
 use lib.ListN.{length, take, drop, length-append, length-drop}
-use denote.Enum.Declared.{tag_of}
-use types.Run.{OneOf}
-use Rattle.numbers.specs.Result.{refused, got, check, and_then, settled}
+use Rattle.numbers.specs.Result.{check, and_then, settled, Outcome}
 use Rattle.numbers.specs.After.{on_area}
 use Rattle.numbers.specs.Bytes.{num, bytes_of, laid}
 use Rattle.numbers.proofs.Truth.{between_below, between_above}
@@ -18,39 +16,30 @@ use Rattle.frame.specs.Front as spec
 use Rattle.frame.specs.Labels.{trill_type}
 use Rattle.frame.specs.Formats.{shortest_frame, longest_frame, frame_length_good, general}
 use Rattle.frame.specs.declared.Settings.{Settings}
-use Rattle.frame_fields.specs.contracts.Front.{the_type}
 use Rattle.frame_fields.specs.Meaning.{front_as, front_at}
 use Rattle.frame_fields.specs.declared.Front.{Front}
 use Rattle.frame_fields.specs.declared.Front.TheVariants as front
-use Rattle.frame_parse.specs.Meaning.{fields_in, PartsOf, parsed_as, Reads}
+use Rattle.frame_parse.specs.Meaning.{fields_in, PartsOf, Reads}
 use Rattle.frame_parse.specs.declared.Parts.{Parts}
-use Rattle.frame_parse.specs.declared.Parsed.{Parsed}
-use Rattle.frame_parse.specs.declared.Parsed.TheVariants as parsed
 use Rattle.frame_parse.proofs.Outcomes.{frame_length_in}
 use Rattle.frame_parse.proofs.Located.{inner_piece, inner_long, header_long}
 use Rattle.frame_copy.specs.Areas.{pasted}
 use Rattle.frame_copy.proofs.Copying.{paste_after, paste_laid}
 use Rattle.convert.specs.Compaction.{compact_bytes, stays_general, general_only, general_fields, compacting, compacted}
-use Rattle.convert.specs.declared.ConvertAnswer.{ConvertAnswer}
-use Rattle.convert.specs.declared.ConvertAnswer.TheVariants.{Refused}
 use Rattle.convert_compact.specs.Meaning.{fields_at, compact_length, put_on}
+use Rattle.std.specs.Prelude.{Ok, Err}
+use Rattle.numbers.specs.declared.refusals.Refusal.TheVariants.{SettingsBad, FrameLengthBad, NotForPort, NotCompactable}
+use Rattle.numbers.specs.declared.refusals.Refusal.{Refusal}
 
 -- ---- the parts of a General frame
 
--- a destination in front that is in the first arm of a match means General
-pub means_general : (d : Front) → OneOf (0 ∷ 1 ∷ []) (tag_of the_type d) → (d ≡ front.Unicast) ⊎ (d ≡ front.Multicast)
-means_general front.Unicast h = inl refl
-means_general front.Multicast h = inr refl
-means_general front.Refused h = ⊎_elim (λ e. absurd (omega arith)) (λ e. absurd (omega arith)) h
-means_general front.Inner h = ⊎_elim (λ e. absurd (omega arith)) (λ e. absurd (omega arith)) h
-
 module _ (port : ℕ) (f : List ℕ) where
-  pub too_short : length f < shortest_frame → refused 3 ≡ fields_at port f
+  pub too_short : length f < shortest_frame → Err FrameLengthBad ≡ fields_at port f
   unfolding fields_at frame_length_good check
   too_short p = rw (between_below shortest_frame longest_frame (length f) p)
 
   module _ (lo : shortest_frame ≤ length f) where
-    pub too_long : longest_frame < length f → refused 3 ≡ fields_at port f
+    pub too_long : longest_frame < length f → Err FrameLengthBad ≡ fields_at port f
     unfolding fields_at frame_length_good check
     too_long p = rw (between_above shortest_frame longest_frame (length f) p)
 
@@ -64,17 +53,17 @@ module _ (port : ℕ) (f : List ℕ) where
       to_us (inl p) = rw p (by_front_lem front.Unicast p)
       to_us (inr p) = rw p (by_front_lem front.Multicast p)
 
-      pub not_here : r ≡ front.Refused → refused 5 ≡ fields_at port f
+      pub not_here : r ≡ front.Refused → Err NotForPort ≡ fields_at port f
       unfolding general_only
       not_here p = by_front_lem front.Refused p
 
-      pub compact_front : r ≡ front.Inner → refused 17 ≡ fields_at port f
+      pub compact_front : r ≡ front.Inner → Err NotCompactable ≡ fields_at port f
       unfolding general_only
       compact_front p = by_front_lem front.Inner p
 
 -- with the settings' test in front
 module _ (s : Settings) (f : List ℕ) (g : Bool) (eg : g ≡ settings_good s) where
-  pub bad_settings : g ≡ false → general_fields s f ≡ refused 1
+  pub bad_settings : g ≡ false → general_fields s f ≡ Err SettingsBad
   unfolding general_fields check
   bad_settings h = rw (← eg, h)
 
@@ -127,27 +116,24 @@ module _ (f : List ℕ) (p : Parts) where
 -- ---- the call
 
 module _ (s : Settings) (f area : List ℕ) (g : Bool) (eg : g ≡ settings_good s) where
-  pub call_settings : g ≡ false → on_area (Refused 1) area ≡ compacted s f area
+  pub call_settings : g ≡ false → on_area (Err SettingsBad) area ≡ compacted s f area
   unfolding compacted compacting settled and_then
   call_settings h = rw (bad_settings s f g eg h)
 
-module _ (s : Settings) (f area : List ℕ) (g : Bool) (eg : g ≡ settings_good s) (ok : g ≡ true) (x : Parsed) (ef : Reads f (fields_at s.port f) x) where
-  ex : parsed_as f x ≡ general_fields s f
-  ex = ef.fields ∙ good_settings s f g eg ok
-
-  pub call_refused : (n : ℕ) → x ≡ parsed.Refused n → on_area (Refused n) area ≡ compacted s f area
+module _ (s : Settings) (f area : List ℕ) (g : Bool) (eg : g ≡ settings_good s) (ok : g ≡ true) where
+  pub call_refused : (n : Refusal) → Reads f (fields_at s.port f) (Err n) → on_area (Err n) area ≡ compacted s f area
   unfolding compacted compacting settled and_then
-  call_refused n e = rw (← ex, e)
+  call_refused n r = rw (← good_settings s f g eg ok, ← r.fields)
 
-  module _ (p : Parts) (e : x ≡ parsed.Fields p) where
-    fields_got : general_fields s f ≡ got (fields_in f p)
-    fields_got = sym ex ∙ ap (parsed_as f) e
+  module _ (p : Parts) (r : Reads f (fields_at s.port f) (Ok p)) where
+    fields_got : general_fields s f ≡ Ok (fields_in f p)
+    fields_got = sym (r.fields ∙ good_settings s f g eg ok)
 
     module _ (a : ℕ) (ea : a ≡ num (take 6 (drop p.dst_offset f))) (b : Bool) (eb : b ≡ stays_general s a) where
-      pub call_stays : b ≡ true → on_area (Refused 17) area ≡ compacted s f area
+      pub call_stays : b ≡ true → on_area (Err NotCompactable) area ≡ compacted s f area
       unfolding compacted compacting settled and_then check
       call_stays h = rw (fields_got, ← ea, ← eb, h)
 
-      pub call_put : b ≡ false → (r : ConvertAnswer) (o : List ℕ) → on_area r o ≡ put_on (compact_bytes (fields_in f p)) area → on_area r o ≡ compacted s f area
+      pub call_put : b ≡ false → (r : Outcome ℕ) (o : List ℕ) → on_area r o ≡ put_on (compact_bytes (fields_in f p)) area → on_area r o ≡ compacted s f area
       unfolding compacted compacting settled and_then check put_on
       call_put h r o q = q ∙ rw (fields_got, ← ea, ← eb, h)

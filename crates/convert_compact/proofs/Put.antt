@@ -9,15 +9,16 @@ use Rattle.numbers.specs.Result.{check, settled}
 use Rattle.numbers.specs.After.{on_area}
 use Rattle.numbers.specs.Bytes.{laid}
 use Rattle.convert.specs.Compaction.{written}
-use Rattle.convert.specs.declared.ConvertAnswer.TheVariants.{Refused, Written}
 use Rattle.convert_compact.specs.Meaning.{put_on, filled}
+use Rattle.std.specs.Prelude.{Ok, Err}
+use Rattle.numbers.specs.declared.refusals.Refusal.TheVariants.{AreaShort}
 
 module _ (b area : List ℕ) (n : ℕ) (long : length b ≡ n) where
-  pub put_short : length area < n → on_area (Refused 16) area ≡ put_on b area
+  pub put_short : length area < n → on_area (Err AreaShort) area ≡ put_on b area
   unfolding put_on written check settled
   put_short h = rw (long, lt-leb n (length area) h)
 
-  pub put_written : n ≤ length area → (o : List ℕ) → o ≡ laid b area → on_area (Written n) o ≡ put_on b area
+  pub put_written : n ≤ length area → (o : List ℕ) → o ≡ laid b area → on_area (Ok n) o ≡ put_on b area
   unfolding put_on written check settled
   put_written h o e = rw (long, le-leb n (length area) h, e)
 

@@ -10,45 +10,40 @@ ghost use Rattle.frame_parse.specs.Meaning.{fields_in, PartsOf, Reads};
 ghost use Rattle.convert.specs.Compaction.{compact_bytes, stays_general, compact_room, compacted};
 ghost use Rattle.convert_compact.specs.Meaning.{fields_at, compact_length, put_on, filled};
 
-use convert::ConvertAnswer;
 use frame::{
     ADDRESSES_BYTES, ETHERTYPE_BYTES, FIXED_HEADER_BYTES, LONGEST_FRAME, SHORTEST_FRAME, Settings,
     TAGGED_ADDRESSES_BYTES, TRILL_ETHERTYPE, UNTAGGED_OUTER_BYTES,
 };
-use frame_fields::{Front, Length};
-use frame_parse::{Parsed, Parts};
-use numbers::refusals::{
-    AREA_SHORT, FRAME_LENGTH_BAD, NOT_COMPACTABLE, NOT_FOR_PORT, SETTINGS_BAD,
-};
+use frame_fields::Front;
+use frame_parse::Parts;
+use numbers::refusals::Refusal;
 
 // As `frame_parse::read_general`. With two callers `general_after_outer` stays a call, and both of these are short enough to be a part of
 // their callers' code, where a frame that is not TRILL is refused at once.
-fn general_parts(d: Front, f: &[u8]) -> Parsed
+fn general_parts(d: Front, f: &[u8]) -> Result<Parts, Refusal>
     requires { length f.now ≤ longest_frame }
     ensures { Reads f.now (general (front_as d) f.now) result }
 {
-    match frame_fields::outer_length(f) {
-        Length::Refused(e) => Parsed::Refused(e),
-        Length::Bytes(o) => frame_parse::general_after_outer(d, f, o),
-    }
+    let o = frame_fields::outer_length(f)?;
+    frame_parse::general_after_outer(d, f, o)
 }
 
 // The parts of a General frame, after the test of the settings; a Compact frame in front is 17.
-pub fn general_fields(port: u64, f: &[u8]) -> Parsed
+pub fn general_fields(port: u64, f: &[u8]) -> Result<Parts, Refusal>
     ensures { Reads f.now (fields_at port f.now) result }
 {
     let n = f.len();
     if n < SHORTEST_FRAME {
-        return Parsed::Refused(FRAME_LENGTH_BAD);
+        return Err(Refusal::FrameLengthBad);
     }
     if LONGEST_FRAME < n {
-        return Parsed::Refused(FRAME_LENGTH_BAD);
+        return Err(Refusal::FrameLengthBad);
     }
     let d = frame_fields::front_of(port, numbers::be6(f, 0));
     match d {
         Front::Unicast | Front::Multicast => general_parts(d, f),
-        Front::Refused => Parsed::Refused(NOT_FOR_PORT),
-        Front::Inner => Parsed::Refused(NOT_COMPACTABLE),
+        Front::Refused => Err(Refusal::NotForPort),
+        Front::Inner => Err(Refusal::NotCompactable),
     }
 }
 
@@ -84,16 +79,16 @@ fn write_compact(f: &[u8], p: Parts, out: &mut [u8])
 }
 
 // Writes the Compact frame where there is room for it.
-pub fn put_compact(f: &[u8], p: Parts, out: &mut [u8]) -> ConvertAnswer
+pub fn put_compact(f: &[u8], p: Parts, out: &mut [u8]) -> Result<u16, Refusal>
     requires { PartsOf f.now p }
     ensures { on_area result out.new ≡ put_on (compact_bytes (fields_in f.now p)) out.old }
 {
     let n = UNTAGGED_OUTER_BYTES + p.label_length + p.header_length + (f.len() - p.content_offset);
     if out.len() < n {
-        return ConvertAnswer::Refused(AREA_SHORT);
+        return Err(Refusal::AreaShort);
     }
     write_compact(f, p, out);
-    ConvertAnswer::Written(n as u16)
+    Ok(n as u16)
 }
 
 // Writes the Compact frame of a General one to an area with room for every such frame, and gives its length.
@@ -107,19 +102,15 @@ pub fn fill_compact(f: &[u8], p: Parts, out: &mut [u8]) -> u16
 }
 
 // The compaction call, with the far port's settings.
-pub fn compact(s: Settings, frame: &[u8], out: &mut [u8]) -> ConvertAnswer
+pub fn compact(s: Settings, frame: &[u8], out: &mut [u8]) -> Result<u16, Refusal>
     ensures { on_area result out.new ≡ compacted s frame.now out.old }
 {
     if !frame_settings::settings_good(s) {
-        return ConvertAnswer::Refused(SETTINGS_BAD);
+        return Err(Refusal::SettingsBad);
     }
-    match general_fields(s.port, frame) {
-        Parsed::Refused(n) => ConvertAnswer::Refused(n),
-        Parsed::Fields(p) => {
-            if stays_general(s, numbers::be6(frame, p.dst_offset)) {
-                return ConvertAnswer::Refused(NOT_COMPACTABLE);
-            }
-            put_compact(frame, p, out)
-        }
+    let p = general_fields(s.port, frame)?;
+    if stays_general(s, numbers::be6(frame, p.dst_offset)) {
+        return Err(Refusal::NotCompactable);
     }
+    put_compact(frame, p, out)
 }

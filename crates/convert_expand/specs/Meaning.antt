@@ -2,8 +2,7 @@
 -- Assumes nothing.
 use Rattle.std.specs.Prelude.{ℕ, ◌+◌, Bool, List, ◌++◌, eqb, length}
 use Rattle.numbers.specs.Tests.{pick, both}
-use Rattle.numbers.specs.Result.{Result, check}
-use Rattle.numbers.specs.Refusals.{settings_bad, frame_length_bad}
+use Rattle.numbers.specs.Result.{Outcome, check}
 use Rattle.numbers.specs.Bytes.{bytes_of}
 use Rattle.numbers.specs.Ranges.{individual}
 use Rattle.frame.specs.Settings.{settings_good}
@@ -14,6 +13,7 @@ use Rattle.frame.specs.Formats.{frame_length_good}
 use Rattle.frame.specs.declared.Settings.{Settings}
 use Rattle.convert.specs.Expansion as spec
 use Rattle.convert_expand.specs.declared.Outer.{Outer}
+use Rattle.numbers.specs.declared.refusals.Refusal.TheVariants.{SettingsBad, FrameLengthBad}
 
 -- the outer part that the caller gives
 abbrev pub outer_as : Outer → spec.Outer
@@ -27,10 +27,10 @@ unfoldable pub lengths_good : ℕ → ℕ → Bool
 lengths_good n more = both (frame_length_good n) (frame_length_good (n + more))
 
 -- the fields of a Compact frame that expansion accepts, before 16
-unfoldable pub compact_fields : Settings → spec.Outer → List ℕ → Result Fields
+unfoldable pub compact_fields : Settings → spec.Outer → List ℕ → Outcome Fields
 compact_fields s u f =
-    check (outer_good s u) settings_bad
-    (check (lengths_good (length f) (spec.outer_bytes u)) frame_length_bad
+    check (outer_good s u) SettingsBad
+    (check (lengths_good (length f) (spec.outer_bytes u)) FrameLengthBad
     (spec.compact_only (front_of s (address_in f)) f))
 
 -- the outer destination, as a number

@@ -11,15 +11,14 @@ ghost use Rattle.convert.specs.Expansion.{tag_good, outer_bytes, outer_tag, gene
 ghost use Rattle.convert_compact.specs.Meaning.{compact_length, put_on};
 ghost use Rattle.convert_expand.specs.Meaning.{outer_as, outer_good, lengths_good, compact_fields, destination_of, outer_front, general_to};
 
-use convert::ConvertAnswer;
 use frame::{
     ADDRESS_BYTES, ADDRESSES_BYTES, ALL_RBRIDGES, ETHERTYPE_BYTES, FIXED_HEADER_BYTES,
     LONGEST_FRAME, SHORTEST_FRAME, Settings, TAG_BYTES, TAG_ETHERTYPE, TAGGED_ADDRESSES_BYTES,
     TRILL_ETHERTYPE,
 };
-use frame_fields::{Front, Length};
-use frame_parse::{Parsed, Parts};
-use numbers::refusals::{AREA_SHORT, FRAME_LENGTH_BAD, NOT_COMPACT, NOT_FOR_PORT, SETTINGS_BAD};
+use frame_fields::Front;
+use frame_parse::Parts;
+use numbers::refusals::Refusal;
 
 // The outer part that the caller gives, as it arrives: the outer source; whether there is a tag, whose number is `tag`.
 #[derive(Clone, Copy)]
@@ -70,31 +69,29 @@ fn lengths_good(n: usize, more: usize) -> bool
 }
 
 // As `frame_parse::read_compact`. With one caller each, both are a part of their callers' code.
-fn compact_parts(f: &[u8]) -> Parsed
+fn compact_parts(f: &[u8]) -> Result<Parts, Refusal>
     requires { (addresses_bytes ≤ length f.now) × (length f.now ≤ longest_frame) }
     ensures { Reads f.now (compact f.now) result }
 {
-    match frame_fields::label_length(frame_fields::after(f, ADDRESSES_BYTES)) {
-        Length::Refused(e) => Parsed::Refused(e),
-        Length::Bytes(k) => frame_parse::compact_after_label(f, k),
-    }
+    let k = frame_fields::label_length(frame_fields::after(f, ADDRESSES_BYTES))?;
+    frame_parse::compact_after_label(f, k)
 }
 
 // The parts of a Compact frame; one that means General in front is 18. Compact on or off doesn't bear on it.
-fn compact_fields(s: Settings, u: Outer, f: &[u8]) -> Parsed
+fn compact_fields(s: Settings, u: Outer, f: &[u8]) -> Result<Parts, Refusal>
     ensures { Reads f.now (compact_fields s (outer_as u) f.now) result }
 {
     if !outer_good(s, u) {
-        return Parsed::Refused(SETTINGS_BAD);
+        return Err(Refusal::SettingsBad);
     }
     if !lengths_good(f.len(), outer_bytes(u)) {
-        return Parsed::Refused(FRAME_LENGTH_BAD);
+        return Err(Refusal::FrameLengthBad);
     }
     let d = frame_fields::front_of(s.port, numbers::be6(f, 0));
     match d {
-        Front::Unicast => Parsed::Refused(NOT_COMPACT),
-        Front::Multicast => Parsed::Refused(NOT_COMPACT),
-        Front::Refused => Parsed::Refused(NOT_FOR_PORT),
+        Front::Unicast => Err(Refusal::NotCompact),
+        Front::Multicast => Err(Refusal::NotCompact),
+        Front::Refused => Err(Refusal::NotForPort),
         Front::Inner => compact_parts(f),
     }
 }
@@ -147,26 +144,24 @@ fn write_tail(f: &[u8], p: Parts, out: &mut [u8], at: usize)
 }
 
 // Writes the General frame to an outer destination where there is room for it.
-fn put_general(dst: u64, u: Outer, f: &[u8], p: Parts, out: &mut [u8]) -> ConvertAnswer
+fn put_general(dst: u64, u: Outer, f: &[u8], p: Parts, out: &mut [u8]) -> Result<u16, Refusal>
     requires { PartsOf f.now p × ((compact_length (length f.now) p ≡ length f.now) × (length f.now + outer_bytes (outer_as u) ≤ longest_frame)) }
     ensures { on_area result out.new ≡ put_on (general_to dst (outer_as u) (fields_in f.now p)) out.old }
 {
     let o = outer_bytes(u);
     let n = f.len() + o;
     if out.len() < n {
-        return ConvertAnswer::Refused(AREA_SHORT);
+        return Err(Refusal::AreaShort);
     }
     write_outer(dst, u, out);
     write_tail(f, p, out, o);
-    ConvertAnswer::Written(n as u16)
+    Ok(n as u16)
 }
 
 // The expansion call, with the far port's settings.
-pub fn expand(s: Settings, u: Outer, frame: &[u8], out: &mut [u8]) -> ConvertAnswer
+pub fn expand(s: Settings, u: Outer, frame: &[u8], out: &mut [u8]) -> Result<u16, Refusal>
     ensures { on_area result out.new ≡ expanded s (outer_as u) frame.now out.old }
 {
-    match compact_fields(s, u, frame) {
-        Parsed::Refused(n) => ConvertAnswer::Refused(n),
-        Parsed::Fields(p) => put_general(destination(s, frame, p), u, frame, p, out),
-    }
+    let p = compact_fields(s, u, frame)?;
+    put_general(destination(s, frame, p), u, frame, p, out)
 }

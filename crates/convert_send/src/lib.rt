@@ -8,10 +8,9 @@ ghost use Rattle.convert.specs.Compaction.{stays_general};
 ghost use Rattle.convert.specs.Sending.{sent, chosen};
 ghost use Rattle.convert_send.specs.Meaning.{sent_where};
 
-use convert::{COMPACT_ROOM, SendAnswer};
+use convert::COMPACT_ROOM;
 use frame::{COMPACT_ON, Settings};
-use frame_parse::Parsed;
-use numbers::refusals::{AREA_SHORT, SETTINGS_BAD};
+use numbers::refusals::Refusal;
 
 // Whether a frame with this inner destination is compacted, `on` being whether the far port has Compact on.
 fn may_compact(on: bool, s: Settings, a: u64) -> bool
@@ -21,28 +20,29 @@ fn may_compact(on: bool, s: Settings, a: u64) -> bool
 }
 
 // Sends, `on` being whether the far port has Compact on.
-pub fn send_where(on: bool, s: Settings, frame: &[u8], work: &mut [u8]) -> SendAnswer
+pub fn send_where(
+    on: bool,
+    s: Settings,
+    frame: &[u8],
+    work: &mut [u8],
+) -> Result<Option<u16>, Refusal>
     ensures { on_area result work.new ≡ sent_where on s frame.now work.old }
 {
     if !frame_settings::settings_good(s) {
-        return SendAnswer::Refused(SETTINGS_BAD);
+        return Err(Refusal::SettingsBad);
     }
     if work.len() < COMPACT_ROOM {
-        return SendAnswer::Refused(AREA_SHORT);
+        return Err(Refusal::AreaShort);
     }
-    match convert_compact::general_fields(s.port, frame) {
-        Parsed::Refused(n) => SendAnswer::Refused(n),
-        Parsed::Fields(p) => {
-            if !may_compact(on, s, numbers::be6(frame, p.dst_offset)) {
-                return SendAnswer::Itself;
-            }
-            SendAnswer::Compacted(convert_compact::fill_compact(frame, p, work))
-        }
+    let p = convert_compact::general_fields(s.port, frame)?;
+    if !may_compact(on, s, numbers::be6(frame, p.dst_offset)) {
+        return Ok(None);
     }
+    Ok(Some(convert_compact::fill_compact(frame, p, work)))
 }
 
 // The sending call, with the far port's settings.
-pub fn send(s: Settings, frame: &[u8], work: &mut [u8]) -> SendAnswer
+pub fn send(s: Settings, frame: &[u8], work: &mut [u8]) -> Result<Option<u16>, Refusal>
     ensures { on_area result work.new ≡ sent s frame.now work.old }
 {
     send_where(s.compact == COMPACT_ON, s, frame, work)
@@ -59,12 +59,13 @@ fn first<'a>(l: &'a [u8], n: usize) -> &'a [u8]
 }
 
 // What to send after an answer of sending: a part of the working area or the received frame itself; nothing after a refusal.
-pub fn choose<'a>(answer: SendAnswer, work: &'a [u8], frame: &'a [u8]) -> &'a [u8]
+#[tactic(auto, unfolding(convert::specs::Sending::chosen))]
+pub fn choose<'a>(answer: Result<Option<u16>, Refusal>, work: &'a [u8], frame: &'a [u8]) -> &'a [u8]
     ensures { result.now ≡ chosen answer work.now frame.now }
 {
     match answer {
-        SendAnswer::Refused(_) => first(work, 0),
-        SendAnswer::Compacted(n) => first(work, n as usize),
-        SendAnswer::Itself => frame,
+        Err(_) => first(work, 0),
+        Ok(Some(n)) => first(work, n as usize),
+        Ok(None) => frame,
     }
 }

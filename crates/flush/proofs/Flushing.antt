@@ -9,8 +9,7 @@ use mathlib.Core.Path.{◌≡◌, refl, sym, ap, subst, ◌∙◌}
 use native.Mathlib.Nat.{zero-add}
 use native.Mathlib.Omega.{arith}
 use Rattle.numbers.specs.Tests.{both}
-use Rattle.numbers.specs.Result.{Result, refused, got, check, and_then, settled}
-use Rattle.numbers.specs.Refusals.{table_length_bad}
+use Rattle.numbers.specs.Result.{Outcome, check, and_then, settled}
 use Rattle.numbers.specs.After.{OnTable, on_table}
 use Rattle.numbers.proofs.Answers.{got_got, check_got, then_got}
 use Rattle.numbers.proofs.Truth.{not_true_false, both_true, both_pass, pick_true, pick_false, false_true}
@@ -29,10 +28,11 @@ use Rattle.flush.specs.Meaning.{nickname_meant, label_meant, mac_meant, entry_me
 use Rattle.flush.specs.Flush.{held_meant, slot_meant, cleared_slot, cleared_by, clearing, answered, flushed}
 use Rattle.flush.specs.Sets.{Meant}
 use Rattle.flush.specs.Claims.{learned_then_free, SlotFacts, Flushes, FlushExact, FlushingKeepsApart, FlushRefusal}
-use Rattle.flush.specs.declared.FlushAnswer.{FlushAnswer}
-use Rattle.flush.specs.declared.FlushAnswer.TheVariants.{Refused, Flushed}
 use Rattle.flush.proofs.Sets.{nickname_agrees, label_agrees, mac_agrees, sets_agree}
 use Rattle.flush.proofs.Payloads.{payload_facts}
+use Rattle.std.specs.Prelude.{Ok, Err}
+use Rattle.numbers.specs.declared.refusals.Refusal.TheVariants.{TableLengthBad}
+use Rattle.numbers.specs.declared.refusals.Refusal.{Refusal}
 
 -- ---- a slot that is freed or left as it was
 
@@ -146,7 +146,7 @@ module _ (p : Payload) (ingress : ℕ) where
 
   -- ---- the call
 
-  module _ (l t : List ℕ) (good : table_good t ≡ true) (read : payload_of every_type l ≡ got p) where
+  module _ (l t : List ℕ) (good : table_good t ≡ true) (read : payload_of every_type l ≡ Ok p) where
     flush_ran : flushed ingress l t ≡ answered (cleared_by (meant p ingress) t)
     unfolding flushed clearing settled check and_then
     flush_ran = rw (good, read)
@@ -156,10 +156,10 @@ module _ (p : Payload) (ingress : ℕ) where
     flushes = record {
       each = λ k h. rw flush_ran (slot_facts t (after t) k (each_left t k h));
       same_length = rw flush_ran (length_all_slots (cleared_slot (meant p ingress)) (cleared_keeps (meant p ingress)) t);
-      count = rw flush_ran (ap Flushed (count-freed t (slots_of t) (omega arith)));
+      count = rw flush_ran (ap Ok (count-freed t (slots_of t) (omega arith)));
     }
 
-flush_corrupt : (ingress : ℕ) (l t : List ℕ) (n : ℕ) → table_good t ≡ true → payload_of every_type l ≡ refused n → flushed ingress l t ≡ on_table (Refused n) t
+flush_corrupt : (ingress : ℕ) (l t : List ℕ) (n : Refusal) → table_good t ≡ true → payload_of every_type l ≡ Err n → flushed ingress l t ≡ on_table (Err n) t
 unfolding flushed clearing settled check and_then
 flush_corrupt ingress l t n good read = rw (good, read)
 
@@ -176,29 +176,29 @@ flush_exact = record {
 pub flush_refusal : FlushRefusal
 unfolding flushed
 flush_refusal ingress l t n e =
-    refusal_keeps Refused _ t n
+    refusal_keeps Err _ t n
     (λ a q h.
     let p = check_got _ _ _ _ q in
     let (c, r, d) = then_got _ _ _ p.1 in
-    let z : ◌≡◌ {A = ℕ} 0 1 = cc (ap (λ (x : OnTable FlushAnswer). x.answer) (got_got _ _ d)) in
+    let z : ◌≡◌ {A = ℕ} 0 1 = cc (ap (λ (x : OnTable (Outcome ℕ)). x.answer) (got_got _ _ d)) in
     omega arith)
     e
 
 -- ---- no pair twice
 
-outcome_apart : (ingress : ℕ) (t : List ℕ) (good : Bool) (r : Result Payload) → Apart t
-    → Apart (settled (λ n. on_table (Refused n) t) (check good table_length_bad (and_then (and_then r λ p. got (cleared_by (slot_meant every_type p ingress) t)) λ c. got (answered c)))).table
+outcome_apart : (ingress : ℕ) (t : List ℕ) (good : Bool) (r : Outcome Payload) → Apart t
+    → Apart (settled (λ n. on_table (Err n) t) (check good TableLengthBad (and_then (and_then r λ p. Ok (cleared_by (slot_meant every_type p ingress) t)) λ c. Ok (answered c)))).table
 unfolding cleared_by settled check and_then
 outcome_apart ingress t false r u = u
-outcome_apart ingress t true (refused n) u = u
-outcome_apart ingress t true (got p) u = cleared_apart (meant p ingress) t u
+outcome_apart ingress t true (Err n) u = u
+outcome_apart ingress t true (Ok p) u = cleared_apart (meant p ingress) t u
 
 pub flushing_keeps_apart : FlushingKeepsApart
 unfolding flushed clearing
 flushing_keeps_apart ingress l t u = outcome_apart ingress t (table_good t) (payload_of every_type l) u
 
 -- the same of a flush that came in a frame
-pub clearing-apart : (ingress : ℕ) (l t : List ℕ) (c : OnTable ℕ) → clearing every_type ingress l t ≡ got c → Apart t → Apart c.table
+pub clearing-apart : (ingress : ℕ) (l t : List ℕ) (c : OnTable ℕ) → clearing every_type ingress l t ≡ Ok c → Apart t → Apart c.table
 unfolding clearing cleared_by
 clearing-apart ingress l t c q u =
     let (p, r, e) = then_got _ _ _ q in

@@ -14,7 +14,7 @@ use lib.Seq.{take-append-le, drop-append-le}
 use borrow.Author.Tests.{leb-true, le-leb, eq-eqb, ne_eqb, not-true}
 use Rattle.numbers.specs.Tests.{pick, both, either, any_of}
 use Rattle.numbers.specs.Bytes.{parts}
-use Rattle.numbers.specs.Result.{got, and_then}
+use Rattle.numbers.specs.Result.{and_then}
 use Rattle.numbers.proofs.Truth.{both_right, pick_true, pick_false, false_true}
 use Rattle.numbers.proofs.Answers.{got_got, check_got, check_pass}
 use Rattle.table.specs.Record.{unpacked}
@@ -27,6 +27,7 @@ use Rattle.flush.specs.Meaning.{vlan_in, fine_in, mac_in, some_mac_in, brings_la
 use Rattle.flush.specs.Flush.{held_meant, slot_meant, cleared_by, clearing, flushed}
 use Rattle.flush.specs.Padding.{zeros, padded, SameSets, Padded, PaddedFlush}
 use Rattle.flush.proofs.Validity.{tlvs_end, tlvs_padding, tlvs_lone, tlvs_stump, tlvs_more, false_not}
+use Rattle.std.specs.Prelude.{Ok}
 
 -- ---- TLVs and zeros after them
 
@@ -151,7 +152,7 @@ record Passed (types : Types) (l : List ℕ) (p : Payload) : Type 0 where
   whole : any_of (corrupt types) (pieces_of (block_count l) (behind l)) ≡ false
   is : made l ≡ p
 
-passed : (types : Types) (l : List ℕ) (p : Payload) → payload_of types l ≡ got p → Passed types l p
+passed : (types : Types) (l : List ℕ) (p : Payload) → payload_of types l ≡ Ok p → Passed types l p
 unfolding payload_of
 passed types l p h =
     let a = check_got (leb 1 (length l)) _ _ p h in
@@ -206,7 +207,7 @@ module _ (types : Types) (l : List ℕ) (n : ℕ) (w : Passed types l (made l)) 
   asks_same : (ask : Piece → Bool) → ask nil ≡ false → any_of ask (made (padded n l)).pieces ≡ any_of ask (made l).pieces
   asks_same ask none = ap (any_of ask) (same_pieces l (zeros n) w.front) ∙ pieces-padded types ask none n (block_count l) (behind l) w.blocks w.whole
 
-  padded_accepted : payload_of types (padded n l) ≡ got (made (padded n l))
+  padded_accepted : payload_of types (padded n l) ≡ Ok (made (padded n l))
   unfolding payload_of
   padded_accepted =
       let front = w.front in
@@ -229,7 +230,7 @@ module _ (types : Types) (l : List ℕ) (n : ℕ) (w : Passed types l (made l)) 
     mac = λ m. rw (asks_same (gathers_mac types) (nil_gathers types), asks_same (brings_mac types m) (nil_mac types m));
   }
 
-padded_payload : (types : Types) (l : List ℕ) (p : Payload) (n : ℕ) → payload_of types l ≡ got p → Padded types l n p
+padded_payload : (types : Types) (l : List ℕ) (p : Payload) (n : ℕ) → payload_of types l ≡ Ok p → Padded types l n p
 padded_payload types l p n h =
     let w = passed types l p h in
     let v : Passed types l (made l) = record { front = w.front; blocks = w.blocks; whole = w.whole; is = refl } in
@@ -249,13 +250,13 @@ module _ (types : Types) (p q : Payload) (s : SameSets types p q) (ingress : ℕ
   unfolding slot_meant
   same_meant = fun_ext (λ r. same_held (unpacked r))
 
-pub padded-clearing : (types : Types) (ingress : ℕ) (l t : List ℕ) (p : Payload) (n : ℕ) → payload_of types l ≡ got p → clearing types ingress (padded n l) t ≡ clearing types ingress l t
+pub padded-clearing : (types : Types) (ingress : ℕ) (l t : List ℕ) (p : Payload) (n : ℕ) → payload_of types l ≡ Ok p → clearing types ingress (padded n l) t ≡ clearing types ingress l t
 unfolding clearing and_then
 padded-clearing types ingress l t p n h =
     let d = padded_payload types l p n h in
-    rw (d.accepted, h) (ap (λ (m : List ℕ → Bool). got (cleared_by m t)) (same_meant types (made (padded n l)) p d.same ingress))
+    rw (d.accepted, h) (ap (λ (m : List ℕ → Bool). Ok (cleared_by m t)) (same_meant types (made (padded n l)) p d.same ingress))
 
-padded_call : (ingress : ℕ) (l t : List ℕ) (p : Payload) (n : ℕ) → payload_of every_type l ≡ got p → flushed ingress (padded n l) t ≡ flushed ingress l t
+padded_call : (ingress : ℕ) (l t : List ℕ) (p : Payload) (n : ℕ) → payload_of every_type l ≡ Ok p → flushed ingress (padded n l) t ≡ flushed ingress l t
 unfolding flushed
 padded_call ingress l t p n h = rw (padded-clearing every_type ingress l t p n h)
 

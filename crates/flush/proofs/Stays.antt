@@ -4,8 +4,7 @@ use Prim.Native.Nat.{ℕ}
 use mathlib.Core.Bool.{Bool, true, false}
 use mathlib.Core.List.{List}
 use mathlib.Core.Path.{◌≡◌, refl, subst, ◌∙◌}
-use Rattle.numbers.specs.Result.{Result, refused, got, check, and_then, settled}
-use Rattle.numbers.specs.Refusals.{table_length_bad}
+use Rattle.numbers.specs.Result.{Outcome, check, and_then, settled}
 use Rattle.numbers.specs.After.{OnTable, on_table}
 use Rattle.numbers.proofs.Answers.{got_got, then_got}
 use Rattle.table.specs.Record.{unpacked}
@@ -19,8 +18,9 @@ use Rattle.table.proofs.Stays.{spoilt_free, spoilt_learned, configured_free, con
 use Rattle.flush.specs.Payload.{every_type, Payload, payload_of}
 use Rattle.flush.specs.Flush.{held_meant, slot_meant, cleared_slot, cleared_by, clearing, answered, flushed}
 use Rattle.flush.specs.Claims.{FlushingLeavesAlone}
-use Rattle.flush.specs.declared.FlushAnswer.TheVariants as answer
 use Rattle.flush.proofs.Flushing.{cleared_keeps, cleared_miss}
+use Rattle.std.specs.Prelude.{Ok, Err}
+use Rattle.numbers.specs.declared.refusals.Refusal.TheVariants.{TableLengthBad}
 
 module _ (Such : Slot → Type 0) (not-Free : Such Free → ⊥) (not_learned : (e : Entry) → Such (Learned e) → ⊥) where
   unmeant : (p : Payload) (ingress : ℕ) (x : Slot) → Such x → held_meant every_type p ingress x ≡ false
@@ -35,19 +35,19 @@ module _ (Such : Slot → Type 0) (not-Free : Such Free → ⊥) (not_learned : 
       slot_all_slots (cleared_slot (slot_meant every_type p ingress)) (cleared_keeps (slot_meant every_type p ingress)) t k h
       ∙ cleared_miss (slot_meant every_type p ingress) (slot_at k t) (unmeant p ingress (unpacked (slot_at k t)) such)
 
-  outcome_stays : (ingress : ℕ) (t : List ℕ) (good : Bool) (r : Result Payload)
-      → Stays Such t (settled (λ n. on_table (answer.Refused n) t) (check good table_length_bad (and_then (and_then r λ p. got (cleared_by (slot_meant every_type p ingress) t)) λ c. got (answered c)))).table
+  outcome_stays : (ingress : ℕ) (t : List ℕ) (good : Bool) (r : Outcome Payload)
+      → Stays Such t (settled (λ n. on_table (Err n) t) (check good TableLengthBad (and_then (and_then r λ p. Ok (cleared_by (slot_meant every_type p ingress) t)) λ c. Ok (answered c)))).table
   unfolding cleared_by settled check and_then
   outcome_stays ingress t false r = λ k h such. refl
-  outcome_stays ingress t true (refused n) = λ k h such. refl
-  outcome_stays ingress t true (got p) = cleared_stays p ingress t
+  outcome_stays ingress t true (Err n) = λ k h such. refl
+  outcome_stays ingress t true (Ok p) = cleared_stays p ingress t
 
   flushing_stays : (ingress : ℕ) (l t : List ℕ) → Stays Such t (flushed ingress l t).table
   unfolding flushed clearing
   flushing_stays ingress l t = outcome_stays ingress t (table_good t) (payload_of every_type l)
 
   -- the same of a flush that came in a frame
-  clearing-stays : (ingress : ℕ) (l t : List ℕ) (c : OnTable ℕ) → clearing every_type ingress l t ≡ got c → Stays Such t c.table
+  clearing-stays : (ingress : ℕ) (l t : List ℕ) (c : OnTable ℕ) → clearing every_type ingress l t ≡ Ok c → Stays Such t c.table
   unfolding clearing cleared_by
   clearing-stays ingress l t c q =
       let (p, r, e) = then_got _ _ _ q in
@@ -59,7 +59,7 @@ flushing_leaves_alone ingress l t = record {
   configured = flushing_stays IsConfigured configured_free configured_learned ingress l t;
 }
 
-pub clearing_leaves_alone : (ingress : ℕ) (l t : List ℕ) (c : OnTable ℕ) → clearing every_type ingress l t ≡ got c → LeavesAlone t c.table
+pub clearing_leaves_alone : (ingress : ℕ) (l t : List ℕ) (c : OnTable ℕ) → clearing every_type ingress l t ≡ Ok c → LeavesAlone t c.table
 clearing_leaves_alone ingress l t c q = record {
   spoilt = clearing-stays IsSpoilt spoilt_free spoilt_learned ingress l t c q;
   configured = clearing-stays IsConfigured configured_free configured_learned ingress l t c q;

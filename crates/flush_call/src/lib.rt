@@ -11,12 +11,12 @@ ghost use Rattle.flush_payload.specs.Judging.{Noted};
 ghost use Rattle.flush_marks.specs.Marks.{Filtered, Chosen, swept_in};
 ghost use Rattle.flush_marks.specs.Filters.{slot_addressed, Filtering, Within, Marking};
 ghost use Rattle.flush_nicknames.specs.First.{fine_noted};
-ghost use Rattle.flush_call.specs.Clearing.{payload_from, fine_left, clearing_in, cleared_on, swept_on};
+ghost use Rattle.flush_call.specs.Clearing.{payload_from, fine_left, sweeping_in, cleared_on};
 
-use flush::{FlushAnswer, Model};
+use flush::Model;
 use flush_marks::{MARK_BYTES, Sweep};
-use flush_payload::{Judged, Kinds};
-use numbers::refusals::{PAYLOAD_CORRUPT, TABLE_LENGTH_BAD};
+use flush_payload::Kinds;
+use numbers::refusals::Refusal;
 use table::SLOT_BYTES;
 
 // So many slots are judged by a walk over the message, whatever its length; and so many where it has no more than so many bytes.
@@ -115,13 +115,6 @@ fn clear_range(
     clear_by_marks(ingress, nicks, rest, f, from, count, table)
 }
 
-// What clearing in a range came to: a refusal number, or what the sweep did.
-#[derive(Clone, Copy)]
-pub enum Swept {
-    Refused(u8),
-    Done(Sweep),
-}
-
 // Judges a payload, and clears what it means in a range of slots; a corrupt one changes nothing.
 pub fn clear_portion(
     ingress: u32,
@@ -129,57 +122,42 @@ pub fn clear_portion(
     from: usize,
     count: usize,
     table: &mut [u8],
-) -> Swept
+) -> Result<Sweep, Refusal>
     requires { Within from count table.old }
-    ensures { on_table result table.new ≡ swept_on table.old count (clearing_in every_type ingress payload.now from count table.old) }
+    ensures { on_table result table.new ≡ cleared_on table.old (sweeping_in every_type ingress payload.now from count table.old) }
 {
-    match flush_payload::judge(Model::Full, payload) {
-        Judged::Corrupt => Swept::Refused(PAYLOAD_CORRUPT),
-        Judged::Good(f) => {
-            let k = flush_payload::nick_bytes(payload);
-            let a = 1 + k;
-            let s = 2 + k;
-            Swept::Done(clear_range(
-                ingress,
-                &payload[1..a],
-                &payload[s..],
-                f,
-                from,
-                count,
-                table,
-            ))
-        }
-    }
-}
-
-// What clearing came to: a refusal number, or how many records were cleared.
-#[derive(Clone, Copy)]
-pub enum Cleared {
-    Refused(u8),
-    Count(usize),
+    let f = flush_payload::judge(Model::Full, payload)?;
+    let k = flush_payload::nick_bytes(payload);
+    let a = 1 + k;
+    let s = 2 + k;
+    Ok(clear_range(
+        ingress,
+        &payload[1..a],
+        &payload[s..],
+        f,
+        from,
+        count,
+        table,
+    ))
 }
 
 // The same in all slots.
-pub fn clear_meant(ingress: u32, payload: &[u8], table: &mut [u8]) -> Cleared
+pub fn clear_meant(ingress: u32, payload: &[u8], table: &mut [u8]) -> Result<usize, Refusal>
     requires { slots_of table.old ≤ most_slots }
     ensures { on_table result table.new ≡ cleared_on table.old (clearing every_type ingress payload.now table.old) }
 {
     let n = table.len() / SLOT_BYTES;
-    match clear_portion(ingress, payload, 0, n, table) {
-        Swept::Refused(r) => Cleared::Refused(r),
-        Swept::Done(s) => Cleared::Count(s.cleared),
-    }
+    let s = clear_portion(ingress, payload, 0, n, table)?;
+    Ok(s.cleared)
 }
 
 // The flush call.
-pub fn flush(ingress: u32, payload: &[u8], table: &mut [u8]) -> FlushAnswer
+pub fn flush(ingress: u32, payload: &[u8], table: &mut [u8]) -> Result<u16, Refusal>
     ensures { on_table result table.new ≡ flushed ingress payload.now table.old }
 {
     if !table_records::table_good(table) {
-        return FlushAnswer::Refused(TABLE_LENGTH_BAD);
+        return Err(Refusal::TableLengthBad);
     }
-    match clear_meant(ingress, payload, table) {
-        Cleared::Refused(n) => FlushAnswer::Refused(n),
-        Cleared::Count(n) => FlushAnswer::Flushed(n as u16),
-    }
+    let n = clear_meant(ingress, payload, table)?;
+    Ok(n as u16)
 }

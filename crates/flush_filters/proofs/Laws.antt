@@ -19,8 +19,6 @@ use Rattle.flush_buckets.specs.Buckets.{HasBits}
 use Rattle.flush_parts.specs.Parts.{Narrow}
 use Rattle.flush_parts.specs.declared.Naming.{Naming}
 use Rattle.flush_marks.specs.Marks.{NoMarks, Filtered, Listed, Listing}
-use Rattle.flush_marks.specs.declared.Room.{Room}
-use Rattle.flush_marks.specs.declared.Room.TheVariants.{Full}
 use Rattle.flush_marks.proofs.Bits.{zeros_none}
 use Rattle.flush_marks.specs.Filters.{Filtering}
 use Rattle.flush_keys.specs.Keys.{number_in, applies_to, keyed, InTable, Hit, Marked, Joined, KeysOf}
@@ -28,6 +26,7 @@ use Rattle.flush_keys.specs.declared.Field.{Field}
 use Rattle.flush_keys.specs.declared.Field.TheVariants.{Fine, Mac}
 use Rattle.flush_intervals.specs.Hits.{Hits}
 use Rattle.flush_filters.specs.Numbers.{naming_of, slot_passes, Keyed, Kept}
+use Rattle.std.specs.Prelude.{Option, None}
 
 -- ---- keys
 
@@ -80,7 +79,7 @@ module _ (f : Field) (ps : List Piece) (t slots : List ℕ) where
 
 -- ---- room
 
-pub full_room : (m : List ℕ) (n : ℕ) (s u : List ℕ) (r : Room) → Listing m n s u r → r ≡ Full → length s < n
+pub full_room : (m : List ℕ) (n : ℕ) (s u : List ℕ) (r : Option ℕ) → Listing m n s u r → r ≡ None → length s < n
 full_room m n s u r l e = let same = l.long in let less = l.full e in omega arith
 
 pub lent_fits : (c : ℕ) (slots keys : List ℕ) → c ≤ length slots → length keys ≡ length slots → length (take c slots) ≤ length keys

@@ -19,7 +19,6 @@ ghost use Rattle.flush_filters.specs.Numbers.{naming_of, slot_passes, Keyed, Kep
 use flush_buckets::BUCKET_BYTES;
 use flush_intervals::HIT_BYTES;
 use flush_keys::Field;
-use flush_marks::Room;
 use flush_parts::Naming;
 use table::{MOST_SLOTS, SLOT_BYTES};
 
@@ -124,11 +123,11 @@ fn keep_in(
     ensures { Kept result (slot_passes field (tlvs rest.now)) table.now marks.old marks.new × (result ≡ false → length slots.old < slots_of table.now) }
 {
     match flush_marks::list_marked(marks, table.len() / SLOT_BYTES, slots) {
-        Room::Held(c) => {
+        Some(c) => {
             keep_listed(table, rest, field, slots, c, keys, marks);
             true
         }
-        Room::Full => false,
+        None => false,
     }
 }
 

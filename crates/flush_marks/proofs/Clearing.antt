@@ -17,12 +17,11 @@ use Rattle.numbers.specs.Numberings.{bit_of, bit_at}
 use Rattle.numbers.specs.After.{on_table}
 use Rattle.numbers.specs.Bytes.{bytes_of}
 use Rattle.table.specs.Slots.{slot_bytes, slots_of, slot_at, put_slot, freed, on_slots, count_slots}
-use Rattle.table.specs.declared.Place.{Place}
-use Rattle.table.specs.declared.Place.TheVariants.{At, Nowhere}
 use Rattle.table.proofs.Slots.{length-put_slot, drop-on_slots}
 use Rattle.flush.specs.Flush.{cleared_slot, cleared_by}
 use Rattle.flush.proofs.Flushing.{cleared_hit, cleared_miss, cleared_keeps}
 use Rattle.flush_marks.specs.Marks.{Unmarked, NextMark, Chosen, count_marks, freed_marks, cleared_marks, AllMarked, freed_from, ClearedTo, cleared_in}
+use Rattle.std.specs.Prelude.{Option, Some, None}
 
 -- ---- slots without a mark
 
@@ -91,7 +90,7 @@ module _ (m t : List ℕ) where
     cleared_next inside b is e v put = rw put (cleared_put inside (sym is ∙ e))
 
     -- from one that is not, to the next that is
-    module _ (b : Bool) (is : b ≡ bit_at i m) (clear : b ≡ false) (p : Place) (next : NextMark m (i + 1) (slots_of t) p) where
+    module _ (b : Bool) (is : b ≡ bit_at i m) (clear : b ≡ false) (p : Option ℕ) (next : NextMark m (i + 1) (slots_of t) p) where
       passed : (k : ℕ) → Unmarked m (i + 1) k → Unmarked m i k
       passed k none = record { none = λ j a l. go j a l (ℕ_discrete j i) }
         where
@@ -99,7 +98,7 @@ module _ (m t : List ℕ) where
           go j a l (yes q) = rw q (sym is ∙ clear)
           go j a l (no d) = none.none j (omega arith) l
 
-      pub cleared_rest : i < slots_of t → p ≡ Nowhere → on_table c u ≡ cleared_marks m t
+      pub cleared_rest : i < slots_of t → p ≡ None → on_table c u ≡ cleared_marks m t
       unfolding cleared_marks
       cleared_rest h e =
           let s = cleared_skip (slots_of t) (omega arith) (passed (slots_of t) (next.miss e)) in
@@ -107,7 +106,7 @@ module _ (m t : List ℕ) where
           let left : u ≡ freed_marks m (slots_of t) t = s.left in
           cc
 
-      cleared_far : (k : ℕ) → p ≡ At k → (k ≤ slots_of t) × ClearedTo m t k c u
+      cleared_far : (k : ℕ) → p ≡ Some k → (k ≤ slots_of t) × ClearedTo m t k c u
       cleared_far k e =
           let f = next.hit k e in
           let far = f.behind in
@@ -137,7 +136,7 @@ module _ (m t : List ℕ) where
       rw (slot, count) (cleared_put m t (i + d) (c + d) (freed_from i d u) (cleared_run d i c u so_far before) (omega arith) (all.each (i + d) (omega arith) (omega arith)))
 
   -- the next that is marked is cleared, after slots that are not
-  pub cleared_found : (i c : ℕ) (u : List ℕ) → ClearedTo m t i c u → (b : Bool) → b ≡ bit_at i m → b ≡ false → (p : Place) → NextMark m (i + 1) (slots_of t) p → (k : ℕ) → p ≡ At k → (v : List ℕ) → v ≡ put_slot k freed u → (k + 1 ≤ slots_of t) × ClearedTo m t (k + 1) (c + 1) v
+  pub cleared_found : (i c : ℕ) (u : List ℕ) → ClearedTo m t i c u → (b : Bool) → b ≡ bit_at i m → b ≡ false → (p : Option ℕ) → NextMark m (i + 1) (slots_of t) p → (k : ℕ) → p ≡ Some k → (v : List ℕ) → v ≡ put_slot k freed u → (k + 1 ≤ slots_of t) × ClearedTo m t (k + 1) (c + 1) v
   cleared_found i c u so_far b is clear p next k e v put =
       let f = next.hit k e in
       let inside = f.within in

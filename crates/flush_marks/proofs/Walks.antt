@@ -9,9 +9,9 @@ use native.Mathlib.Omega.{arith}
 use lib.Count.{count_leading_zeros}
 use Rattle.numbers.specs.Numberings.{bit_at}
 use Rattle.numbers.proofs.Truth.{false_true}
-use Rattle.table.specs.declared.Place.TheVariants.{At, Nowhere}
 use Rattle.flush_marks.specs.Marks.{high_bit, RestOf, Unmarked, Found, NextMark}
 use Rattle.flush_marks.proofs.Words.{zero_high, top_high, first_high}
+use Rattle.std.specs.Prelude.{Some, None}
 
 module _ (m : List ℕ) (from : ℕ) where
   pub unmarked_none : Unmarked m from from
@@ -21,7 +21,7 @@ module _ (m : List ℕ) (from : ℕ) where
   unmarked_less k n h u = record { none = λ j a b. u.none j a (omega arith) }
 
   module _ (k : ℕ) (passed : Unmarked m from k) where
-    pub next_found : (n : ℕ) → from ≤ k → k < n → (b : Bool) → b ≡ bit_at k m → b ≡ true → NextMark m from n (At k)
+    pub next_found : (n : ℕ) → from ≤ k → k < n → (b : Bool) → b ≡ bit_at k m → b ≡ true → NextMark m from n (Some k)
     next_found n a l b told e = record {
       hit = λ j same. let q : k ≡ j = cc in rw q at found;
       miss = λ none. let z : ◌≡◌ {A = ℕ} 0 1 = cc in absurd (omega arith);
@@ -30,7 +30,7 @@ module _ (m : List ℕ) (from : ℕ) where
         found : Found m from n k
         found = record { behind = a; within = l; marked = sym told ∙ e; passed = passed }
 
-    pub next_nowhere : (n : ℕ) → n ≤ k → NextMark m from n Nowhere
+    pub next_nowhere : (n : ℕ) → n ≤ k → NextMark m from n None
     next_nowhere n h = record {
       hit = λ j same. let z : ◌≡◌ {A = ℕ} 0 1 = cc in absurd (omega arith);
       miss = λ same. unmarked_less k n h passed;
@@ -49,7 +49,7 @@ module _ (m : List ℕ) (from k : ℕ) (passed : Unmarked m from k) (order : fro
           let place : k + (j - k) ≡ j = omega arith in
           rw place at (sym (rest.bits (j - k) (omega arith)) ∙ clear (j - k) (omega arith))
 
-  pub tail_here : (n : ℕ) → k < n → 2 ^ 63 ≤ w → NextMark m from n (At k)
+  pub tail_here : (n : ℕ) → k < n → 2 ^ 63 ≤ w → NextMark m from n (Some k)
   tail_here n l h =
       let few = rest.few in
       let same : k + 0 ≡ k = omega arith in
@@ -71,10 +71,10 @@ module _ (m : List ℕ) (from k : ℕ) (passed : Unmarked m from k) (order : fro
         inside f (yes q) = q
         inside f (no d) = false_true (sym (rest.none z (omega arith) f.0) ∙ f.1.0)
 
-    pub tail_past : (n : ℕ) → n ≤ k + z → NextMark m from n Nowhere
+    pub tail_past : (n : ℕ) → n ≤ k + z → NextMark m from n None
     tail_past n h = let f = z_found in next_nowhere m from (k + z) (tail-passed z (omega (arith, f.0)) f.1.1) n h
 
-    pub tail_hit : (n : ℕ) → k + z < n → NextMark m from n (At (k + z))
+    pub tail_hit : (n : ℕ) → k + z < n → NextMark m from n (Some (k + z))
     tail_hit n h =
         let f = z_found in
         next_found m from (k + z) (tail-passed z (omega (arith, f.0)) f.1.1) n (omega arith) h true (sym (sym (rest.bits z f.0) ∙ f.1.0)) refl

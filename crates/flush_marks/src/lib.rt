@@ -3,12 +3,11 @@
 
 ghost use Rattle.std.specs.Prelude.{◌+◌, ◌/◌, ◌^◌, ◌<◌, ◌≤◌, true, false, ◌≡◌, length};
 ghost use Rattle.std.specs.Int.Count.{count_leading_zeros};
-ghost use Rattle.numbers.specs.Tests.{pick};
 ghost use Rattle.numbers.specs.After.{on_table};
 ghost use Rattle.table.specs.Slots.{most_slots, slots_of, put_slot, freed};
 ghost use Rattle.flush_marks.specs.Marks.{mark_bytes, RestOf, Unmarked, NextMark, NoMarks, Listing, AllMarked, freed_from, cleared_marks};
 
-use table::{Place, SLOT_BYTES};
+use table::SLOT_BYTES;
 
 // A bit for each slot.
 pub const MARK_BYTES: usize = 512;
@@ -42,7 +41,7 @@ fn lead_of(w: u64) -> usize
 
 // The next slot that is marked, from a slot on and before slot n, by words. Where marks stand close the slot itself is mostly the one, and
 // what follows does not wait for the count; where they do not, which slot is next takes no branch.
-pub fn next_marked(marks: &[u8], from: usize, n: usize) -> Place
+pub fn next_marked(marks: &[u8], from: usize, n: usize) -> Option<usize>
     requires { (length marks.now ≡ mark_bytes) × (n ≤ most_slots) }
     ensures { NextMark marks.now from n result }
 {
@@ -51,18 +50,18 @@ pub fn next_marked(marks: &[u8], from: usize, n: usize) -> Place
     while k < n {
         let w = rest_of(marks, k);
         if FIRST_BIT <= w {
-            return Place::At(k);
+            return Some(k);
         }
         if w != 0 {
             let j = k + lead_of(w);
             if n <= j {
-                return Place::Nowhere;
+                return None;
             }
-            return Place::At(j);
+            return Some(j);
         }
         k = k / 64 * 64 + 64;
     }
-    Place::Nowhere
+    None
 }
 
 fn ones(w: u64) -> usize
@@ -77,8 +76,8 @@ pub fn any_marked(marks: &[u8], n: usize) -> bool
     ensures { result ≡ false → Unmarked marks.now 0 n }
 {
     match next_marked(marks, 0, n) {
-        Place::At(_) => true,
-        Place::Nowhere => false,
+        Some(_) => true,
+        None => false,
     }
 }
 
@@ -149,12 +148,12 @@ pub fn clear_marked(table: &mut [u8], marks: &[u8]) -> usize
             k += 1;
         } else {
             match next_marked(marks, k + 1, n) {
-                Place::At(j) => {
+                Some(j) => {
                     clear_slot(table, j);
                     count += 1;
                     k = j + 1;
                 }
-                Place::Nowhere => {
+                None => {
                     return count;
                 }
             }
@@ -163,16 +162,9 @@ pub fn clear_marked(table: &mut [u8], marks: &[u8]) -> usize
     count
 }
 
-// How many slots were listed, or that they found no room.
-#[derive(Clone, Copy)]
-pub enum Room {
-    Held(usize),
-    Full,
-}
-
 // Lists the marked slots before slot n. Each slot of a byte with a mark is stored, and counted where it is marked: there is no branch on
 // the mark.
-pub fn list_marked(marks: &[u8], n: usize, slots: &mut [u64]) -> Room
+pub fn list_marked(marks: &[u8], n: usize, slots: &mut [u64]) -> Option<usize>
     requires { (length marks.now ≡ mark_bytes) × (n ≤ most_slots) }
     ensures { Listing marks.now n slots.old slots.new result }
 {
@@ -184,14 +176,14 @@ pub fn list_marked(marks: &[u8], n: usize, slots: &mut [u64]) -> Room
             k = k / 8 * 8 + 8;
         } else {
             if c == slots.len() {
-                return Room::Full;
+                return None;
             }
             slots[c] = k as u64;
             c += flush_sort::one(flush_bits::has(marks, k as u64));
             k += 1;
         }
     }
-    Room::Held(c)
+    Some(c)
 }
 
 // Removes every mark.

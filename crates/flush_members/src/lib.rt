@@ -1,7 +1,7 @@
 // Membership in what a flush payload writes: a list of numbers, a list of blocks, a bit map; over the numbering.
 #![tactic(auto)]
 
-ghost use Rattle.std.specs.Prelude.{◌+◌, ◌*◌, ◌<◌, ◌≤◌, ◌≡◌, eqb, length, take, drop};
+ghost use Rattle.std.specs.Prelude.{◌+◌, ◌*◌, ◌<◌, ◌≤◌, ◌≡◌, length, take, drop};
 ghost use Rattle.numbers.specs.Bytes.{num};
 ghost use Rattle.numbers.specs.Numberings.{vlans, fines, macs, nicknames, number_of, in_block, filled, in_blocks, some_filled, in_list, bit_of, bit_at, in_map};
 ghost use Rattle.flush_members.specs.Sound.{Width, Sound, numbering};

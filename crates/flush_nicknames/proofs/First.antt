@@ -1,6 +1,7 @@
 -- Laws of the first pass: each test looks at the slot's own bytes only, the ways through the code that tests a slot, the search for the
 -- first nickname, and that the code's test is the definition's.
 -- Assumes nothing.
+use Rattle.std.specs.Prelude as prelude
 use Prim.Native.Nat.{ℕ, ◌+◌, ◌-◌, ◌*◌, ◌/◌, ◌%◌, ◌^◌, ◌<◌, ◌≤◌}
 use mathlib.Core.Bool.{Bool, true, false, not, ◌&&◌, ◌||◌}
 use mathlib.Core.List.{List, [], ◌∷◌}
@@ -40,7 +41,7 @@ use Rattle.flush_marks.specs.Filters.{slot_named}
 use Rattle.flush_marks.proofs.Bits.{both-all, zeros_none}
 use Rattle.flush_marks.proofs.Filters.{chosen_same}
 use Rattle.flush_nicknames.specs.First.{round_slots, NoneOfRound, NicknamesAre, EveryMeant, kind_meant, slot_first, near_bit, may_pass, label_part, slot_marked, slot_names, fine_noted, FirstNamed, FirstPass}
-use Rattle.flush_nicknames.specs.declared.Nicknames.TheVariants.{One, Several}
+use Rattle.std.specs.Prelude.{Some}
 
 -- ---- a slot's own bytes
 
@@ -179,14 +180,14 @@ module _ (p : ℕ → Bool) (t : List ℕ) (from e : ℕ) where
 
 -- ---- the nicknames meant
 
-pub one_ingress : (ingress : ℕ) (nicks : List ℕ) → length nicks ≡ 0 → NicknamesAre ingress nicks (One ingress)
+pub one_ingress : (ingress : ℕ) (nicks : List ℕ) → length nicks ≡ 0 → NicknamesAre ingress nicks (Some ingress)
 unfolding nickname_meant pick
 one_ingress ingress nicks h = record { one = λ y e x. let same : ingress ≡ y = cc in rw (eq-eqb (length nicks) 0 h, same); several = λ e x. let z : ◌≡◌ {A = ℕ} 0 1 = cc in absurd (omega arith) }
 
-pub one-listed : (ingress : ℕ) (nicks : List ℕ) → length nicks ≡ 2 → (n : ℕ) → n ≡ num (take 2 (drop 0 nicks)) → n < 2 ^ 16 → NicknamesAre ingress nicks (One n)
+pub one-listed : (ingress : ℕ) (nicks : List ℕ) → length nicks ≡ 2 → (n : ℕ) → n ≡ num (take 2 (drop 0 nicks)) → n < 2 ^ 16 → NicknamesAre ingress nicks (Some n)
 one-listed ingress nicks h n e few = record { one = λ y f x. let same : n ≡ y = cc in rw (← same) (single-listed ingress nicks h n e few x); several = λ e x. let z : ◌≡◌ {A = ℕ} 0 1 = cc in absurd (omega arith) }
 
-pub several_listed : (ingress : ℕ) (nicks : List ℕ) → (length nicks ≡ 0 → ⊥) → NicknamesAre ingress nicks Several
+pub several_listed : (ingress : ℕ) (nicks : List ℕ) → (length nicks ≡ 0 → ⊥) → NicknamesAre ingress nicks prelude.None
 unfolding nickname_meant pick in_nicknames
 several_listed ingress nicks h = record { one = λ y f x. let z : ◌≡◌ {A = ℕ} 0 1 = cc in absurd (omega arith); several = λ e x. rw (ne_eqb (length nicks) 0 h) }
 

@@ -1,6 +1,6 @@
 -- The test of the first pass of a flush: learned, a nickname that is meant, and a label that may be meant.
 -- Assumes nothing.
-use Rattle.std.specs.Prelude.{ℕ, ◌+◌, ◌*◌, ◌%◌, ◌^◌, ◌<◌, ◌≤◌, Bool, true, false, List, ◌≡◌, eqb, length, drop}
+use Rattle.std.specs.Prelude.{ℕ, ◌+◌, ◌*◌, ◌%◌, ◌^◌, ◌<◌, ◌≤◌, Bool, true, false, List, ◌≡◌, eqb, length, drop, Option, Some, None}
 use Rattle.numbers.specs.Tests.{pick, both, either}
 use Rattle.numbers.specs.Numberings.{bit_at}
 use Rattle.table.specs.Record.{record_of, kind_of, label_of, nickname_of}
@@ -14,17 +14,15 @@ use Rattle.flush_vlans.specs.Vlans.{vlan_bytes}
 use Rattle.flush_buckets.specs.Buckets.{bucket_bytes, bucket_of}
 use Rattle.flush_marks.specs.Marks.{Chosen}
 use Rattle.flush_marks.specs.Filters.{slot_named}
-use Rattle.flush_nicknames.specs.declared.Nicknames.{Nicknames}
-use Rattle.flush_nicknames.specs.declared.Nicknames.TheVariants.{One, Several}
 
 -- a bit for each of 65,536 nicknames
 abbrev pub name_bytes : ℕ
 name_bytes = 8192
 
 -- one nickname alone is the one that is meant; several are those of the list
-pub record NicknamesAre (ingress : ℕ) (nicks : List ℕ) (n : Nicknames) : Type 0 where
-  pub one : (y : ℕ) → n ≡ One y → (x : ℕ) → eqb x y ≡ nickname_meant ingress nicks x
-  pub several : n ≡ Several → (x : ℕ) → in_nicknames nicks x ≡ nickname_meant ingress nicks x
+pub record NicknamesAre (ingress : ℕ) (nicks : List ℕ) (n : Option ℕ) : Type 0 where
+  pub one : (y : ℕ) → n ≡ Some y → (x : ℕ) → eqb x y ≡ nickname_meant ingress nicks x
+  pub several : n ≡ None → (x : ℕ) → in_nicknames nicks x ≡ nickname_meant ingress nicks x
 
 -- ---- the test of a slot
 

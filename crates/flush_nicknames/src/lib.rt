@@ -4,7 +4,7 @@
 
 ghost use Rattle.std.specs.Prelude.{ℕ, ◌+◌, ◌-◌, ◌*◌, ◌/◌, ◌^◌, ◌<◌, ◌≤◌, Bool, true, false, List, [], ◌≡◌, eqb, length, drop};
 ghost use Rattle.numbers.specs.Numberings.{bit_at};
-ghost use Rattle.table.specs.Record.{record_bytes, record_of, nickname_of};
+ghost use Rattle.table.specs.Record.{record_bytes};
 ghost use Rattle.table.specs.Slots.{slot_bytes, slots_of, most_slots};
 ghost use Rattle.flush.specs.Payload.{block_bytes, pieces_of, tlvs};
 ghost use Rattle.flush.specs.Meaning.{nickname_meant};
@@ -28,24 +28,17 @@ const NAME_BYTES: usize = 8192;
 // For so many slots filter bits of the message are not made: they would take longer than to look up its parts.
 const FEW_SLOTS: usize = 64;
 
-// The nicknames that a flush means: one alone, or those of a list.
-#[derive(Clone, Copy)]
-pub enum Nicknames {
-    One(u64),
-    Several,
-}
-
-// Without a list only the ingress nickname is meant.
-fn nicknames_of(nicks: &[u8], ingress: u32) -> Nicknames
+// The nickname that a flush means alone, or none where a list names several. Without a list only the ingress nickname is meant.
+fn nicknames_of(nicks: &[u8], ingress: u32) -> Option<u64>
     ensures { NicknamesAre ingress nicks.now result }
 {
     if nicks.len() == 0 {
-        return Nicknames::One(ingress as u64);
+        return Some(ingress as u64);
     }
     if nicks.len() == 2 {
-        return Nicknames::One(numbers::be2(nicks, 0));
+        return Some(numbers::be2(nicks, 0));
     }
-    Nicknames::Several
+    None
 }
 
 // Adds the nicknames of a list to a set.
@@ -416,7 +409,7 @@ pub fn mark(
     ensures { (result ≡ count) × FirstPass (nickname_meant ingress nicks.now) (pieces_of f.blocks rest.now) (fine_noted f) from count table.now marks.new }
 {
     match nicknames_of(nicks, ingress) {
-        Nicknames::One(one) => mark_one(one, rest, f, table, from, count, marks) - from,
-        Nicknames::Several => mark_several(nicks, rest, f, table, from, count, marks) - from,
+        Some(one) => mark_one(one, rest, f, table, from, count, marks) - from,
+        None => mark_several(nicks, rest, f, table, from, count, marks) - from,
     }
 }

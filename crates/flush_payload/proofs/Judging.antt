@@ -12,8 +12,7 @@ use lib.ListN.{length, take, drop, get_or, length-drop}
 use lib.Seq.{length-take-le, get_or-drop}
 use borrow.Author.Tests.{le-leb, lt-leb, eq-eqb, ne_eqb}
 use Rattle.numbers.specs.Tests.{pick, both, either, any_of, between}
-use Rattle.numbers.specs.Result.{Result, refused, got, check}
-use Rattle.numbers.specs.Refusals.{payload_corrupt}
+use Rattle.numbers.specs.Result.{Outcome, check}
 use Rattle.numbers.proofs.Truth.{and_both, or_either, both_right, both_true, between_in, either_none}
 use Rattle.numbers.proofs.Answers.{check_pass}
 use Rattle.numbers.proofs.Lists.{rest_is}
@@ -21,9 +20,9 @@ use Rattle.flush.specs.Payload.{Types, every_type, vlan_types, Piece, tlv, tlv_e
 use Rattle.flush_tlvs.proofs.Laws.{tlvs_done_lem, tlv_padding, tlv_stump, tlv_here, tlv_hit, tlv_next}
 use Rattle.flush_payload.specs.Judging.{every_kind, vlan_kind, list_kind, map_kind, mac_kind, of_kind, ruled, EmptyPassed, Noted, NotedMore, Nothing, JudgedTlvs, JudgedPayload}
 use Rattle.flush_payload.specs.declared.Kinds.{Kinds}
-use Rattle.flush_payload.specs.declared.Judged.{Judged}
-use Rattle.flush_payload.specs.declared.Judged.TheVariants.{Corrupt, Good}
 use Rattle.flush_payload.proofs.Laws.{none_brought}
+use Rattle.std.specs.Prelude.{Ok, Err}
+use Rattle.numbers.specs.declared.refusals.Refusal.TheVariants.{PayloadCorrupt}
 
 -- ---- the length rules
 
@@ -166,16 +165,16 @@ pub record Walked (types : Types) (l : List ℕ) (at : ℕ) (f : Kinds) : Type 0
   pub maps : Left types l at map_kind f.maps
   pub macs : Left types l at mac_kind f.macs
 
-bad_is : (types : Types) (ps : List Piece) → any_of (corrupt types) ps ≡ true → JudgedTlvs types ps Corrupt
+bad_is : (types : Types) (ps : List Piece) → any_of (corrupt types) ps ≡ true → JudgedTlvs types ps (Err PayloadCorrupt)
 bad_is types ps e = record {
-  bad = λ s. e;
+  bad = λ r s. (cc, e);
   good = λ f s. let z : ◌≡◌ {A = ℕ} 0 1 = cc in absurd (omega arith);
   noted = λ f s. let z : ◌≡◌ {A = ℕ} 0 1 = cc in absurd (omega arith);
 }
 
-good_is : (types : Types) (ps : List Piece) (f : Kinds) → any_of (corrupt types) ps ≡ false → Noted types 0 ps f → JudgedTlvs types ps (Good f)
+good_is : (types : Types) (ps : List Piece) (f : Kinds) → any_of (corrupt types) ps ≡ false → Noted types 0 ps f → JudgedTlvs types ps (Ok f)
 good_is types ps f e n = record {
-  bad = λ s. let z : ◌≡◌ {A = ℕ} 0 1 = cc in absurd (omega arith);
+  bad = λ r s. let z : ◌≡◌ {A = ℕ} 0 1 = cc in absurd (omega arith);
   good = λ g s. e;
   noted = λ g s. let q : f ≡ g = cc in rw q at n;
 }
@@ -203,7 +202,7 @@ module _ (types : Types) (l : List ℕ) where
         let d : false ≡ any_of (of_kind types kind) (tlvs (drop at l)) = tlvs_done_lem (of_kind types kind) l at _ refl h in
         sym (e ∙ rw (← d) (either_none b))
 
-    pub walk_done : length l ≤ at → JudgedTlvs types (tlvs l) (Good f)
+    pub walk_done : length l ≤ at → JudgedTlvs types (tlvs l) (Ok f)
     walk_done h =
         good_is types (tlvs l) f (sym (tlvs_done_lem (corrupt types) l at _ w.whole h))
         (record {
@@ -223,7 +222,7 @@ module _ (types : Types) (l : List ℕ) where
             let d : false ≡ any_of (of_kind types kind) (tlvs (drop at l)) = tlv_padding (of_kind types kind) l at _ refl more e end p test h in
             sym (s ∙ rw (← d) (either_none b))
 
-        pub walk_padding : p ≡ true → JudgedTlvs types (tlvs l) (Good f)
+        pub walk_padding : p ≡ true → JudgedTlvs types (tlvs l) (Ok f)
         walk_padding h =
             good_is types (tlvs l) f (sym (tlv_padding (corrupt types) l at _ w.whole more e end p test h))
             (record {
@@ -235,7 +234,7 @@ module _ (types : Types) (l : List ℕ) where
               macs = left_padding mac_kind _ w.macs h;
             })
 
-        pub walk_cut : p ≡ false → length l < e → JudgedTlvs types (tlvs l) Corrupt
+        pub walk_cut : p ≡ false → length l < e → JudgedTlvs types (tlvs l) (Err PayloadCorrupt)
         unfolding corrupt
         walk_cut h short = bad_is types (tlvs l) (sym (tlv_stump (corrupt types) l at _ w.whole more e end p test h short true refl))
 
@@ -288,7 +287,7 @@ module _ (types : Types) (l : List ℕ) where
           unfolding ruled
           implemented = (both_true _ _ (sym said ∙ here)).0
 
-          pub walk_bad : g ≡ false → JudgedTlvs types (tlvs l) Corrupt
+          pub walk_bad : g ≡ false → JudgedTlvs types (tlvs l) (Err PayloadCorrupt)
           unfolding corrupt both
           walk_bad h = bad_is types (tlvs l) (sym (tlv_hit (corrupt types) l at _ w.whole more e end fits true (sym (rw (implemented, value_long, ← rule, h))) refl))
 
@@ -349,43 +348,43 @@ module _ (l : List ℕ) (from : ℕ) where
 
 -- ---- the whole payload
 
-checked_bad : (b : Bool) (x : Result Payload) → x ≡ refused payload_corrupt → check b payload_corrupt x ≡ refused payload_corrupt
+checked_bad : (b : Bool) (x : Outcome Payload) → x ≡ Err PayloadCorrupt → check b PayloadCorrupt x ≡ Err PayloadCorrupt
 unfolding check
 checked_bad true x e = e
 checked_bad false x e = refl
 
-failed : (b : Bool) (x : Result Payload) → b ≡ false → check b payload_corrupt x ≡ refused payload_corrupt
+failed : (b : Bool) (x : Outcome Payload) → b ≡ false → check b PayloadCorrupt x ≡ Err PayloadCorrupt
 unfolding check
 failed b x e = rw e
 
 module _ (types : Types) (l : List ℕ) where
-  payload_bad : payload_of types l ≡ refused payload_corrupt → JudgedPayload types l Corrupt
+  payload_bad : payload_of types l ≡ Err PayloadCorrupt → JudgedPayload types l (Err PayloadCorrupt)
   payload_bad e = record {
-    bad = λ s. e;
+    bad = λ r s. let same : PayloadCorrupt ≡ r = cc in e ∙ ap Err same;
     good = λ f s. let z : ◌≡◌ {A = ℕ} 0 1 = cc in absurd (omega arith);
     noted = λ f s. let z : ◌≡◌ {A = ℕ} 0 1 = cc in absurd (omega arith);
   }
 
-  no_front : length l < 2 + nick_bytes l → JudgedPayload types l Corrupt
+  no_front : length l < 2 + nick_bytes l → JudgedPayload types l (Err PayloadCorrupt)
   unfolding payload_of
   no_front h = payload_bad (checked_bad _ _ (checked_bad _ _ (failed _ _ (lt-leb (2 + nick_bytes l) (length l) h))))
 
-  pub judged_short : length l < 2 → JudgedPayload types l Corrupt
+  pub judged_short : length l < 2 → JudgedPayload types l (Err PayloadCorrupt)
   judged_short h = no_front (omega arith)
 
   module _ (k : ℕ) (nicks : k ≡ nick_bytes l) where
-    pub judged_nicks : length l < 2 + k → JudgedPayload types l Corrupt
+    pub judged_nicks : length l < 2 + k → JudgedPayload types l (Err PayloadCorrupt)
     judged_nicks h = no_front (omega arith)
 
     module _ (room : 2 + k ≤ length l) (n : ℕ) (blocks : n ≡ block_count l) where
-      pub judged-cut : length l - (2 + k) < 4 * n → JudgedPayload types l Corrupt
+      pub judged-cut : length l - (2 + k) < 4 * n → JudgedPayload types l (Err PayloadCorrupt)
       unfolding payload_of
       judged-cut h =
           let d : length (behind l) ≡ length l - (2 + nick_bytes l) = length-drop (2 + nick_bytes l) l in
           payload_bad (checked_bad _ _ (checked_bad _ _ (checked_bad _ _ (failed _ _ (lt-leb (block_bytes * block_count l) (length (behind l)) (omega arith))))))
 
       module _ (fits : 4 * n ≤ length l - (2 + k)) where
-        judged-pieces : payload_of types l ≡ check (not (any_of (corrupt types) (pieces_of (block_count l) (behind l)))) payload_corrupt (got (made l))
+        judged-pieces : payload_of types l ≡ check (not (any_of (corrupt types) (pieces_of (block_count l) (behind l)))) PayloadCorrupt (Ok (made l))
         unfolding payload_of
         judged-pieces =
             let d : length (behind l) ≡ length l - (2 + nick_bytes l) = length-drop (2 + nick_bytes l) l in
@@ -395,13 +394,13 @@ module _ (types : Types) (l : List ℕ) where
             ∙ check_pass _ _ _ (le-leb (block_bytes * block_count l) (length (behind l)) (omega arith))
 
         -- VLAN blocks are not corrupt, and are of no kind
-        pub judged_blocks : (n ≡ 0 → ⊥) → (f : Kinds) → Nothing n f → JudgedPayload types l (Good f)
+        pub judged_blocks : (n ≡ 0 → ⊥) → (f : Kinds) → Nothing n f → JudgedPayload types l (Ok f)
         unfolding corrupt of_kind check
         judged_blocks some f e =
             let much : block_count l ≡ 0 → ⊥ = λ z. some (blocks ∙ z) in
             let none : (kind : ℕ → Bool) (b : Bool) → b ≡ false → b ≡ any_of (of_kind types kind) (pieces_of (block_count l) (behind l)) = λ kind b q. q ∙ none_brought (of_kind types kind) (block_count l) (behind l) much (λ x. refl) in
             record {
-              bad = λ s. let z : ◌≡◌ {A = ℕ} 0 1 = cc in absurd (omega arith);
+              bad = λ r s. let z : ◌≡◌ {A = ℕ} 0 1 = cc in absurd (omega arith);
               good = λ g s. judged-pieces ∙ rw (← none_brought (corrupt types) (block_count l) (behind l) much (λ x. refl));
               noted = λ g s.
                   let q : f ≡ g = cc in
@@ -416,13 +415,13 @@ module _ (types : Types) (l : List ℕ) where
                   });
             }
 
-        pub judged-tlvs : n ≡ 0 → (j : Judged) → JudgedTlvs types (tlvs (take (length l - (2 + k)) (drop (2 + k) l))) j → JudgedPayload types l j
+        pub judged-tlvs : n ≡ 0 → (j : Outcome Kinds) → JudgedTlvs types (tlvs (take (length l - (2 + k)) (drop (2 + k) l))) j → JudgedPayload types l j
         unfolding pieces_of pick check
         judged-tlvs z j t =
             let zero-blocks : block_count l ≡ 0 = sym blocks ∙ z in
             let same : tlvs (take (length l - (2 + k)) (drop (2 + k) l)) ≡ pieces_of (block_count l) (behind l) = rw (rest_is (2 + k) l, nicks, eq-eqb (block_count l) 0 zero-blocks) in
             record {
-              bad = λ s. judged-pieces ∙ rw (← same, t.bad s);
+              bad = λ r s. let b = t.bad r s in judged-pieces ∙ rw (← same, b.1, b.0);
               good = λ f s. judged-pieces ∙ rw (← same, t.good f s);
               noted = λ f s. let n = t.noted f s in rw (← same, zero-blocks) n;
             }

@@ -1,13 +1,12 @@
 -- What judging a payload finds: whether it is corrupt, and else which kinds of TLVs it has.
 -- Assumes nothing.
-use Rattle.std.specs.Prelude.{ℕ, ◌≤◌, Bool, true, false, List, [], ◌≡◌, eqb, length, drop}
+use Rattle.std.specs.Prelude.{ℕ, ◌≤◌, Bool, true, false, List, [], ◌≡◌, eqb, length, drop, Ok, Err}
 use Rattle.numbers.specs.Tests.{both, either, any_of, between}
-use Rattle.numbers.specs.Result.{refused, got}
-use Rattle.numbers.specs.Refusals.{payload_corrupt}
 use Rattle.flush.specs.Payload.{Types, Piece, tlv, block, stump, tlvs, corrupt, block_count, behind, pieces_of, made, payload_of}
 use Rattle.flush_payload.specs.declared.Kinds.{Kinds}
-use Rattle.flush_payload.specs.declared.Judged.{Judged}
-use Rattle.flush_payload.specs.declared.Judged.TheVariants.{Corrupt, Good}
+use Rattle.numbers.specs.Result.{Outcome}
+use Rattle.numbers.specs.declared.refusals.Refusal.{Refusal}
+use Rattle.numbers.specs.declared.refusals.Refusal.TheVariants.{PayloadCorrupt}
 
 -- ---- kinds of TLVs, by their types
 
@@ -60,16 +59,16 @@ pub record Noted (types : Types) (n : ℕ) (ps : List Piece) (f : Kinds) : Type 
   pub macs : f.macs ≡ any_of (of_kind types mac_kind) ps
 
 -- what was found of TLVs
-pub record JudgedTlvs (types : Types) (ps : List Piece) (j : Judged) : Type 0 where
-  pub bad : j ≡ Corrupt → any_of (corrupt types) ps ≡ true
-  pub good : (f : Kinds) → j ≡ Good f → any_of (corrupt types) ps ≡ false
-  pub noted : (f : Kinds) → j ≡ Good f → Noted types 0 ps f
+pub record JudgedTlvs (types : Types) (ps : List Piece) (j : Outcome Kinds) : Type 0 where
+  pub bad : (r : Refusal) → j ≡ Err r → (r ≡ PayloadCorrupt) × (any_of (corrupt types) ps ≡ true)
+  pub good : (f : Kinds) → j ≡ Ok f → any_of (corrupt types) ps ≡ false
+  pub noted : (f : Kinds) → j ≡ Ok f → Noted types 0 ps f
 
 -- and of a payload
-pub record JudgedPayload (types : Types) (l : List ℕ) (j : Judged) : Type 0 where
-  pub bad : j ≡ Corrupt → payload_of types l ≡ refused payload_corrupt
-  pub good : (f : Kinds) → j ≡ Good f → payload_of types l ≡ got (made l)
-  pub noted : (f : Kinds) → j ≡ Good f → Noted types (block_count l) (pieces_of (block_count l) (behind l)) f
+pub record JudgedPayload (types : Types) (l : List ℕ) (j : Outcome Kinds) : Type 0 where
+  pub bad : (r : Refusal) → j ≡ Err r → payload_of types l ≡ Err r
+  pub good : (f : Kinds) → j ≡ Ok f → payload_of types l ≡ Ok (made l)
+  pub noted : (f : Kinds) → j ≡ Ok f → Noted types (block_count l) (pieces_of (block_count l) (behind l)) f
 
 -- a TLV of type k adds its kind to what was noted
 pub record NotedMore (k : ℕ) (f g : Kinds) : Type 0 where

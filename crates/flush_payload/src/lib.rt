@@ -9,6 +9,7 @@ ghost use Rattle.flush.specs.Meaning.{gathers_mac, nickname_meant, label_meant, 
 ghost use Rattle.flush_payload.specs.Judging.{ruled, EmptyPassed, NotedMore, Nothing, JudgedTlvs, JudgedPayload};
 
 use flush::Model;
+use numbers::refusals::Refusal;
 
 // The last type that document 01's table has.
 const LAST_TYPE: u8 = 8;
@@ -22,13 +23,6 @@ pub struct Kinds {
     pub lists: bool,
     pub maps: bool,
     pub macs: bool,
-}
-
-// What judging a payload found.
-#[derive(Clone, Copy)]
-pub enum Judged {
-    Corrupt,
-    Good(Kinds),
 }
 
 // The bytes of the nicknames.
@@ -134,7 +128,7 @@ fn is_padding(l: &[u8], at: usize) -> bool
 
 // Judges TLVs to their end. Bytes that make no TLV are corrupt unless they are padding, and so is a broken length rule of a type that is
 // implemented.
-fn judge_tlvs(model: Model, l: &[u8]) -> Judged
+fn judge_tlvs(model: Model, l: &[u8]) -> Result<Kinds, Refusal>
     ensures { JudgedTlvs (types_of model) (tlvs l.now) result }
 {
     let mut f = blocks_alone(0);
@@ -144,14 +138,14 @@ fn judge_tlvs(model: Model, l: &[u8]) -> Judged
         let e = flush_tlvs::end_of(l, at);
         if l.len() < e {
             if is_padding(l, at) {
-                return Judged::Good(f);
+                return Ok(f);
             }
-            return Judged::Corrupt;
+            return Err(Refusal::PayloadCorrupt);
         }
         let k = l[at];
         if ruled_type(model, k) {
             if !length_good(k, e - (at + 2)) {
-                return Judged::Corrupt;
+                return Err(Refusal::PayloadCorrupt);
             }
             f = note(f, k);
             at = e;
@@ -159,26 +153,26 @@ fn judge_tlvs(model: Model, l: &[u8]) -> Judged
             at = pass_empty(l, e);
         }
     }
-    Judged::Good(f)
+    Ok(f)
 }
 
 // Judges a payload, from its first byte to its last, before any record is touched, and notes what it has.
-pub fn judge(model: Model, p: &[u8]) -> Judged
+pub fn judge(model: Model, p: &[u8]) -> Result<Kinds, Refusal>
     ensures { JudgedPayload (types_of model) p.now result }
 {
     if p.len() < 2 {
-        return Judged::Corrupt;
+        return Err(Refusal::PayloadCorrupt);
     }
     let s = 2 + nick_bytes(p);
     if p.len() < s {
-        return Judged::Corrupt;
+        return Err(Refusal::PayloadCorrupt);
     }
     let blocks = block_count(p);
     if p.len() - s < 4 * blocks {
-        return Judged::Corrupt;
+        return Err(Refusal::PayloadCorrupt);
     }
     if blocks != 0 {
-        return Judged::Good(blocks_alone(blocks));
+        return Ok(blocks_alone(blocks));
     }
     judge_tlvs(model, &p[s..])
 }

@@ -1,7 +1,7 @@
 // The VLANs of blocks and of bit maps, added to a set of bits.
 #![tactic(auto)]
 
-ghost use Rattle.std.specs.Prelude.{ℕ, ◌+◌, ◌-◌, ◌*◌, ◌^◌, ◌≤◌, ◌<◌, ◌≡◌, length, drop};
+ghost use Rattle.std.specs.Prelude.{ℕ, ◌+◌, ◌-◌, ◌*◌, ◌^◌, ◌≤◌, ◌<◌, ◌≡◌, length};
 ghost use Rattle.flush_sets.specs.Gains.{Gains, in_vlan_block, in_vlan_blocks, in_vlan_map, Edged, vlan_in_byte, vlan_in_shifted};
 
 // Adds the VLANs of a block.

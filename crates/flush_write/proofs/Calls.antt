@@ -10,65 +10,65 @@ use lib.ListN.{length, take, drop}
 use lib.Seq.{take_at, get_or-drop}
 use borrow.Author.Tests.{le-leb, leb-true, leb-false}
 use Rattle.numbers.specs.Tests.{pick, all_of}
-use Rattle.numbers.specs.Result.{Result, refused, got, check, and_then, settled}
-use Rattle.numbers.specs.Refusals.{area_short}
+use Rattle.numbers.specs.Result.{Outcome, check, and_then, settled}
 use Rattle.numbers.specs.After.{OnArea, on_area}
 use Rattle.numbers.specs.Bytes.{AreBytes, num, laid, parts_from, parts}
 use Rattle.numbers.proofs.Truth.{both_pass}
 use Rattle.numbers.proofs.Answers.{refused_got, check_got}
 use Rattle.numbers.proofs.Bytes.{num_part_lt}
 use Rattle.convert.specs.Compaction.{written}
-use Rattle.flush_write.specs.Writing.{lists_bad, Asked, asked_good, flush_bytes, written_flush}
+use Rattle.flush_write.specs.Writing.{Asked, asked_good, flush_bytes, written_flush}
 use Rattle.flush_write.specs.Areas.{nicks_in, areas_whole, asked_in, flush_of, flush_written}
 use Rattle.flush_write.specs.Claims.{WriterCalls}
-use Rattle.flush_write.specs.declared.WriteAnswer.{WriteAnswer}
-use Rattle.flush_write.specs.declared.WriteAnswer.TheVariants.{Refused, Written}
 use Rattle.flush_write.proofs.Exact.{writer_exact}
 use Rattle.flush_write.proofs.Bounds.{writer_length}
+use Rattle.std.specs.Prelude.{Ok, Err}
+use Rattle.numbers.specs.declared.refusals.Refusal.TheVariants.{AreaShort, ListsBad}
+use Rattle.numbers.specs.declared.refusals.Refusal.{Refusal}
 
-refused_written : {C : Type 0} (m n : ℕ) → ◌≡◌ {A = WriteAnswer} (Refused m) (Written n) → C
+refused_written : {C : Type 0} (m : Refusal) (n : ℕ) → ◌≡◌ {A = (Outcome ℕ)} (Err m) (Ok n) → C
 refused_written m n p = let z : ◌≡◌ {A = ℕ} 0 1 = cc in absurd (omega arith)
 
-written-written : (m n : ℕ) → ◌≡◌ {A = WriteAnswer} (Written m) (Written n) → m ≡ n
+written-written : (m n : ℕ) → ◌≡◌ {A = (Outcome ℕ)} (Ok m) (Ok n) → m ≡ n
 written-written m n p = cc
 
-refused_refused : (m n : ℕ) → ◌≡◌ {A = WriteAnswer} (Refused m) (Refused n) → m ≡ n
+refused_refused : (m n : Refusal) → ◌≡◌ {A = (Outcome ℕ)} (Err m) (Err n) → m ≡ n
 refused_refused m n p = cc
 
-abbrev put : Result (List ℕ) → List ℕ → OnArea WriteAnswer
-put r out = settled (λ n. on_area (Refused n) out) (and_then r λ b. written Written b out)
+abbrev put : Outcome (List ℕ) → List ℕ → OnArea (Outcome ℕ)
+put r out = settled (λ n. on_area (Err n) out) (and_then r λ b. written Ok b out)
 
-abbrev put_if : Bool → List ℕ → List ℕ → OnArea WriteAnswer
-put_if c b out = settled (λ n. on_area (Refused n) out) (check c area_short (got (on_area (Written (length b)) (laid b out))))
+abbrev put_if : Bool → List ℕ → List ℕ → OnArea (Outcome ℕ)
+put_if c b out = settled (λ n. on_area (Err n) out) (check c AreaShort (Ok (on_area (Ok (length b)) (laid b out))))
 
 -- ---- what was written
 
-fits_wrote : (c : Bool) (b out : List ℕ) (n : ℕ) → (put_if c b out).answer ≡ Written n → take n (put_if c b out).area ≡ b
+fits_wrote : (c : Bool) (b out : List ℕ) (n : ℕ) → (put_if c b out).answer ≡ Ok n → take n (put_if c b out).area ≡ b
 unfolding settled check laid
 fits_wrote true b out n e = take_at b (drop (length b) out) n (written-written (length b) n e)
-fits_wrote false b out n e = refused_written area_short n e
+fits_wrote false b out n e = refused_written AreaShort n e
 
-put_wrote : (r : Result (List ℕ)) (out : List ℕ) (n : ℕ) → (put r out).answer ≡ Written n → r ≡ got (take n (put r out).area)
+put_wrote : (r : Outcome (List ℕ)) (out : List ℕ) (n : ℕ) → (put r out).answer ≡ Ok n → r ≡ Ok (take n (put r out).area)
 unfolding settled and_then written
-put_wrote (refused m) out n e = refused_written m n e
-put_wrote (got b) out n e = ap got (sym (fits_wrote (leb (length b) (length out)) b out n e))
+put_wrote (Err m) out n e = refused_written m n e
+put_wrote (Ok b) out n e = ap Ok (sym (fits_wrote (leb (length b) (length out)) b out n e))
 
 -- ---- a refusal
 
-fits_refused : (c : Bool) (b out : List ℕ) (n : ℕ) → (put_if c b out).answer ≡ Refused n → ((put_if c b out).area ≡ out) × (c ≡ false)
+fits_refused : (c : Bool) (b out : List ℕ) (n : Refusal) → (put_if c b out).answer ≡ Err n → ((put_if c b out).area ≡ out) × (c ≡ false)
 unfolding settled check
 fits_refused true b out n e = refused_written n (length b) (sym e)
 fits_refused false b out n e = (refl, refl)
 
-put_refused : (r : Result (List ℕ)) (out : List ℕ) (n : ℕ) → (put r out).answer ≡ Refused n → (put r out).area ≡ out
+put_refused : (r : Outcome (List ℕ)) (out : List ℕ) (n : Refusal) → (put r out).answer ≡ Err n → (put r out).area ≡ out
 unfolding settled and_then written
-put_refused (refused m) out n e = refl
-put_refused (got b) out n e = (fits_refused (leb (length b) (length out)) b out n e).0
+put_refused (Err m) out n e = refl
+put_refused (Ok b) out n e = (fits_refused (leb (length b) (length out)) b out n e).0
 
-put_room : (r : Result (List ℕ)) (out : List ℕ) (n : ℕ) → ((b : List ℕ) → r ≡ got b → length b ≤ length out) → ((m : ℕ) → r ≡ refused m → m ≡ lists_bad) → (put r out).answer ≡ Refused n → n ≡ lists_bad
+put_room : (r : Outcome (List ℕ)) (out : List ℕ) (n : Refusal) → ((b : List ℕ) → r ≡ Ok b → length b ≤ length out) → ((m : Refusal) → r ≡ Err m → m ≡ ListsBad) → (put r out).answer ≡ Err n → n ≡ ListsBad
 unfolding settled and_then written
-put_room (refused m) out n room bad e = sym (refused_refused m n e) ∙ bad m refl
-put_room (got b) out n room bad e =
+put_room (Err m) out n room bad e = sym (refused_refused m n e) ∙ bad m refl
+put_room (Ok b) out n room bad e =
     let o = leb-false (length b) (length out) (fits_refused (leb (length b) (length out)) b out n e).1 in
     let h = room b refl in
     absurd (omega arith)
@@ -94,16 +94,16 @@ nicks_fit l bytes = fit_parts (length l) l bytes
 
 -- ---- before 16 there is only 23
 
-refused_same : (m n : ℕ) → ◌≡◌ {A = Result (List ℕ)} (refused m) (refused n) → n ≡ m
+refused_same : (m n : Refusal) → ◌≡◌ {A = Outcome (List ℕ)} (Err m) (Err n) → n ≡ m
 refused_same m n p = cc
 
-check_bad : (c d : Bool) (l : List ℕ) (m : ℕ) → check c lists_bad (check d lists_bad (got l)) ≡ refused m → m ≡ lists_bad
+check_bad : (c d : Bool) (l : List ℕ) (m : Refusal) → check c ListsBad (check d ListsBad (Ok l)) ≡ Err m → m ≡ ListsBad
 unfolding check
 check_bad true true l m e = refused_got m l (sym e)
-check_bad true false l m e = refused_same lists_bad m e
-check_bad false d l m e = refused_same lists_bad m e
+check_bad true false l m e = refused_same ListsBad m e
+check_bad false d l m e = refused_same ListsBad m e
 
-only_bad : (c : Bool) (a : Asked) (m : ℕ) → check c lists_bad (written_flush a) ≡ refused m → m ≡ lists_bad
+only_bad : (c : Bool) (a : Asked) (m : Refusal) → check c ListsBad (written_flush a) ≡ Err m → m ≡ ListsBad
 unfolding written_flush
 only_bad c a m e = check_bad c (asked_good a) (flush_bytes a) m e
 
@@ -111,13 +111,13 @@ pub writer_calls : WriterCalls
 unfolding flush_written flush_of
 writer_calls = record {
   exact = λ ns vs fs ms out n bytes e.
-      let w = (check_got (areas_whole ns vs fs ms) lists_bad (written_flush (asked_in ns vs fs ms)) _ (put_wrote (flush_of ns vs fs ms) out n e)).1 in
+      let w = (check_got (areas_whole ns vs fs ms) ListsBad (written_flush (asked_in ns vs fs ms)) _ (put_wrote (flush_of ns vs fs ms) out n e)).1 in
       writer_exact.written (asked_in ns vs fs ms) _ (nicks_fit ns bytes) w;
   refusal = λ ns vs fs ms out n e. put_refused (flush_of ns vs fs ms) out n e;
   room = λ ns vs fs ms out n long e.
       put_room (flush_of ns vs fs ms) out n
       (λ b g.
-      let m = writer_length.most (asked_in ns vs fs ms) b (check_got (areas_whole ns vs fs ms) lists_bad (written_flush (asked_in ns vs fs ms)) b g).1 in
+      let m = writer_length.most (asked_in ns vs fs ms) b (check_got (areas_whole ns vs fs ms) ListsBad (written_flush (asked_in ns vs fs ms)) b g).1 in
       omega arith)
       (λ m g. only_bad (areas_whole ns vs fs ms) (asked_in ns vs fs ms) m g)
       e;

@@ -11,7 +11,6 @@ use lib.Seq.{take_at, drop_at, get_or_at}
 use borrow.Author.Tests.{le-leb, leb-true, eqb-true, eqb-false, eq-eqb, ne_eqb}
 use Rattle.numbers.specs.Tests.{pick, both, either, any_of, all_of}
 use Rattle.numbers.specs.Bytes.{parts}
-use Rattle.numbers.specs.Result.{got}
 use Rattle.numbers.specs.Numberings.{vlans, fines, macs, in_block, filled}
 use Rattle.numbers.specs.declared.Numbering.{Numbering}
 use Rattle.numbers.proofs.Truth.{both_true, pick_false}
@@ -23,10 +22,12 @@ use Rattle.flush.specs.Meaning.{nickname_meant, vlan_in, fine_in, mac_in, some_m
 use Rattle.flush.specs.Padding.{padded}
 use Rattle.flush.proofs.Validity.{tlvs_end}
 use Rattle.flush.proofs.Padding.{padded_flush}
-use Rattle.flush_write.specs.Writing.{Block, Asked, lists_bad, most_listed, block_good, blocks_good, labels_named, asked_good, block_bytes, blocks_bytes, nicks_bytes, groups, per_tlv, tlvs_bytes, only_vlans, block_form, tlv_form, flush_bytes, written_flush}
+use Rattle.flush_write.specs.Writing.{Block, Asked, most_listed, block_good, blocks_good, labels_named, asked_good, block_bytes, blocks_bytes, nicks_bytes, groups, per_tlv, tlvs_bytes, only_vlans, block_form, tlv_form, flush_bytes, written_flush}
 use Rattle.flush_write.specs.Claims.{block_has, label_asked, mac_asked, NicksFit, Means, WriterExact}
 use Rattle.flush_write.proofs.Lists.{any_append, any-map, any_same, any_never, any-groups, tlvs-all}
 use Rattle.flush_write.proofs.Blocks.{length_blocks, blocks_have, blocks_filled, blocks_cut, in_blocks_lem, some_filled_lem, length_nicks, nicks_listed}
+use Rattle.std.specs.Prelude.{Ok}
+use Rattle.numbers.specs.declared.refusals.Refusal.TheVariants.{ListsBad}
 
 -- ---- the front
 
@@ -42,7 +43,7 @@ module _ (n k : ℕ) (v r : List ℕ) (long : length v ≡ 2 * n) where
       ∙ drop_at (n ∷ (v ++ (k ∷ []))) r (2 + 2 * n) (omega arith)
 
   pub payload_is : 4 * k ≤ length r → any_of (corrupt every_type) (pieces_of k r) ≡ false
-      → payload_of every_type (n ∷ (v ++ (k ∷ r))) ≡ got (record { nicks = v; pieces = pieces_of k r })
+      → payload_of every_type (n ∷ (v ++ (k ∷ r))) ≡ Ok (record { nicks = v; pieces = pieces_of k r })
   unfolding payload_of
   payload_is room clean =
       let m = length-append v (k ∷ r) in
@@ -309,11 +310,11 @@ module _ (a : Asked) (fit : NicksFit a) (good : asked_good a ≡ true) where
   pub means : (r : List ℕ) → Blank r → Means a (flush_bytes a ++ r)
   means r blank = form_means r blank (only_vlans a) refl
 
-pub written_is : (a : Asked) (l : List ℕ) → written_flush a ≡ got l → (asked_good a ≡ true) × (flush_bytes a ≡ l)
+pub written_is : (a : Asked) (l : List ℕ) → written_flush a ≡ Ok l → (asked_good a ≡ true) × (flush_bytes a ≡ l)
 unfolding written_flush
-written_is a l e = let c = check_got (asked_good a) lists_bad (got (flush_bytes a)) l e in (c.0, got_got (flush_bytes a) l c.1)
+written_is a l e = let c = check_got (asked_good a) ListsBad (Ok (flush_bytes a)) l e in (c.0, got_got (flush_bytes a) l c.1)
 
-as_written : (a : Asked) (l : List ℕ) → NicksFit a → written_flush a ≡ got l → Means a l
+as_written : (a : Asked) (l : List ℕ) → NicksFit a → written_flush a ≡ Ok l → Means a l
 as_written a l fit e =
     let w = written_is a l e in
     subst (Means a) (append-nil (flush_bytes a) ∙ w.1) (means a fit w.0 [] blank_none)

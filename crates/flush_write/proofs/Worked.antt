@@ -5,15 +5,17 @@ use lib.ListN.{replicate}
 use mathlib.Core.List.{[], ◌∷◌, map, flat_map}
 use Rattle.numbers.specs.Tests.{pick, both, all_of}
 use Rattle.numbers.specs.Bytes.{bytes_of}
-use Rattle.numbers.specs.Result.{refused, check}
-use Rattle.flush_write.specs.Writing.{lists_bad, block_good, blocks_good, labels_named, asked_good, block_bytes, blocks_bytes, nicks_bytes, groups_from, groups, tlv_bytes, tlvs_bytes, only_vlans, flush_bytes, written_flush}
+use Rattle.numbers.specs.Result.{check}
+use Rattle.flush_write.specs.Writing.{block_good, blocks_good, labels_named, asked_good, block_bytes, blocks_bytes, nicks_bytes, groups_from, groups, tlv_bytes, tlvs_bytes, only_vlans, flush_bytes, written_flush}
 use Rattle.flush_write.specs.Cases.{asked_cases, written_cases, refused_asked, full_asked, written_length, WriterCases}
+use Rattle.std.specs.Prelude.{Err}
+use Rattle.numbers.specs.declared.refusals.Refusal.TheVariants.{ListsBad}
 
 writes : map written_flush asked_cases ≡ written_cases
 unfolding flat_map pick both bytes_of check all_of block_good blocks_good labels_named asked_good block_bytes blocks_bytes nicks_bytes groups_from groups tlv_bytes tlvs_bytes only_vlans flush_bytes written_flush
 writes = refl
 
-refuses : map written_flush refused_asked ≡ replicate 8 (refused lists_bad)
+refuses : map written_flush refused_asked ≡ replicate 8 (Err ListsBad)
 unfolding flat_map pick both bytes_of check all_of block_good blocks_good labels_named asked_good block_bytes blocks_bytes nicks_bytes groups_from groups tlv_bytes tlvs_bytes only_vlans flush_bytes written_flush
 refuses = refl
 

@@ -1,14 +1,13 @@
 -- The call that writes a flush: the four lists as they lie in their areas, and what is written.
 -- Assumes nothing.
-use Rattle.std.specs.Prelude.{ℕ, ◌*◌, ◌%◌, Bool, List, map, eqb, length, take, drop}
+use Rattle.std.specs.Prelude.{ℕ, ◌*◌, ◌%◌, Bool, List, map, eqb, length, take, drop, Ok, Err}
 use Rattle.numbers.specs.Tests.{both}
-use Rattle.numbers.specs.Result.{Result, check, and_then, settled}
+use Rattle.numbers.specs.Result.{Outcome, check, and_then, settled}
 use Rattle.numbers.specs.After.{OnArea, on_area}
 use Rattle.numbers.specs.Bytes.{num, parts}
 use Rattle.convert.specs.Compaction.{written}
-use Rattle.flush_write.specs.Writing.{lists_bad, Block, Asked, written_flush}
-use Rattle.flush_write.specs.declared.WriteAnswer.{WriteAnswer}
-use Rattle.flush_write.specs.declared.WriteAnswer.TheVariants.{Refused, Written}
+use Rattle.flush_write.specs.Writing.{Block, Asked, written_flush}
+use Rattle.numbers.specs.declared.refusals.Refusal.TheVariants.{ListsBad}
 
 -- the bytes of a number in its list: a nickname and a VLAN 2, a fine-grained label 4, a MAC 8
 abbrev pub nick_item : ℕ
@@ -48,11 +47,11 @@ areas_whole ns vs fs ms =
     (items_whole (2 * mac_item) ms)))
 
 -- the message, or 23
-unfoldable pub flush_of : List ℕ → List ℕ → List ℕ → List ℕ → Result (List ℕ)
-flush_of ns vs fs ms = check (areas_whole ns vs fs ms) lists_bad (written_flush (asked_in ns vs fs ms))
+unfoldable pub flush_of : List ℕ → List ℕ → List ℕ → List ℕ → Outcome (List ℕ)
+flush_of ns vs fs ms = check (areas_whole ns vs fs ms) ListsBad (written_flush (asked_in ns vs fs ms))
 
 -- the writing call: 23, then 16
-unfoldable pub flush_written : List ℕ → List ℕ → List ℕ → List ℕ → List ℕ → OnArea WriteAnswer
+unfoldable pub flush_written : List ℕ → List ℕ → List ℕ → List ℕ → List ℕ → OnArea (Outcome ℕ)
 flush_written ns vs fs ms out =
-    settled (λ n. on_area (Refused n) out)
-    (and_then (flush_of ns vs fs ms) λ b. written Written b out)
+    settled (λ n. on_area (Err n) out)
+    (and_then (flush_of ns vs fs ms) λ b. written Ok b out)

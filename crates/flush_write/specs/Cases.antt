@@ -1,8 +1,9 @@
 -- Worked flush messages: the two vectors of request 2026-03, and what is refused.
 -- Assumes nothing.
-use Rattle.std.specs.Prelude.{ℕ, List, [], ◌∷◌, map, ◌≡◌, replicate, length}
-use Rattle.numbers.specs.Result.{Result, refused, got}
-use Rattle.flush_write.specs.Writing.{Block, Asked, lists_bad, written_flush}
+use Rattle.std.specs.Prelude.{ℕ, List, [], ◌∷◌, map, ◌≡◌, replicate, length, Ok, Err}
+use Rattle.numbers.specs.Result.{Outcome}
+use Rattle.flush_write.specs.Writing.{Block, Asked, written_flush}
+use Rattle.numbers.specs.declared.refusals.Refusal.TheVariants.{ListsBad}
 
 abbrev block_from : ℕ → ℕ → Block
 block_from s e = record { start = s; end = e }
@@ -17,10 +18,10 @@ asked_cases =
     ∷ asking [] (block_from 10 12 ∷ []) [] (block_from 0x0200_0000_0001 0x0200_0000_0001 ∷ [])
     ∷ []
 
-abbrev pub written_cases : List (Result (List ℕ))
+abbrev pub written_cases : List (Outcome (List ℕ))
 written_cases =
-    got (0x01 ∷ 0x12 ∷ 0x34 ∷ 0x01 ∷ 0x00 ∷ 0x0A ∷ 0x00 ∷ 0x0C ∷ [])
-    ∷ got (0x00 ∷ 0x00 ∷ 0x01 ∷ 0x04 ∷ 0x00 ∷ 0x0A ∷ 0x00 ∷ 0x0C ∷ 0x08 ∷ 0x0C ∷ 0x02 ∷ 0x00 ∷ 0x00 ∷ 0x00 ∷ 0x00 ∷ 0x01 ∷ 0x02 ∷ 0x00 ∷ 0x00 ∷ 0x00 ∷ 0x00 ∷ 0x01 ∷ [])
+    Ok (0x01 ∷ 0x12 ∷ 0x34 ∷ 0x01 ∷ 0x00 ∷ 0x0A ∷ 0x00 ∷ 0x0C ∷ [])
+    ∷ Ok (0x00 ∷ 0x00 ∷ 0x01 ∷ 0x04 ∷ 0x00 ∷ 0x0A ∷ 0x00 ∷ 0x0C ∷ 0x08 ∷ 0x0C ∷ 0x02 ∷ 0x00 ∷ 0x00 ∷ 0x00 ∷ 0x00 ∷ 0x01 ∷ 0x02 ∷ 0x00 ∷ 0x00 ∷ 0x00 ∷ 0x00 ∷ 0x01 ∷ [])
     ∷ []
 
 -- no label; an end below its start; VLAN 0; VLAN FFF; a label over FFFFFF; a MAC over 48 bits; 256 nicknames; 256 blocks
@@ -47,11 +48,11 @@ full_asked =
     ∷ asking [] (block_from 10 12 ∷ []) [] (replicate 22 (block_from 10 12))
     ∷ []
 
-unfoldable pub written_length : Result (List ℕ) → ℕ
-written_length (refused n) = 0
-written_length (got l) = length l
+unfoldable pub written_length : Outcome (List ℕ) → ℕ
+written_length (Err n) = 0
+written_length (Ok l) = length l
 
 pub record WriterCases : Type 0 where
   pub written : map written_flush asked_cases ≡ written_cases
-  pub refusals : map written_flush refused_asked ≡ replicate 8 (refused lists_bad)
+  pub refusals : map written_flush refused_asked ≡ replicate 8 (Err ListsBad)
   pub lengths : map (λ a. written_length (written_flush a)) full_asked ≡ 264 ∷ 270 ∷ 256 ∷ 264 ∷ 262 ∷ 276 ∷ []

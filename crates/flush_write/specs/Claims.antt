@@ -1,8 +1,7 @@
 -- WriterExact (request 2026-03): "Document 01's rules derive from it exactly the three sets asked for."
 -- Assumes nothing.
-use Rattle.std.specs.Prelude.{ℕ, ◌+◌, ◌-◌, ◌*◌, ◌/◌, ◌<◌, ◌≤◌, Bool, true, List, ◌++◌, ◌≡◌, leb, eqb, length, take}
+use Rattle.std.specs.Prelude.{ℕ, ◌+◌, ◌-◌, ◌*◌, ◌/◌, ◌<◌, ◌≤◌, Bool, true, List, ◌++◌, ◌≡◌, leb, eqb, length, take, Ok, Err}
 use Rattle.numbers.specs.Tests.{pick, both, either, any_of, between, all_of}
-use Rattle.numbers.specs.Result.{got}
 use Rattle.numbers.specs.Bytes.{AreBytes}
 use Rattle.numbers.specs.Numberings.{vlans, fines, macs}
 use Rattle.table.specs.Record.{unpacked}
@@ -15,9 +14,10 @@ use Rattle.flush.specs.Payload.{every_type, Payload, payload_of}
 use Rattle.flush.specs.Meaning.{nickname_meant, label_meant, mac_meant}
 use Rattle.flush.specs.Flush.{flushed}
 use Rattle.flush.specs.Padding.{padded}
-use Rattle.flush_write.specs.Writing.{lists_bad, Block, Asked, per_tlv, only_vlans, written_flush}
+use Rattle.flush_write.specs.Writing.{Block, Asked, per_tlv, only_vlans, written_flush}
 use Rattle.flush_write.specs.Areas.{asked_in, flush_written}
-use Rattle.flush_write.specs.declared.WriteAnswer.TheVariants.{Refused, Written}
+use Rattle.numbers.specs.declared.refusals.Refusal.TheVariants.{ListsBad}
+use Rattle.numbers.specs.declared.refusals.Refusal.{Refusal}
 
 -- ---- the sets asked for
 
@@ -51,14 +51,14 @@ NicksFit a = all_of (λ n. leb n 0xFFFF) a.nicks ≡ true
 
 -- accepted by the grammar, and exact
 abbrev pub Means : Asked → List ℕ → Type 0
-Means a l = (p : Payload) × (payload_of every_type l ≡ got p) × SaysAsked a p
+Means a l = (p : Payload) × (payload_of every_type l ≡ Ok p) × SaysAsked a p
 
 pub record WriterExact : Type 0 where
   -- as written, and with zero bytes after it, as a link pads
-  pub written : (a : Asked) (l : List ℕ) → NicksFit a → written_flush a ≡ got l → Means a l
-  pub padded : (a : Asked) (l : List ℕ) (n : ℕ) → NicksFit a → written_flush a ≡ got l → Means a (padded n l)
+  pub written : (a : Asked) (l : List ℕ) → NicksFit a → written_flush a ≡ Ok l → Means a l
+  pub padded : (a : Asked) (l : List ℕ) (n : ℕ) → NicksFit a → written_flush a ≡ Ok l → Means a (padded n l)
   -- the VLAN block form with anything behind
-  pub trailed : (a : Asked) (l r : List ℕ) → NicksFit a → only_vlans a ≡ true → written_flush a ≡ got l → Means a (l ++ r)
+  pub trailed : (a : Asked) (l r : List ℕ) → NicksFit a → only_vlans a ≡ true → written_flush a ≡ Ok l → Means a (l ++ r)
 
 -- ---- WriterClears: "the table after flushing with it, record by record"
 
@@ -71,7 +71,7 @@ pub record SlotAsked (a : Asked) (ingress : ℕ) (t u : List ℕ) (k : ℕ) : Ty
   pub kept : ((e : Entry) → unpacked (slot_at k t) ≡ Learned e → entry_asked a ingress e ≡ true → ⊥) → slot_at k u ≡ slot_at k t
 
 abbrev pub WriterClears : Type 0
-WriterClears = (a : Asked) (l t : List ℕ) (ingress k : ℕ) → NicksFit a → written_flush a ≡ got l → table_good t ≡ true → k < slots_of t
+WriterClears = (a : Asked) (l t : List ℕ) (ingress k : ℕ) → NicksFit a → written_flush a ≡ Ok l → table_good t ≡ true → k < slots_of t
     → SlotAsked a ingress t (flushed ingress l t).table k
 
 -- ---- WriterLength
@@ -91,17 +91,17 @@ abbrev pub longest_flush : ℕ
 longest_flush = 6172
 
 pub record WriterLength : Type 0 where
-  pub length_is : (a : Asked) (l : List ℕ) → written_flush a ≡ got l → length l ≡ flush_length a
-  pub most : (a : Asked) (l : List ℕ) → written_flush a ≡ got l → length l ≤ longest_flush
+  pub length_is : (a : Asked) (l : List ℕ) → written_flush a ≡ Ok l → length l ≡ flush_length a
+  pub most : (a : Asked) (l : List ℕ) → written_flush a ≡ Ok l → length l ≤ longest_flush
   -- "within 255 bytes": every count and length is one byte
-  pub bytes : (a : Asked) (l : List ℕ) → written_flush a ≡ got l → AreBytes l
+  pub bytes : (a : Asked) (l : List ℕ) → written_flush a ≡ Ok l → AreBytes l
 
 -- ---- WriterCalls: the same of the call, whose lists are areas of bytes
 
 pub record WriterCalls : Type 0 where
   -- what it wrote means what the areas ask for: a nickname of two bytes has 16 bits
-  pub exact : (ns vs fs ms out : List ℕ) (n : ℕ) → AreBytes ns → (flush_written ns vs fs ms out).answer ≡ Written n
+  pub exact : (ns vs fs ms out : List ℕ) (n : ℕ) → AreBytes ns → (flush_written ns vs fs ms out).answer ≡ Ok n
       → Means (asked_in ns vs fs ms) (take n (flush_written ns vs fs ms out).area)
   -- a refusal changes nothing, and with room for the longest message it is 23
-  pub refusal : (ns vs fs ms out : List ℕ) (n : ℕ) → (flush_written ns vs fs ms out).answer ≡ Refused n → (flush_written ns vs fs ms out).area ≡ out
-  pub room : (ns vs fs ms out : List ℕ) (n : ℕ) → longest_flush ≤ length out → (flush_written ns vs fs ms out).answer ≡ Refused n → n ≡ lists_bad
+  pub refusal : (ns vs fs ms out : List ℕ) (n : Refusal) → (flush_written ns vs fs ms out).answer ≡ Err n → (flush_written ns vs fs ms out).area ≡ out
+  pub room : (ns vs fs ms out : List ℕ) (n : Refusal) → longest_flush ≤ length out → (flush_written ns vs fs ms out).answer ≡ Err n → n ≡ ListsBad

@@ -1,12 +1,13 @@
 -- An Address Flush written (2026-03): what is asked for, when it is refused, and the bytes.
 -- Assumes nothing.
-use Rattle.std.specs.Prelude.{ℕ, zero, suc, ◌+◌, ◌*◌, ◌/◌, Bool, leb, eqb, length, take, drop}
+use Rattle.std.specs.Prelude.{ℕ, zero, suc, ◌+◌, ◌*◌, ◌/◌, Bool, leb, eqb, length, take, drop, Ok}
 use mathlib.Core.List.{List, [], ◌∷◌, ◌++◌, flat_map}
 use Rattle.numbers.specs.Tests.{pick, both, all_of}
-use Rattle.numbers.specs.Result.{Result, check, got}
+use Rattle.numbers.specs.Result.{Outcome, check}
 use Rattle.numbers.specs.Bytes.{bytes_of}
 use Rattle.numbers.specs.Ranges.{first_vlan, last_vlan, last_fine, last_address}
 use Rattle.numbers.specs.Numberings.{vlans, fines, macs, nicknames}
+use Rattle.numbers.specs.declared.refusals.Refusal.TheVariants.{ListsBad}
 
 -- a block of numbers, both ends included
 pub record Block : Type 0 where
@@ -21,10 +22,6 @@ pub record Asked : Type 0 where
   pub mac_blocks : List Block
 
 -- ---- refusal 23
-
--- the lists cannot be written
-abbrev pub lists_bad : ℕ
-lists_bad = 23
 
 -- "Lists are at most 255 nicknames and 255 blocks of each kind"
 abbrev pub most_listed : ℕ
@@ -96,5 +93,5 @@ tlv_form a = 0 ∷ (tlvs_bytes 1 vlans.size a.vlan_blocks ++ (tlvs_bytes 3 fines
 unfoldable pub flush_bytes : Asked → List ℕ
 flush_bytes a = length a.nicks ∷ (nicks_bytes a.nicks ++ pick (only_vlans a) (block_form a) (tlv_form a))
 
-unfoldable pub written_flush : Asked → Result (List ℕ)
-written_flush a = check (asked_good a) lists_bad (got (flush_bytes a))
+unfoldable pub written_flush : Asked → Outcome (List ℕ)
+written_flush a = check (asked_good a) ListsBad (Ok (flush_bytes a))

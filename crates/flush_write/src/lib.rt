@@ -4,16 +4,6 @@
 ghost use Rattle.flush_write.specs.Cases.{WriterCases};
 ghost use Rattle.flush_write.specs.Claims.{WriterExact, WriterClears, WriterLength, WriterCalls};
 
-// The answer of writing: a refusal number, or how many bytes were written.
-#[derive(Clone, Copy)]
-pub enum WriteAnswer {
-    Refused(u8),
-    Written(u16),
-}
-
-// Refusal 23: the lists cannot be written.
-pub const LISTS_BAD: u8 = 23;
-
 // "at most 255 nicknames and 255 blocks of each kind".
 pub const MOST_LISTED: usize = 255;
 

@@ -11,7 +11,7 @@ use lib.ListN.{length, drop, length-append, length-drop, length-map, take-append
 use lib.Seq.{get_or-drop}
 use borrow.Author.Tests.{le-leb, lt-leb, eqb-true, eqb-false, eq-eqb, ne_eqb}
 use Rattle.numbers.specs.Tests.{pick, both}
-use Rattle.numbers.specs.Result.{Result, check, got, and_then, settled}
+use Rattle.numbers.specs.Result.{Outcome, check, and_then, settled}
 use Rattle.numbers.specs.Ranges.{first_vlan, last_vlan, last_fine, last_address}
 use Rattle.numbers.specs.After.{on_area}
 use Rattle.numbers.specs.Bytes.{AreBytes, num, bytes_of, laid, parts}
@@ -21,15 +21,17 @@ use Rattle.numbers.proofs.Parts.{parts_end, parts_more}
 use Rattle.frame_copy.specs.Areas.{pasted}
 use Rattle.frame_copy.proofs.Copying.{paste_next, paste_after, paste_laid}
 use Rattle.convert.specs.Compaction.{written}
-use Rattle.flush_write.specs.Writing.{lists_bad, labels_named, asked_good, blocks_bytes, nicks_bytes, only_vlans, flush_bytes, written_flush}
+use Rattle.flush_write.specs.Writing.{labels_named, asked_good, blocks_bytes, nicks_bytes, only_vlans, flush_bytes, written_flush}
 use Rattle.flush_write.specs.Areas.{blocks_in, nicks_in, asked_in, items_whole, areas_whole, flush_of, flush_written}
 use Rattle.flush_write.specs.Claims.{tlvs_length}
-use Rattle.flush_write.specs.declared.WriteAnswer.TheVariants.{Refused, Written}
 use Rattle.flush_write.proofs.Bounds.{flush_length_lem, flush_most, short}
 use Rattle.flush_write_lists.specs.Widths.{Item, Filling, list_good}
 use Rattle.flush_write_lists.proofs.Cuts.{parts-count, blocks_count}
 use Rattle.flush_write_lists.proofs.Laws.{length-pasted}
 use Rattle.flush_write_call.specs.Steps.{lists_good, nicks_good, Sized, front_bytes, lists_bytes}
+use Rattle.std.specs.Prelude.{Ok, Err}
+use Rattle.numbers.specs.declared.refusals.Refusal.TheVariants.{AreaShort, ListsBad}
+use Rattle.numbers.specs.declared.refusals.Refusal.{Refusal}
 
 -- ---- the widths
 
@@ -315,26 +317,26 @@ module _ (x y z out : List ℕ) (at : ℕ) (room : at + length (x ++ (y ++ z)) �
 
 -- ---- the ways out of the call
 
-check_both : {A : Type 0} (a b : Bool) (n : ℕ) (r : Result A) → check a n (check b n r) ≡ check (both a b) n r
+check_both : {A : Type 0} (a b : Bool) (n : Refusal) (r : Outcome A) → check a n (check b n r) ≡ check (both a b) n r
 unfolding check both
 check_both true b n r = refl
 check_both false b n r = refl
 
 module _ (ns vs fs ms out : List ℕ) where
-  flush_of_lem : flush_of ns vs fs ms ≡ check (lists_good ns vs fs ms) lists_bad (got (flush_bytes (asked_in ns vs fs ms)))
+  flush_of_lem : flush_of ns vs fs ms ≡ check (lists_good ns vs fs ms) ListsBad (Ok (flush_bytes (asked_in ns vs fs ms)))
   unfolding flush_of written_flush lists_good
-  flush_of_lem = check_both (areas_whole ns vs fs ms) (asked_good (asked_in ns vs fs ms)) lists_bad (got (flush_bytes (asked_in ns vs fs ms)))
+  flush_of_lem = check_both (areas_whole ns vs fs ms) (asked_good (asked_in ns vs fs ms)) ListsBad (Ok (flush_bytes (asked_in ns vs fs ms)))
 
-  call_bad : lists_good ns vs fs ms ≡ false → on_area (Refused 23) out ≡ flush_written ns vs fs ms out
+  call_bad : lists_good ns vs fs ms ≡ false → on_area (Err ListsBad) out ≡ flush_written ns vs fs ms out
   unfolding flush_written check and_then settled
   call_bad e = rw (flush_of_lem, e)
 
   module _ (good : lists_good ns vs fs ms ≡ true) (n : ℕ) (long : n ≡ length (flush_bytes (asked_in ns vs fs ms))) where
-    call_short : length out < n → on_area (Refused 16) out ≡ flush_written ns vs fs ms out
+    call_short : length out < n → on_area (Err AreaShort) out ≡ flush_written ns vs fs ms out
     unfolding flush_written check and_then settled written
     call_short h = rw (flush_of_lem, good, ← long, lt-leb n (length out) h)
 
-    call_written : n ≤ length out → (o : List ℕ) → o ≡ laid (flush_bytes (asked_in ns vs fs ms)) out → on_area (Written n) o ≡ flush_written ns vs fs ms out
+    call_written : n ≤ length out → (o : List ℕ) → o ≡ laid (flush_bytes (asked_in ns vs fs ms)) out → on_area (Ok n) o ≡ flush_written ns vs fs ms out
     unfolding flush_written check and_then settled written
     call_written h o e = rw (flush_of_lem, good, ← long, le-leb n (length out) h, e)
 
@@ -348,7 +350,7 @@ bad_was true b e h = false_true (sym h)
 bad_was false b e h = sym e
 
 module _ (ns vs fs ms : List ℕ) (g : Bool) (is : g ≡ lists_good ns vs fs ms) where
-  pub bad_way : g ≡ false → (out : List ℕ) → on_area (Refused 23) out ≡ flush_written ns vs fs ms out
+  pub bad_way : g ≡ false → (out : List ℕ) → on_area (Err ListsBad) out ≡ flush_written ns vs fs ms out
   bad_way h out = call_bad ns vs fs ms out (bad_was g (lists_good ns vs fs ms) is h)
 
   module _ (left : g ≡ true) where
@@ -361,9 +363,9 @@ module _ (ns vs fs ms : List ℕ) (g : Bool) (is : g ≡ lists_good ns vs fs ms)
     pub small_way : length (flush_bytes (asked_in ns vs fs ms)) ≤ 6172
     small_way = small ns vs fs ms was
 
-    pub short_way : (out : List ℕ) (n : ℕ) → n ≡ length (flush_bytes (asked_in ns vs fs ms)) → length out < n → on_area (Refused 16) out ≡ flush_written ns vs fs ms out
+    pub short_way : (out : List ℕ) (n : ℕ) → n ≡ length (flush_bytes (asked_in ns vs fs ms)) → length out < n → on_area (Err AreaShort) out ≡ flush_written ns vs fs ms out
     short_way out n long h = call_short ns vs fs ms out was n long h
 
     pub written_way : (out : List ℕ) (n : ℕ) → n ≡ length (flush_bytes (asked_in ns vs fs ms)) → n ≤ length out → (o : List ℕ) → o ≡ laid (flush_bytes (asked_in ns vs fs ms)) out
-        → on_area (Written n) o ≡ flush_written ns vs fs ms out
+        → on_area (Ok n) o ≡ flush_written ns vs fs ms out
     written_way out n long h o e = call_written ns vs fs ms out was n long h o e

@@ -10,8 +10,8 @@ ghost use Rattle.flush_write.specs.Areas.{asked_in, flush_written};
 ghost use Rattle.flush_write.specs.Claims.{tlvs_length};
 ghost use Rattle.flush_write_call.specs.Steps.{lists_good, nicks_good, Sized, front_bytes, lists_bytes};
 
-use flush_write::{LISTS_BAD, MOST_LISTED, WriteAnswer};
-use numbers::refusals::AREA_SHORT;
+use flush_write::MOST_LISTED;
+use numbers::refusals::Refusal;
 use numbers::{FIRST_VLAN, LAST_ADDRESS, LAST_FINE, LAST_VLAN};
 
 // The bytes of a number in its list, and in the message.
@@ -160,16 +160,16 @@ pub fn write_flush(
     fines: &[u8],
     macs: &[u8],
     out: &mut [u8],
-) -> WriteAnswer
+) -> Result<u16, Refusal>
     ensures { on_area result out.new ≡ flush_written nicks.now vlans.now fines.now macs.now out.old }
 {
     if !lists_good(nicks, vlans, fines, macs) {
-        return WriteAnswer::Refused(LISTS_BAD);
+        return Err(Refusal::ListsBad);
     }
     let n = flush_length(nicks, vlans, fines, macs);
     if out.len() < n {
-        return WriteAnswer::Refused(AREA_SHORT);
+        return Err(Refusal::AreaShort);
     }
     put_flush(nicks, vlans, fines, macs, out);
-    WriteAnswer::Written(n as u16)
+    Ok(n as u16)
 }

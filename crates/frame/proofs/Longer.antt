@@ -9,7 +9,6 @@ use mathlib.Core.Logic.{⊎_elim}
 use mathlib.Core.List.{List, [], ◌∷◌, ◌++◌, append_assoc}
 use lib.ListN.{length, take, drop, get_or, length-append, length-drop, take-append-drop}
 use lib.Seq.{length-take-le, take-append-le, drop-cons, drop-drop}
-use Rattle.numbers.specs.Result.{got}
 use Rattle.numbers.specs.Bytes.{num}
 use Rattle.numbers.proofs.Truth.{pick_true, between_in, between_is}
 use Rattle.numbers.proofs.Answers.{refused_got, check_got, check_pass, pick_got}
@@ -22,6 +21,7 @@ use Rattle.frame.specs.Fields.{Fields}
 use Rattle.frame.specs.Formats.{general, compact, shortest_frame, longest_frame, frame_length_good, by_front, parsed}
 use Rattle.frame.specs.declared.Settings.{Settings}
 use Rattle.frame.proofs.Parts.{Good, after_outer, compact_parts, OuterIs, untagged, tagged, general_is, compact_is, compact_reads, general_reads, general_reads_tagged}
+use Rattle.std.specs.Prelude.{Ok}
 
 -- the fields with bytes after the content
 abbrev pub longer : Fields → List ℕ → Fields
@@ -53,10 +53,10 @@ module _ (z : List ℕ) where
         (append_assoc m (trill_type ++ after_outer p) z ∙ ap (λ (x : List ℕ). m ++ (trill_type ++ x)) (after_outer_longer p))
 
   module _ (d : Front) (f : List ℕ) (p : Fields) where
-    general_longer : general d f ≡ got p → general d (f ++ z) ≡ got (longer p z)
+    general_longer : general d f ≡ Ok p → general d (f ++ z) ≡ Ok (longer p z)
     general_longer q = let i = general_is d f p q in go i.outer i.fits i.whole i.outer_is (longer_good p i.good) i.agreed
       where
-        go : (o : ℕ) → o ≤ length f → drop o f ≡ after_outer p → OuterIs f o → Good (longer p z) → agrees d (multicast_of p.header) ≡ true → general d (f ++ z) ≡ got (longer p z)
+        go : (o : ℕ) → o ≤ length f → drop o f ≡ after_outer p → OuterIs f o → Good (longer p z) → agrees d (multicast_of p.header) ≡ true → general d (f ++ z) ≡ Ok (longer p z)
         go o fits w (untagged e t k) g m =
             ap (general d) (front_longer d f p o fits w [] t)
             ∙ general_reads d (longer p z) g m (take 12 f) (length-take-le 12 f (omega arith))
@@ -68,12 +68,12 @@ module _ (z : List ℕ) where
             ap (general d) (front_longer d f p o fits w (0x81 ∷ (0x00 ∷ (get_or f 14 0 ∷ (get_or f 15 0 ∷ [])))) whole)
             ∙ general_reads_tagged d (longer p z) g m (take 12 f) (length-take-le 12 f (omega arith)) (get_or f 14 0) (get_or f 15 0)
 
-  compact_longer : (f : List ℕ) (p : Fields) → compact f ≡ got p → compact (f ++ z) ≡ got (longer p z)
+  compact_longer : (f : List ℕ) (p : Fields) → compact f ≡ Ok p → compact (f ++ z) ≡ Ok (longer p z)
   compact_longer f p q =
       let i = compact_is f p q in
       ap compact (ap (λ (x : List ℕ). x ++ z) i.whole ∙ compact_longer_parts p) ∙ compact_reads (longer p z) (longer_good p i.good)
 
-  front_reads : (on : Bool) (d : Front) (f : List ℕ) (p : Fields) → by_front on d f ≡ got p → by_front on d (f ++ z) ≡ got (longer p z)
+  front_reads : (on : Bool) (d : Front) (f : List ℕ) (p : Fields) → by_front on d f ≡ Ok p → by_front on d (f ++ z) ≡ Ok (longer p z)
   unfolding by_front
   front_reads on unicast f p q = general_longer unicast f p q
   front_reads on multicast f p q = general_longer multicast f p q
@@ -85,7 +85,7 @@ module _ (z : List ℕ) where
       (pick_got _ _ _ _ q)
 
   -- the frame with bytes after it, as long as a frame may be
-  pub parsed_longer : (s : Settings) (f : List ℕ) (p : Fields) → length f + length z ≤ longest_frame → parsed s f ≡ got p → parsed s (f ++ z) ≡ got (longer p z)
+  pub parsed_longer : (s : Settings) (f : List ℕ) (p : Fields) → length f + length z ≤ longest_frame → parsed s f ≡ Ok p → parsed s (f ++ z) ≡ Ok (longer p z)
   unfolding parsed frame_length_good
   parsed_longer s f p room q =
       let c = check_got _ _ _ _ q in

@@ -1,10 +1,10 @@
 -- The TRILL header: V 2 bits, R 2, M 1, Op-Length 5, Hop Count 6, egress nickname 16, ingress nickname 16; then options.
 -- Assumes nothing.
-use Rattle.std.specs.Prelude.{ℕ, ◌+◌, ◌*◌, ◌/◌, ◌%◌, ◌^◌, Bool, true, List, leb, eqb, length, take, drop}
-use Rattle.numbers.specs.Result.{Result, check, got}
-use Rattle.numbers.specs.Refusals.{cut_short, version_bad, multicast_disagrees}
+use Rattle.std.specs.Prelude.{ℕ, ◌+◌, ◌*◌, ◌/◌, ◌%◌, ◌^◌, Bool, true, List, leb, eqb, length, take, drop, Ok}
+use Rattle.numbers.specs.Result.{Outcome, check}
 use Rattle.numbers.specs.Bytes.{num}
 use Rattle.frame.specs.Front.{Front, unicast, multicast, refused_front, inner}
+use Rattle.numbers.specs.declared.refusals.Refusal.TheVariants.{CutShort, VersionBad, MulticastDisagrees}
 
 -- the two bytes at k as a number
 abbrev pub word_at : ℕ → List ℕ → ℕ
@@ -50,14 +50,14 @@ agrees refused_front m = true
 agrees inner m = true
 
 -- n bytes are left, else the field is cut
-abbrev pub field : {A : Type 0} → ℕ → List ℕ → Result A → Result A
-field n l next = check (leb n (length l)) cut_short next
+abbrev pub field : {A : Type 0} → ℕ → List ℕ → Outcome A → Outcome A
+field n l next = check (leb n (length l)) CutShort next
 
 -- the bytes that the header takes: "7 before 12, once all six header bytes are there", then the options
-unfoldable pub header_length : Front → List ℕ → Result ℕ
+unfoldable pub header_length : Front → List ℕ → Outcome ℕ
 header_length d l =
     field fixed_bytes l
-    (check (eqb (version_of l) 0) version_bad
-    (check (agrees d (multicast_of l)) multicast_disagrees
+    (check (eqb (version_of l) 0) VersionBad
+    (check (agrees d (multicast_of l)) MulticastDisagrees
     (field (header_bytes l) l
-    (got (header_bytes l)))))
+    (Ok (header_bytes l)))))

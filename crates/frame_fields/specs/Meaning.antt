@@ -2,12 +2,9 @@
 -- Assumes nothing.
 use Rattle.std.specs.Prelude.{ℕ, eqb}
 use Rattle.numbers.specs.Tests.{pick}
-use Rattle.numbers.specs.Result.{Result, refused, got}
 use Rattle.frame.specs.Front as spec
 use Rattle.frame_fields.specs.declared.Front.{Front}
 use Rattle.frame_fields.specs.declared.Front.TheVariants as front
-use Rattle.frame_fields.specs.declared.Length.{Length}
-use Rattle.frame_fields.specs.declared.Length.TheVariants as len
 
 abbrev pub front_as : Front → spec.Front
 front_as front.Unicast = spec.unicast
@@ -21,7 +18,3 @@ front_at port a =
     pick (eqb a port) spec.unicast
     (pick (eqb a spec.all_rbridges) spec.multicast
     (pick (spec.front_refused a) spec.refused_front spec.inner))
-
-abbrev pub length_as : Length → Result ℕ
-length_as (len.Refused n) = refused n
-length_as (len.Bytes n) = got n

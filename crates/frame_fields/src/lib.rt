@@ -8,7 +8,7 @@ ghost use Rattle.numbers.specs.Ranges.{vlan_good};
 ghost use Rattle.frame.specs.Formats.{outer_length};
 ghost use Rattle.frame.specs.Header.{version_of, first_reserved, second_reserved, multicast_of, option_length, hop_count, egress_of, ingress_of, fixed_bytes, header_bytes, agrees, header_length};
 ghost use Rattle.frame.specs.Labels.{tag_bytes, low12, label_length};
-ghost use Rattle.frame_fields.specs.Meaning.{front_as, front_at, length_as};
+ghost use Rattle.frame_fields.specs.Meaning.{front_as, front_at};
 
 use frame::{
     ADDRESSES_BYTES, ALL_RBRIDGES, EGRESS_OFFSET, ETHERTYPE_BYTES, FINE_BYTES, FINE_ETHERTYPE,
@@ -17,7 +17,7 @@ use frame::{
     RESERVED_VALUES, SECOND_RESERVED_BIT, TAG_BYTES, TAG_ETHERTYPE, TAGGED_ADDRESSES_BYTES,
     TAGGED_OUTER_BYTES, TRILL_ETHERTYPE, UNTAGGED_OUTER_BYTES, VERSION_BIT, VERSION_VALUES,
 };
-use numbers::refusals::{CUT_SHORT, LABEL_BAD, MULTICAST_DISAGREES, NOT_TRILL, VERSION_BAD};
+use numbers::refusals::Refusal;
 
 // What the destination in front means: a General frame to this port or to all RBridges, an address that is refused, or the inner
 // destination of a Compact frame.
@@ -29,14 +29,8 @@ pub enum Front {
     Inner,
 }
 
-// How many bytes a part takes, or the refusal number.
-#[derive(Clone, Copy)]
-pub enum Length {
-    Refused(u8),
-    Bytes(usize),
-}
-
 // What the destination in front means for a port.
+#[tactic(auto, using(numbers::proofs::Steps::steps), unfolding(crate::specs::Meaning::front_at, frame::specs::Front::front_refused))]
 pub fn front_of(port: u64, a: u64) -> Front
     ensures { front_as result ≡ front_at port a }
 {
@@ -141,23 +135,24 @@ fn multicast_agrees(d: Front, l: &[u8]) -> bool
 }
 
 // The bytes that a header with its options takes.
-pub fn header_length(d: Front, l: &[u8]) -> Length
-    ensures { length_as result ≡ header_length (front_as d) l.now }
+#[tactic(auto, using(numbers::proofs::Steps::steps), unfolding(frame::specs::Header::header_length))]
+pub fn header_length(d: Front, l: &[u8]) -> Result<usize, Refusal>
+    ensures { result ≡ header_length (front_as d) l.now }
 {
     if l.len() < FIXED_HEADER_BYTES {
-        return Length::Refused(CUT_SHORT);
+        return Err(Refusal::CutShort);
     }
     if version(l, 0) != 0 {
-        return Length::Refused(VERSION_BAD);
+        return Err(Refusal::VersionBad);
     }
     if !multicast_agrees(d, l) {
-        return Length::Refused(MULTICAST_DISAGREES);
+        return Err(Refusal::MulticastDisagrees);
     }
     let n = header_bytes(l);
     if l.len() < n {
-        return Length::Refused(CUT_SHORT);
+        return Err(Refusal::CutShort);
     }
-    Length::Bytes(n)
+    Ok(n)
 }
 
 // The 12 bits of a label in the two bytes at k.
@@ -180,62 +175,64 @@ fn tag_good(l: &[u8]) -> bool
 const SECOND_ETHERTYPE_END: usize = TAG_BYTES + ETHERTYPE_BYTES;
 
 // The bytes that a label takes.
-pub fn label_length(l: &[u8]) -> Length
-    ensures { length_as result ≡ label_length l.now }
+#[tactic(auto, using(numbers::proofs::Steps::steps), unfolding(frame::specs::Labels::label_length))]
+pub fn label_length(l: &[u8]) -> Result<usize, Refusal>
+    ensures { result ≡ label_length l.now }
 {
     if l.len() < ETHERTYPE_BYTES {
-        return Length::Refused(CUT_SHORT);
+        return Err(Refusal::CutShort);
     }
     if has_ethertype(l, 0, TAG_ETHERTYPE) {
         if l.len() < TAG_BYTES {
-            return Length::Refused(CUT_SHORT);
+            return Err(Refusal::CutShort);
         }
         if !tag_good(l) {
-            return Length::Refused(LABEL_BAD);
+            return Err(Refusal::LabelBad);
         }
-        return Length::Bytes(TAG_BYTES);
+        return Ok(TAG_BYTES);
     }
     if !has_ethertype(l, 0, FINE_ETHERTYPE) {
-        return Length::Refused(LABEL_BAD);
+        return Err(Refusal::LabelBad);
     }
     if l.len() < TAG_BYTES {
-        return Length::Refused(CUT_SHORT);
+        return Err(Refusal::CutShort);
     }
     if l.len() < SECOND_ETHERTYPE_END {
-        return Length::Refused(CUT_SHORT);
+        return Err(Refusal::CutShort);
     }
     if !has_ethertype(l, TAG_BYTES, FINE_ETHERTYPE) {
-        return Length::Refused(LABEL_BAD);
+        return Err(Refusal::LabelBad);
     }
     if l.len() < FINE_BYTES {
-        return Length::Refused(CUT_SHORT);
+        return Err(Refusal::CutShort);
     }
-    Length::Bytes(FINE_BYTES)
+    Ok(FINE_BYTES)
 }
 
 // The bytes that the outer addresses, the optional tag and 22F3 take.
-pub fn outer_length(l: &[u8]) -> Length
-    ensures { length_as result ≡ outer_length l.now }
+#[tactic(auto, using(numbers::proofs::Steps::steps), unfolding(frame::specs::Formats::outer_length))]
+pub fn outer_length(l: &[u8]) -> Result<usize, Refusal>
+    ensures { result ≡ outer_length l.now }
 {
     if l.len() < UNTAGGED_OUTER_BYTES {
-        return Length::Refused(CUT_SHORT);
+        return Err(Refusal::CutShort);
     }
     if has_ethertype(l, ADDRESSES_BYTES, TAG_ETHERTYPE) {
         if l.len() < TAGGED_ADDRESSES_BYTES {
-            return Length::Refused(CUT_SHORT);
+            return Err(Refusal::CutShort);
         }
         if l.len() < TAGGED_OUTER_BYTES {
-            return Length::Refused(CUT_SHORT);
+            return Err(Refusal::CutShort);
         }
         if !has_ethertype(l, TAGGED_ADDRESSES_BYTES, TRILL_ETHERTYPE) {
-            return Length::Refused(NOT_TRILL);
+            return Err(Refusal::NotTrill);
         }
-        return Length::Bytes(TAGGED_OUTER_BYTES);
+        return Ok(TAGGED_OUTER_BYTES);
     }
     if !has_ethertype(l, ADDRESSES_BYTES, TRILL_ETHERTYPE) {
-        return Length::Refused(NOT_TRILL);
+        return Err(Refusal::NotTrill);
     }
-    Length::Bytes(UNTAGGED_OUTER_BYTES)
+    Ok(UNTAGGED_OUTER_BYTES)
 }
 
 // The part of a frame from an offset to its end.

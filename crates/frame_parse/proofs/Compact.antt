@@ -2,23 +2,22 @@
 -- Assumes nothing.
 use Prim.Native.Nat.{ℕ, ◌+◌, ◌≤◌, ◌<◌}
 use mathlib.Core.Bool.{Bool, true, false}
-use mathlib.Core.Path.{◌≡◌}
+use mathlib.Core.Path.{◌≡◌, sym}
 use mathlib.Core.List.{List}
 use native.Mathlib.Omega.{arith}
 use lib.ListN.{length, take, drop, length-drop}
 use lib.Seq.{drop-drop}
 use borrow.Author.Tests.{le-leb, lt-leb}
-use Rattle.numbers.specs.Result.{refused, got, check, and_then}
+use Rattle.numbers.specs.Result.{check, and_then}
 use Rattle.frame.specs.Front.{inner}
 use Rattle.frame.specs.Header.{header_length}
 use Rattle.frame.specs.Labels.{is_trill, label_length}
 use Rattle.frame.specs.Formats.{compact_after, compact}
 use Rattle.frame.proofs.Local.{label_is, label_fits}
-use Rattle.frame_fields.specs.Meaning.{length_as}
-use Rattle.frame_fields.specs.declared.Length.{Length}
-use Rattle.frame_fields.specs.declared.Length.TheVariants.{Refused, Bytes}
 use Rattle.frame_parse.specs.Meaning.{fields_in}
-use Rattle.frame_parse.proofs.General.{length_refused, length_bytes}
+use Rattle.std.specs.Prelude.{Ok, Err}
+use Rattle.numbers.specs.declared.refusals.Refusal.TheVariants.{NotTrill, CutShort}
+use Rattle.numbers.specs.declared.refusals.Refusal.{Refusal}
 
 -- ---- up to the label
 
@@ -29,15 +28,15 @@ module _ (f : List ℕ) (long : 12 ≤ length f) where
       let six : 6 ≤ length (drop 6 f) = simp length-drop (omega arith) in
       rw (le-leb 6 (length f) (omega arith), le-leb 6 (length (drop 6 f)) six, drop-drop 6 6 f)
 
-  module _ (t : List ℕ) (et : t ≡ drop 12 f) (rn : Length) (en : length_as rn ≡ label_length t) where
-    pub label_refused : (e : ℕ) → rn ≡ Refused e → refused e ≡ compact f
+  module _ (t : List ℕ) (et : t ≡ drop 12 f) where
+    pub label_refused : (e : Refusal) → Err e ≡ label_length t → Err e ≡ compact f
     unfolding and_then
-    label_refused e p = rw (addresses_in, ← et, length_refused rn _ e p en)
+    label_refused e p = rw (addresses_in, ← et, ← p)
 
-    pub label_got : (n : ℕ) → rn ≡ Bytes n → label_length (drop 12 f) ≡ got n
-    label_got n p = rw (← et) (length_bytes rn _ n p en)
+    pub label_got : (n : ℕ) → Ok n ≡ label_length t → label_length (drop 12 f) ≡ Ok n
+    label_got n p = rw (← et) (sym p)
 
-  module _ (n : ℕ) (label : label_length (drop 12 f) ≡ got n) where
+  module _ (n : ℕ) (label : label_length (drop 12 f) ≡ Ok n) where
     pub after_room : 12 + n ≤ length f
     after_room =
         let d = length-drop 12 f in
@@ -51,26 +50,26 @@ module _ (f : List ℕ) (long : 12 ≤ length f) where
       unfolding and_then
       after_label = rw (addresses_in, label, drop-drop n 12 f, el)
 
-      pub type_cut : length l < 2 → refused 6 ≡ compact f
+      pub type_cut : length l < 2 → Err CutShort ≡ compact f
       unfolding compact_after check
       type_cut p = rw (after_label, lt-leb 2 (length l) p)
 
       module _ (two : 2 ≤ length l) (x : Bool) (ex : x ≡ is_trill l) where
-        pub type_bad : x ≡ false → refused 4 ≡ compact f
+        pub type_bad : x ≡ false → Err NotTrill ≡ compact f
         unfolding compact_after check
         type_bad p = rw (after_label, le-leb 2 (length l) two, ← ex, p)
 
-        module _ (ty : x ≡ true) (g : List ℕ) (eg : g ≡ drop 2 l) (rh : Length) (eh : length_as rh ≡ header_length inner g) where
-          pub header_refused : (e : ℕ) → rh ≡ Refused e → refused e ≡ compact f
+        module _ (ty : x ≡ true) (g : List ℕ) (eg : g ≡ drop 2 l) where
+          pub header_refused : (e : Refusal) → Err e ≡ header_length inner g → Err e ≡ compact f
           unfolding compact_after check and_then
-          header_refused e p = rw (after_label, le-leb 2 (length l) two, ← ex, ty, ← eg, length_refused rh _ e p eh)
+          header_refused e p = rw (after_label, le-leb 2 (length l) two, ← ex, ty, ← eg, ← p)
 
-          module _ (h : ℕ) (q : List ℕ) (ih : rh ≡ Bytes h) (eq : q ≡ drop h g) where
-            pub content_cut : length q < 2 → refused 6 ≡ compact f
+          module _ (h : ℕ) (q : List ℕ) (eh : Ok h ≡ header_length inner g) (eq : q ≡ drop h g) where
+            pub content_cut : length q < 2 → Err CutShort ≡ compact f
             unfolding compact_after check and_then
-            content_cut p = rw (after_label, le-leb 2 (length l) two, ← ex, ty, ← eg, length_bytes rh _ h ih eh, ← eq, lt-leb 2 (length q) p)
+            content_cut p = rw (after_label, le-leb 2 (length l) two, ← ex, ty, ← eg, ← eh, ← eq, lt-leb 2 (length q) p)
 
-            pub compact_whole : 2 ≤ length q → got (fields_in f (record { dst_offset = 0; label_length = n; header_offset = 12 + n + 2; header_length = h; content_offset = 12 + n + 2 + h })) ≡ compact f
+            pub compact_whole : 2 ≤ length q → Ok (fields_in f (record { dst_offset = 0; label_length = n; header_offset = 12 + n + 2; header_length = h; content_offset = 12 + n + 2 + h })) ≡ compact f
             unfolding compact_after check and_then
             compact_whole p =
-                rw (after_label, le-leb 2 (length l) two, ← ex, ty, ← eg, length_bytes rh _ h ih eh, ← eq, le-leb 2 (length q) p, eq, eg, el, drop-drop 2 (12 + n) f, drop-drop h (12 + n + 2) f)
+                rw (after_label, le-leb 2 (length l) two, ← ex, ty, ← eg, ← eh, ← eq, le-leb 2 (length q) p, eq, eg, el, drop-drop 2 (12 + n) f, drop-drop h (12 + n + 2) f)

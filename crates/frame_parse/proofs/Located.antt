@@ -7,7 +7,6 @@ use mathlib.Core.Path.{◌≡◌, refl, sym, ap, ◌∙◌}
 use native.Mathlib.Omega.{arith}
 use lib.ListN.{length, take, drop, length-drop, take-append-drop}
 use lib.Seq.{take-add, drop-drop, length-take-le}
-use Rattle.numbers.specs.Result.{got}
 use Rattle.numbers.specs.Bytes.{num}
 use Rattle.numbers.proofs.Lists.{part_prefix}
 use Rattle.frame.specs.Front.{Front, inner}
@@ -18,17 +17,14 @@ use Rattle.frame.proofs.Local.{header_is, LabelIs, vlan, fine, label_is, label_k
 use Rattle.frame.proofs.Parts.{Good, general_is, compact_is}
 use Rattle.frame_parse.specs.Meaning.{fields_in, PartsOf, parsed_parts, Reads}
 use Rattle.frame_parse.specs.declared.Parts.{Parts}
-use Rattle.frame_parse.specs.declared.Parsed.{Parsed}
-use Rattle.frame_parse.specs.declared.Parsed.TheVariants as parsed
+use Rattle.std.specs.Prelude.{Ok}
+use Rattle.numbers.specs.Result.{Outcome}
 
 -- ---- the promise
 
 -- what was read has parts
-pub parts_of : (f : List ℕ) (x : Parsed) (p : Parts) → parsed_parts f x → x ≡ parsed.Fields p → PartsOf f p
+pub parts_of : (f : List ℕ) (x : Outcome Parts) (p : Parts) → parsed_parts f x → x ≡ Ok p → PartsOf f p
 parts_of f x p w e = rw e at w
-
-pub dst_room : (f : List ℕ) (x : Parsed) (p : Parts) → parsed_parts f x → x ≡ parsed.Fields p → p.dst_offset + 6 ≤ length f
-dst_room f x p w e = let a = (parts_of f x p w e).label-in in omega arith
 
 label_least : (l : List ℕ) (n : ℕ) → LabelIs l n → tag_bytes ≤ n
 label_least l n (vlan e a b h) = omega arith
@@ -41,7 +37,7 @@ module _ (f : List ℕ) (p : Parts) where
         let l : List ℕ = drop (p.dst_offset + 12) f in
         let dl : length l ≡ length f - (p.dst_offset + 12) = length-drop (p.dst_offset + 12) f in
         let nl : length (take p.label_length l) ≡ p.label_length = length-take-le p.label_length l (omega arith) in
-        let label : label_length l ≡ got p.label_length = rw (take-append-drop p.label_length l, nl) at (g.label (drop p.label_length l)) in
+        let label : label_length l ≡ Ok p.label_length = rw (take-append-drop p.label_length l, nl) at (g.label (drop p.label_length l)) in
         let is = label_is l p.label_length label in
         let h : List ℕ = (fields_in f p).header in
         let dh = length-drop p.header_offset f in
@@ -59,10 +55,10 @@ module _ (f : List ℕ) (p : Parts) where
           label_kind = label_kind l p.label_length is;
         }
 
-    pub general_reads : (d : Front) → got (fields_in f p) ≡ general d f → Reads f (general d f) (parsed.Fields p)
+    pub general_reads : (d : Front) → Ok (fields_in f p) ≡ general d f → Reads f (general d f) (Ok p)
     general_reads d q = record { fields = q; parts = good_parts (general_is d f (fields_in f p) (sym q)).good }
 
-    pub compact_reads : got (fields_in f p) ≡ compact f → Reads f (compact f) (parsed.Fields p)
+    pub compact_reads : Ok (fields_in f p) ≡ compact f → Reads f (compact f) (Ok p)
     compact_reads q = record { fields = q; parts = good_parts (compact_is f (fields_in f p) (sym q)).good }
 
   -- ---- one after the other

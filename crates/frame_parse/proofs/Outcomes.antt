@@ -7,7 +7,7 @@ use mathlib.Core.List.{List}
 use lib.ListN.{length, take}
 use borrow.Author.Tests.{eq-eqb, ne_eqb}
 use Rattle.numbers.specs.Tests.{pick}
-use Rattle.numbers.specs.Result.{Result, refused, check}
+use Rattle.numbers.specs.Result.{Outcome, check}
 use Rattle.numbers.specs.Bytes.{num}
 use Rattle.numbers.proofs.Truth.{between_in, between_below, between_above}
 use Rattle.frame.specs.Fields.{Fields}
@@ -18,15 +18,17 @@ use Rattle.frame_fields.specs.Meaning.{front_as, front_at}
 use Rattle.frame_fields.specs.declared.Front.{Front}
 use Rattle.frame_fields.specs.declared.Front.TheVariants as front
 use Rattle.frame_parse.specs.Meaning.{Reads}
-use Rattle.frame_parse.specs.declared.Parsed.{Parsed}
-use Rattle.frame_parse.specs.declared.Parsed.TheVariants as parse
+use Rattle.std.specs.Prelude.{Err}
+use Rattle.numbers.specs.declared.refusals.Refusal.TheVariants.{FrameLengthBad, NotForPort}
+use Rattle.numbers.specs.declared.refusals.Refusal.{Refusal}
+use Rattle.frame_parse.specs.declared.Parts.{Parts}
 
 -- a refusal has no parts
-pub reads_refused : (f : List ℕ) (x : Result Fields) (n : ℕ) → refused n ≡ x → Reads f x (parse.Refused n)
+pub reads_refused : (f : List ℕ) (x : Outcome Fields) (n : Refusal) → Err n ≡ x → Reads f x (Err n)
 reads_refused f x n e = record { fields = e; parts = tt }
 
 -- what is read is read under each name of it
-pub reads_as : (f : List ℕ) (x y : Result Fields) (r : Parsed) → x ≡ y → Reads f x r → Reads f y r
+pub reads_as : (f : List ℕ) (x y : Outcome Fields) (r : Outcome Parts) → x ≡ y → Reads f x r → Reads f y r
 reads_as f x y r e w = record { fields = w.fields ∙ e; parts = w.parts }
 
 pub front_at_lem : (s : Settings) (a : ℕ) → front_at s.port a ≡ front_of s a
@@ -38,21 +40,21 @@ unfolding frame_length_good
 frame_length_in n lo hi = between_in shortest_frame longest_frame n lo hi
 
 module _ (s : Settings) (f : List ℕ) where
-  pub too_short : length f < shortest_frame → refused 3 ≡ parsed s f
+  pub too_short : length f < shortest_frame → Err FrameLengthBad ≡ parsed s f
   unfolding parsed frame_length_good check
   too_short p = rw (between_below shortest_frame longest_frame (length f) p)
 
   module _ (lo : shortest_frame ≤ length f) where
-    pub too_long : longest_frame < length f → refused 3 ≡ parsed s f
+    pub too_long : longest_frame < length f → Err FrameLengthBad ≡ parsed s f
     unfolding parsed frame_length_good check
     too_long p = rw (between_above shortest_frame longest_frame (length f) p)
 
     module _ (hi : length f ≤ longest_frame) (a : ℕ) (ea : a ≡ num (take 6 f)) (r : Front) (er : front_as r ≡ front_at s.port a) where
-      pub not_here : r ≡ front.Refused → refused 5 ≡ parsed s f
+      pub not_here : r ≡ front.Refused → Err NotForPort ≡ parsed s f
       unfolding parsed check by_front
       not_here p = rw (frame_length_in (length f) lo hi, ← ea, ← front_at_lem s a, ← er, p)
 
-      pub compact_off : r ≡ front.Inner → (s.compact ≡ 1 → ⊥) → refused 5 ≡ parsed s f
+      pub compact_off : r ≡ front.Inner → (s.compact ≡ 1 → ⊥) → Err NotForPort ≡ parsed s f
       unfolding parsed check by_front pick
       compact_off p q = rw (frame_length_in (length f) lo hi, ← ea, ← front_at_lem s a, ← er, p, ne_eqb s.compact 1 q)
 

@@ -1,16 +1,14 @@
 -- What reading a frame gives, in the terms of frame/specs, and what holds of the parts that it gives.
 -- Assumes nothing.
-use Rattle.std.specs.Prelude.{ℕ, ◌+◌, ◌≤◌, List, ◌≡◌, length, take, drop}
+use Rattle.std.specs.Prelude.{ℕ, ◌+◌, ◌≤◌, List, ◌≡◌, length, take, drop, Ok, Err}
 use Rattle.numbers.specs.Tests.{pick}
-use Rattle.numbers.specs.Result.{Result, refused, got}
+use Rattle.numbers.specs.Result.{Outcome}
 use Rattle.frame.specs.Front.{address_bytes, addresses_bytes}
 use Rattle.frame.specs.Header.{fixed_bytes}
 use Rattle.frame.specs.Labels.{tag_bytes, fine_bytes, is_tag}
 use Rattle.frame.specs.Fields.{Fields, least_content}
 use Rattle.frame.specs.Formats.{longest_frame}
 use Rattle.frame_parse.specs.declared.Parts.{Parts}
-use Rattle.frame_parse.specs.declared.Parsed.{Parsed}
-use Rattle.frame_parse.specs.declared.Parsed.TheVariants as parsed
 
 -- the fields of a frame at the offsets of its parts
 abbrev pub fields_in : List ℕ → Parts → Fields
@@ -34,15 +32,15 @@ pub record PartsOf (f : List ℕ) (p : Parts) : Type 0 where
   pub label : tag_bytes ≤ p.label_length
   pub label_kind : p.label_length ≡ pick (is_tag (drop (p.dst_offset + addresses_bytes) f)) tag_bytes fine_bytes
 
-abbrev pub parsed_as : List ℕ → Parsed → Result Fields
-parsed_as f (parsed.Refused n) = refused n
-parsed_as f (parsed.Fields p) = got (fields_in f p)
+abbrev pub parsed_as : List ℕ → Outcome Parts → Outcome Fields
+parsed_as f (Err n) = Err n
+parsed_as f (Ok p) = Ok (fields_in f p)
 
-abbrev pub parsed_parts : List ℕ → Parsed → Type 0
-parsed_parts f (parsed.Refused n) = Unit {0}
-parsed_parts f (parsed.Fields p) = PartsOf f p
+abbrev pub parsed_parts : List ℕ → Outcome Parts → Type 0
+parsed_parts f (Err n) = Unit {0}
+parsed_parts f (Ok p) = PartsOf f p
 
 -- r is what is read of the frame f: the fields x or their refusal, and what holds of its parts
-pub record Reads (f : List ℕ) (x : Result Fields) (r : Parsed) : Type 0 where
+pub record Reads (f : List ℕ) (x : Outcome Fields) (r : Outcome Parts) : Type 0 where
   pub fields : parsed_as f r ≡ x
   pub parts : parsed_parts f r

@@ -10,8 +10,7 @@ use lib.ListN.{length, drop, get_or, length-append, length-drop, length-map}
 use borrow.Author.Tests.{leb-true, leb-false, lt-ltb, ltb-true}
 use Rattle.numbers.specs.Tests.{pick, all_of}
 use Rattle.numbers.specs.Bytes.{AreBytes, laid}
-use Rattle.numbers.specs.Result.{Result, refused, got, check, and_then, settled}
-use Rattle.numbers.specs.Refusals.{area_short}
+use Rattle.numbers.specs.Result.{Outcome, check, and_then, settled}
 use Rattle.numbers.specs.After.{OnArea, on_area}
 use Rattle.numbers.proofs.Truth.{both_true, both_pass}
 use Rattle.numbers.proofs.Answers.{got_got, then_got}
@@ -24,14 +23,15 @@ use Rattle.hello.specs.Writing.{within, parameters_good, nickname_good, nickname
 use Rattle.hello.specs.Area.{counted, alone, parameters_numbers, nickname_numbers, trees_numbers, smart_mac_numbers, numbers_of, area_of, contents_in}
 use Rattle.convert.specs.Compaction.{written}
 use Rattle.hello.specs.Calls.{area_read, area_written, answered, read_call, write_call, CallsUndo, HelloRefusal}
-use Rattle.hello.specs.declared.HelloAnswer.{HelloAnswer}
-use Rattle.hello.specs.declared.HelloAnswer.TheVariants.{Refused, Written}
 use Rattle.hello.specs.Form.{PlainForm}
 use Rattle.hello.proofs.Lists.{Each, each_append}
 use Rattle.hello.proofs.Bounds.{items_good, gathered_good, read_is, read_is_writable}
 use Rattle.hello.proofs.RoundTrip.{written_hello_reads}
 use Rattle.hello.proofs.Saying.{read_hello_writes}
 use Rattle.hello.proofs.Areas.{area_is}
+use Rattle.std.specs.Prelude.{Ok, Err}
+use Rattle.numbers.specs.declared.refusals.Refusal.TheVariants.{AreaShort}
+use Rattle.numbers.specs.declared.refusals.Refusal.{Refusal}
 
 -- ---- fewer pieces than bytes
 
@@ -257,7 +257,7 @@ small_within [] p = refl
 small_within (n ∷ ns) p = both_pass (within 8 n) (all_of (within 8) ns) (lt-ltb n (256 ^ 8) p.0) (small_within ns p.1)
 
 -- the area of what was read is taken back
-area-taken : (l : List ℕ) (c : Contents) → AreBytes l → length l < 2 ^ 64 → hello_read l ≡ got c → contents_in (area_of c) ≡ got c
+area-taken : (l : List ℕ) (c : Contents) → AreBytes l → length l < 2 ^ 64 → hello_read l ≡ Ok c → contents_in (area_of c) ≡ Ok c
 area-taken l c b short e =
     let r = read_is l c e in
     let few = items_few l in
@@ -268,31 +268,31 @@ area-taken l c b short e =
 -- ---- the calls
 
 -- what is made of a value
-then_pass : {A B : Type 0} (x : Result A) (k : A → Result B) (a : A) → x ≡ got a → and_then x k ≡ k a
+then_pass : {A B : Type 0} (x : Outcome A) (k : A → Outcome B) (a : A) → x ≡ Ok a → and_then x k ≡ k a
 unfolding and_then
 then_pass x k a e = rw e
 
-written_reads : (a l : List ℕ) → AreBytes a → area_written a ≡ got l → area_read l ≡ got a
+written_reads : (a l : List ℕ) → AreBytes a → area_written a ≡ Ok l → area_read l ≡ Ok a
 unfolding area_written area_read
 written_reads a l b e =
     let p = then_got (contents_in a) hello_written l e in
-    then_pass (hello_read l) _ p.0 (written_hello_reads p.0 l p.2) ∙ ap got (area_is.bytes_only a p.0 b p.1)
+    then_pass (hello_read l) _ p.0 (written_hello_reads p.0 l p.2) ∙ ap Ok (area_is.bytes_only a p.0 b p.1)
 
-area_writes : (l a w : List ℕ) (c : Contents) → AreBytes l → length l < 2 ^ 64 → hello_read l ≡ got c → area_of c ≡ a → hello_written c ≡ got w → area_written a ≡ got w
+area_writes : (l a w : List ℕ) (c : Contents) → AreBytes l → length l < 2 ^ 64 → hello_read l ≡ Ok c → area_of c ≡ a → hello_written c ≡ Ok w → area_written a ≡ Ok w
 unfolding area_written
 area_writes l a w c b short e f g =
     then_pass (contents_in a) hello_written c (ap contents_in (sym f) ∙ area-taken l c b short e) ∙ g
 
-read_writes : (l a : List ℕ) → AreBytes l → length l < 2 ^ 64 → PlainForm l → area_read l ≡ got a → area_written a ≡ got l
+read_writes : (l a : List ℕ) → AreBytes l → length l < 2 ^ 64 → PlainForm l → area_read l ≡ Ok a → area_written a ≡ Ok l
 unfolding area_read
 read_writes l a b short form e =
-    let p = then_got (hello_read l) (λ c. got (area_of c)) a e in
+    let p = then_got (hello_read l) (λ c. Ok (area_of c)) a e in
     area_writes l a l p.0 b short p.1 (got_got (area_of p.0) a p.2) (read_hello_writes l p.0 b p.1 form)
 
-read_writable : (l a : List ℕ) → AreBytes l → length l < 2 ^ 64 → area_read l ≡ got a → (w : List ℕ) × (area_written a ≡ got w)
+read_writable : (l a : List ℕ) → AreBytes l → length l < 2 ^ 64 → area_read l ≡ Ok a → (w : List ℕ) × (area_written a ≡ Ok w)
 unfolding area_read
 read_writable l a b short e =
-    let p = then_got (hello_read l) (λ c. got (area_of c)) a e in
+    let p = then_got (hello_read l) (λ c. Ok (area_of c)) a e in
     let w = read_is_writable l p.0 b p.1 in
     (w.0, area_writes l a w.0 p.0 b short p.1 (got_got (area_of p.0) a p.2) w.1)
 
@@ -301,21 +301,21 @@ calls_undo = record { written_reads = written_reads; read_writes = read_writes; 
 
 -- ---- a refusal
 
-refused_written : {C : Type 0} (m n : ℕ) → ◌≡◌ {A = HelloAnswer} (Refused m) (Written n) → C
+refused_written : {C : Type 0} (m : Refusal) (n : ℕ) → ◌≡◌ {A = (Outcome ℕ)} (Err m) (Ok n) → C
 refused_written m n p = let z : ◌≡◌ {A = ℕ} 0 1 = cc in absurd (omega arith)
 
-abbrev put_if : Bool → List ℕ → List ℕ → OnArea HelloAnswer
-put_if c b out = settled (λ n. on_area (Refused n) out) (check c area_short (got (on_area (Written (length b)) (laid b out))))
+abbrev put_if : Bool → List ℕ → List ℕ → OnArea (Outcome ℕ)
+put_if c b out = settled (λ n. on_area (Err n) out) (check c AreaShort (Ok (on_area (Ok (length b)) (laid b out))))
 
-fits_refused : (c : Bool) (b out : List ℕ) (n : ℕ) → (put_if c b out).answer ≡ Refused n → (put_if c b out).area ≡ out
+fits_refused : (c : Bool) (b out : List ℕ) (n : Refusal) → (put_if c b out).answer ≡ Err n → (put_if c b out).area ≡ out
 unfolding settled check
 fits_refused true b out n e = refused_written n (length b) (sym e)
 fits_refused false b out n e = refl
 
-answered_refused : (r : Result (List ℕ)) (out : List ℕ) (n : ℕ) → (answered r out).answer ≡ Refused n → (answered r out).area ≡ out
+answered_refused : (r : Outcome (List ℕ)) (out : List ℕ) (n : Refusal) → (answered r out).answer ≡ Err n → (answered r out).area ≡ out
 unfolding answered settled and_then written
-answered_refused (refused m) out n e = refl
-answered_refused (got b) out n e = fits_refused (leb (length b) (length out)) b out n e
+answered_refused (Err m) out n e = refl
+answered_refused (Ok b) out n e = fits_refused (leb (length b) (length out)) b out n e
 
 pub hello_refusal : HelloRefusal
 unfolding read_call write_call

@@ -1,18 +1,13 @@
 -- Reading a Smart-Hello: what each piece says, refusals 25 and 26, contents.
 -- Assumes nothing.
-use Rattle.std.specs.Prelude.{ℕ, ◌-◌, ◌/◌, ◌%◌, ◌^◌, Bool, true, false, not, leb, eqb, length, take, drop}
+use Rattle.std.specs.Prelude.{ℕ, ◌-◌, ◌/◌, ◌%◌, ◌^◌, Bool, true, false, not, leb, eqb, length, take, drop, Ok, Err}
 use mathlib.Core.List.{List, [], ◌∷◌, map, flat_map}
 use Rattle.numbers.specs.Tests.{pick, both, any_of}
 use Rattle.numbers.specs.Bytes.{num, parts}
-use Rattle.numbers.specs.Result.{Result, check, got}
+use Rattle.numbers.specs.Result.{Outcome, check, finished}
 use Rattle.hello.specs.Pieces.{capability, geninfo, parameters_type, smart_mac_type, nickname_type, trees_type, Piece, sub, skipped, broken, pieces}
 use Rattle.hello.specs.Contents.{Parameters, Nickname, Trees, SmartMac, Contents, Item, parameters, nicknames, trees, smart_mac, ignored, malformed}
-
-abbrev pub hello_malformed : ℕ
-hello_malformed = 25
-
-abbrev pub parameters_missing : ℕ
-parameters_missing = 26
+use Rattle.numbers.specs.declared.refusals.Refusal.TheVariants.{HelloMalformed, ParametersMissing}
 
 -- ---- one piece
 
@@ -95,15 +90,20 @@ abbrev pub gathered : List Item → Contents
 gathered is = record { parameters = flat_map parameters_in is; nicknames = flat_map nicknames_in is; trees = flat_map trees_in is; macs = flat_map macs_in is }
 
 -- 25 "Smart-Parameters twice"; "then 26 parameters missing"
-unfoldable pub single : {A : Type 0} → List Parameters → Result A → Result A
-single ps next = check (leb (length ps) 1) hello_malformed (check (leb 1 (length ps)) parameters_missing next)
+unfoldable pub single : {A : Type 0} → List Parameters → Outcome A → Outcome A
+single ps next = check (leb (length ps) 1) HelloMalformed (check (leb 1 (length ps)) ParametersMissing next)
 
-unfoldable pub understood : List Item → Result Contents
-understood is = check (not (any_of is_malformed is)) hello_malformed (single (gathered is).parameters (got (gathered is)))
+unfoldable pub understood : List Item → Outcome Contents
+understood is = check (not (any_of is_malformed is)) HelloMalformed (single (gathered is).parameters (Ok (gathered is)))
 
 -- what the pieces of a payload say
 abbrev pub items : List ℕ → List Item
 items l = map says (pieces l)
 
-unfoldable pub hello_read : List ℕ → Result Contents
+unfoldable pub hello_read : List ℕ → Outcome Contents
 hello_read l = understood (items l)
+
+-- what a call is refused with, whatever its value
+abbrev pub refusal_of : {A : Type 0} → Outcome A → Outcome (Unit {0})
+refusal_of (Err r) = Err r
+refusal_of (Ok a) = finished

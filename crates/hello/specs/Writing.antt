@@ -1,14 +1,15 @@
 -- Writing a Smart-Hello: which contents can be written, each sub-TLV's bytes, and how they are put into TLVs.
 -- Assumes nothing.
-use Rattle.std.specs.Prelude.{ℕ, ◌+◌, ◌*◌, ◌^◌, Bool, leb, ltb, eqb, length}
+use Rattle.std.specs.Prelude.{ℕ, ◌+◌, ◌*◌, ◌^◌, Bool, leb, ltb, eqb, length, Ok}
 use mathlib.Core.List.{List, [], ◌∷◌, ◌++◌, map, flat_map}
 use Rattle.numbers.specs.Tests.{pick, both, all_of}
 use Rattle.numbers.specs.Bytes.{bytes_of}
-use Rattle.numbers.specs.Result.{Result, check, got}
+use Rattle.numbers.specs.Result.{Outcome, check}
 use Rattle.hello.specs.Tlvs.{tlv_bytes}
 use Rattle.hello.specs.Pieces.{capability, geninfo, parameters_type, smart_mac_type, nickname_type, trees_type, Sub}
 use Rattle.hello.specs.Contents.{Parameters, Nickname, Trees, SmartMac, Contents}
-use Rattle.hello.specs.Reading.{hello_malformed, single}
+use Rattle.hello.specs.Reading.{single}
+use Rattle.numbers.specs.declared.refusals.Refusal.TheVariants.{HelloMalformed}
 
 -- ---- "a number over its field or a list that no TLV holds"
 
@@ -107,5 +108,5 @@ unfoldable pub tlvs_of : List Sub → List ℕ
 tlvs_of [] = []
 tlvs_of (s ∷ ss) = grouped s.holder (head_of s.holder ++ sub_bytes s) ss
 
-unfoldable pub hello_written : Contents → Result (List ℕ)
-hello_written c = check (contents_good c) hello_malformed (single c.parameters (got (tlvs_of (subs_of c))))
+unfoldable pub hello_written : Contents → Outcome (List ℕ)
+hello_written c = check (contents_good c) HelloMalformed (single c.parameters (Ok (tlvs_of (subs_of c))))

@@ -10,10 +10,12 @@ use lib.ListN.{length, drop, length-drop}
 use lib.Seq.{drop-drop}
 use borrow.Author.Tests.{le-leb, lt-leb, leb-true, leb-false}
 use Rattle.numbers.specs.Tests.{pick}
-use Rattle.numbers.specs.Result.{Result, refused, got, and_then}
+use Rattle.numbers.specs.Result.{Outcome, and_then}
 use Rattle.numbers.proofs.Answers.{refused_got, got_got, then_got, check_got}
 use Rattle.hello.specs.Area.{Taken, Taker, taken, take_one, then, take_many, take_counted}
 use Rattle.hello_area.specs.Entries.{via, end_in, end_from, reach}
+use Rattle.std.specs.Prelude.{Ok, Err}
+use Rattle.numbers.specs.declared.refusals.Refusal.TheVariants.{HelloMalformed}
 
 -- ---- what is left is the end of what there was
 
@@ -22,7 +24,7 @@ pub record Ends (l r : List ℕ) : Type 0 where
   pub is : r ≡ drop (length l - length r) l
 
 abbrev pub Suffix : {A : Type 0} → Taker A → Type 0
-Suffix {A} p = (l : List ℕ) (t : Taken A) → p l ≡ got t → Ends l t.rest
+Suffix {A} p = (l : List ℕ) (t : Taken A) → p l ≡ Ok t → Ends l t.rest
 
 drop_zero : (l : List ℕ) (n : ℕ) → n ≡ 0 → l ≡ drop n l
 drop_zero l n e = rw e
@@ -42,7 +44,7 @@ suffix_taken x l t e = rw (ap (λ (s : Taken _). s.rest) (sym (got_got (record {
 
 pub suffix_one : Suffix take_one
 unfolding take_one
-suffix_one [] t e = refused_got 25 t e
+suffix_one [] t e = refused_got HelloMalformed t e
 suffix_one (n ∷ r) t e =
     let d : n ∷ r ≡ n ∷ r = refl in
     rw (ap (λ (s : Taken ℕ). s.rest) (sym (got_got (record { value = n; rest = r }) t e))) (record { short = omega arith; is = one_off n r (length (n ∷ r) - length r) (omega arith) })
@@ -69,14 +71,14 @@ pub suffix_via : {A B : Type 0} (p : Taker A) (g : A → Bool) (f : A → B) →
 unfolding via
 suffix_via p g f s l t e =
     let a = then_got (p l) _ t e in
-    let b = check_got (g a.0.value) 25 _ t a.2 in
+    let b = check_got (g a.0.value) HelloMalformed _ t a.2 in
     rw (ap (λ (x : Taken _). x.rest) (sym (got_got (record { value = f a.0.value; rest = a.0.rest }) t b.1))) (s l a.0 a.1)
 
 -- ---- one behind the other
 
 -- where the second ends, if the first does not refuse
 module _ {A B C : Type 0} (ns : List ℕ) (i : ℕ) (inside : i ≤ length ns) (p : Taker A) (s : Suffix p) (q : Taker B) (h : A → B → C) where
-  rest_at : (t : Taken A) → p (drop i ns) ≡ got t → (length ns - length t.rest ≤ length ns) × (t.rest ≡ drop (length ns - length t.rest) ns)
+  rest_at : (t : Taken A) → p (drop i ns) ≡ Ok t → (length ns - length t.rest ≤ length ns) × (t.rest ≡ drop (length ns - length t.rest) ns)
   rest_at t e =
       let d = length-drop i ns in
       let w = s (drop i ns) t e in
@@ -84,26 +86,26 @@ module _ {A B C : Type 0} (ns : List ℕ) (i : ℕ) (inside : i ≤ length ns) (
       let n : i + (length (drop i ns) - length t.rest) ≡ length ns - length t.rest = omega arith in
       (omega arith, w.is ∙ drop-drop (length (drop i ns) - length t.rest) i ns ∙ ap (λ (k : ℕ). drop k ns) n)
 
-  both_end : (z : Result (Taken A)) → p (drop i ns) ≡ z
+  both_end : (z : Outcome (Taken A)) → p (drop i ns) ≡ z
       → end_in ns (and_then z λ t. and_then (q t.rest) λ u. taken (h t.value u.value) u.rest) ≡ pick (leb (end_in ns z) (length ns)) (end_from q ns (end_in ns z)) (1 + length ns)
   unfolding and_then pick end_from
-  both_end (refused m) e = rw (lt-leb (1 + length ns) (length ns) (omega arith))
-  both_end (got t) e =
+  both_end (Err m) e = rw (lt-leb (1 + length ns) (length ns) (omega arith))
+  both_end (Ok t) e =
       let w = rest_at t e in
       rw (le-leb (length ns - length t.rest) (length ns) w.0) (last (q t.rest) ∙ ap (λ (l : List ℕ). end_in ns (q l)) w.1)
     where
-      last : (y : Result (Taken B)) → end_in ns (and_then y λ u. taken (h t.value u.value) u.rest) ≡ end_in ns y
-      last (refused m) = refl
-      last (got u) = refl
+      last : (y : Outcome (Taken B)) → end_in ns (and_then y λ u. taken (h t.value u.value) u.rest) ≡ end_in ns y
+      last (Err m) = refl
+      last (Ok u) = refl
 
 as_reach : {A : Type 0} (q : Taker A) (ns : List ℕ) (k : ℕ) → pick (leb k (length ns)) (end_from q ns k) (1 + length ns) ≡ reach q ns k
 unfolding reach
 as_reach q ns k = refl
 
-pub value_lost : {A B : Type 0} (ns : List ℕ) (z : Result (Taken A)) (h : A → B) → end_in ns (and_then z λ t. taken (h t.value) t.rest) ≡ end_in ns z
+pub value_lost : {A B : Type 0} (ns : List ℕ) (z : Outcome (Taken A)) (h : A → B) → end_in ns (and_then z λ t. taken (h t.value) t.rest) ≡ end_in ns z
 unfolding and_then
-value_lost ns (refused m) h = refl
-value_lost ns (got t) h = refl
+value_lost ns (Err m) h = refl
+value_lost ns (Ok t) h = refl
 
 -- past the end it stays so
 pub reach_over : {A : Type 0} (p : Taker A) (ns : List ℕ) (i : ℕ) → length ns < i → reach p ns i ≡ 1 + length ns

@@ -5,26 +5,29 @@ use mathlib.Core.Bool.{Bool, true, false}
 use mathlib.Core.List.{List, [], ◌∷◌, map}
 use mathlib.Core.Path.{◌≡◌, refl, sym, ap, ◌∙◌}
 use Rattle.numbers.specs.Tests.{both, all_of}
-use Rattle.numbers.specs.Result.{Result, refused, got, check, and_then}
+use Rattle.numbers.specs.Result.{Outcome, check, and_then}
 use Rattle.numbers.proofs.Answers.{refused_got}
 use Rattle.hello.specs.Area.{Taken, Taker, taken, take_one, then, take_many, take_counted, take_parameters, take_nickname, take_trees, take_smart_mac}
 use Rattle.hello_area.specs.Entries.{via}
+use Rattle.std.specs.Prelude.{Ok, Err}
+use Rattle.numbers.specs.declared.refusals.Refusal.TheVariants.{HelloMalformed}
+use Rattle.numbers.specs.declared.refusals.Refusal.{Refusal}
 
 -- ---- every refusal is 25
 
 abbrev pub Only : {A : Type 0} → Taker A → Type 0
-Only p = (l : List ℕ) (m : ℕ) → p l ≡ refused m → m ≡ 25
+Only p = (l : List ℕ) (m : Refusal) → p l ≡ Err m → m ≡ HelloMalformed
 
-refused_same : {A : Type 0} (m n : ℕ) → ◌≡◌ {A = Result A} (refused m) (refused n) → n ≡ m
+refused_same : {A : Type 0} (m n : Refusal) → ◌≡◌ {A = Outcome A} (Err m) (Err n) → n ≡ m
 refused_same m n p = cc
 
 pub only_taken : {A : Type 0} (x : A) → Only (taken x)
 only_taken x l m e = refused_got m (record { value = x; rest = l }) (sym e)
 
-after_only : {A B : Type 0} (r : Result (Taken A)) (k : A → Taker B) (m : ℕ) → ((n : ℕ) → r ≡ refused n → n ≡ 25) → ((x : A) → Only (k x)) → and_then r (λ t. k t.value t.rest) ≡ refused m → m ≡ 25
+after_only : {A B : Type 0} (r : Outcome (Taken A)) (k : A → Taker B) (m : Refusal) → ((n : Refusal) → r ≡ Err n → n ≡ HelloMalformed) → ((x : A) → Only (k x)) → and_then r (λ t. k t.value t.rest) ≡ Err m → m ≡ HelloMalformed
 unfolding and_then
-after_only (refused n) k m first next e = refused_same n m e ∙ first n refl
-after_only (got t) k m first next e = next t.value t.rest m e
+after_only (Err n) k m first next e = refused_same n m e ∙ first n refl
+after_only (Ok t) k m first next e = next t.value t.rest m e
 
 pub only_then : {A B : Type 0} (p : Taker A) (k : A → Taker B) → Only p → ((x : A) → Only (k x)) → Only (then p k)
 unfolding then
@@ -32,7 +35,7 @@ only_then p k first next l m e = after_only (p l) k m (λ n f. first l n f) next
 
 pub only_one : Only take_one
 unfolding take_one
-only_one [] m e = refused_same 25 m e
+only_one [] m e = refused_same HelloMalformed m e
 only_one (n ∷ r) m e = refused_got m (record { value = n; rest = r }) (sym e)
 
 pub only_many : {A : Type 0} (p : Taker A) → Only p → (n : ℕ) → Only (take_many p n)
@@ -64,81 +67,81 @@ only_smart_mac =
 -- ---- a test with each, or after all
 
 -- a test may wait for what is taken later
-pub later : {X Y : Type 0} (b : Bool) (x : Result X) (k : X → Result Y) → ((m : ℕ) → x ≡ refused m → m ≡ 25) → check b 25 (and_then x k) ≡ and_then x (λ t. check b 25 (k t))
+pub later : {X Y : Type 0} (b : Bool) (x : Outcome X) (k : X → Outcome Y) → ((m : Refusal) → x ≡ Err m → m ≡ HelloMalformed) → check b HelloMalformed (and_then x k) ≡ and_then x (λ t. check b HelloMalformed (k t))
 unfolding check and_then
-later true (refused m) k only = refl
-later true (got t) k only = refl
-later false (refused m) k only = ap refused (sym (only m refl))
-later false (got t) k only = refl
+later true (Err m) k only = refl
+later true (Ok t) k only = refl
+later false (Err m) k only = ap Err (sym (only m refl))
+later false (Ok t) k only = refl
 
-pub then_same : {X Y : Type 0} (x : Result X) (k j : X → Result Y) → ((t : X) → k t ≡ j t) → and_then x k ≡ and_then x j
+pub then_same : {X Y : Type 0} (x : Outcome X) (k j : X → Outcome Y) → ((t : X) → k t ≡ j t) → and_then x k ≡ and_then x j
 unfolding and_then
-then_same (refused m) k j h = refl
-then_same (got t) k j h = h t
+then_same (Err m) k j h = refl
+then_same (Ok t) k j h = h t
 
-pub then-then : {X Y Z : Type 0} (x : Result X) (k : X → Result Y) (j : Y → Result Z) → and_then (and_then x k) j ≡ and_then x (λ t. and_then (k t) j)
+pub then-then : {X Y Z : Type 0} (x : Outcome X) (k : X → Outcome Y) (j : Y → Outcome Z) → and_then (and_then x k) j ≡ and_then x (λ t. and_then (k t) j)
 unfolding and_then
-then-then (refused m) k j = refl
-then-then (got t) k j = refl
+then-then (Err m) k j = refl
+then-then (Ok t) k j = refl
 
-pub check-then : {X Y : Type 0} (b : Bool) (x : Result X) (k : X → Result Y) → and_then (check b 25 x) k ≡ check b 25 (and_then x k)
+pub check-then : {X Y : Type 0} (b : Bool) (x : Outcome X) (k : X → Outcome Y) → and_then (check b HelloMalformed x) k ≡ check b HelloMalformed (and_then x k)
 unfolding and_then check
 check-then true x k = refl
 check-then false x k = refl
 
-pub check-check : {X : Type 0} (a b : Bool) (x : Result X) → check a 25 (check b 25 x) ≡ check (both a b) 25 x
+pub check-check : {X : Type 0} (a b : Bool) (x : Outcome X) → check a HelloMalformed (check b HelloMalformed x) ≡ check (both a b) HelloMalformed x
 unfolding check both
 check-check true b x = refl
 check-check false b x = refl
 
 -- what follows a test agrees where it passes
-pub after_check : {X Y : Type 0} (b : Bool) (x : X) (k j : X → Result Y) → k x ≡ j x → and_then (check b 25 (got x)) k ≡ and_then (check b 25 (got x)) j
+pub after_check : {X Y : Type 0} (b : Bool) (x : X) (k j : X → Outcome Y) → k x ≡ j x → and_then (check b HelloMalformed (Ok x)) k ≡ and_then (check b HelloMalformed (Ok x)) j
 unfolding and_then check
 after_check true x k j e = e
 after_check false x k j e = refl
 
 -- a refusal after a test
-after_refused : {X Y : Type 0} (b : Bool) (x : X) (m : ℕ) (r : Result Y) → r ≡ refused m → m ≡ 25 → and_then (check b 25 (got x)) (λ _. r) ≡ refused m
+after_refused : {X Y : Type 0} (b : Bool) (x : X) (m : Refusal) (r : Outcome Y) → r ≡ Err m → m ≡ HelloMalformed → and_then (check b HelloMalformed (Ok x)) (λ _. r) ≡ Err m
 unfolding and_then check
 after_refused true x m r e h = e
-after_refused false x m r e h = ap refused (sym h)
+after_refused false x m r e h = ap Err (sym h)
 
-via_none : {A B : Type 0} (g : A → Bool) (f : A → B) (l : List ℕ) → taken {A = List B} [] l ≡ and_then (taken {A = List A} [] l) λ t. check (all_of g t.value) 25 (taken (map f t.value) t.rest)
+via_none : {A B : Type 0} (g : A → Bool) (f : A → B) (l : List ℕ) → taken {A = List B} [] l ≡ and_then (taken {A = List A} [] l) λ t. check (all_of g t.value) HelloMalformed (taken (map f t.value) t.rest)
 unfolding and_then check all_of
 via_none g f l = refl
 
-via_whole : {A B : Type 0} (g : A → Bool) (f : A → B) (x : A) (xs : List A) (r : List ℕ) → check (both (g x) (all_of g xs)) 25 (taken (f x ∷ map f xs) r) ≡ and_then (taken (x ∷ xs) r) λ t. check (all_of g t.value) 25 (taken (map f t.value) t.rest)
+via_whole : {A B : Type 0} (g : A → Bool) (f : A → B) (x : A) (xs : List A) (r : List ℕ) → check (both (g x) (all_of g xs)) HelloMalformed (taken (f x ∷ map f xs) r) ≡ and_then (taken (x ∷ xs) r) λ t. check (all_of g t.value) HelloMalformed (taken (map f t.value) t.rest)
 unfolding and_then all_of
 via_whole g f x xs r = refl
 
 module _ {A B : Type 0} (p : Taker A) (g : A → Bool) (f : A → B) (o : Only p) where
   -- what is made of the rest behind one entry
-  Rest : Taken A → Result (Taken (List A)) → Result (Taken (List B))
-  Rest t r = and_then r λ u. check (both (g t.value) (all_of g u.value)) 25 (taken (f t.value ∷ map f u.value) u.rest)
+  Rest : Taken A → Outcome (Taken (List A)) → Outcome (Taken (List B))
+  Rest t r = and_then r λ u. check (both (g t.value) (all_of g u.value)) HelloMalformed (taken (f t.value ∷ map f u.value) u.rest)
 
-  front : (t : Taken A) (r : Result (Taken (List A))) → ((m : ℕ) → r ≡ refused m → m ≡ 25)
-      → and_then (check (g t.value) 25 (taken (f t.value) t.rest)) (λ s. and_then (and_then r λ u. check (all_of g u.value) 25 (taken (map f u.value) u.rest)) λ u. taken (s.value ∷ u.value) u.rest) ≡ Rest t r
+  front : (t : Taken A) (r : Outcome (Taken (List A))) → ((m : Refusal) → r ≡ Err m → m ≡ HelloMalformed)
+      → and_then (check (g t.value) HelloMalformed (taken (f t.value) t.rest)) (λ s. and_then (and_then r λ u. check (all_of g u.value) HelloMalformed (taken (map f u.value) u.rest)) λ u. taken (s.value ∷ u.value) u.rest) ≡ Rest t r
   unfolding and_then check both Rest
-  front t (refused m) only = after_refused (g t.value) _ m (refused m) refl (only m refl)
-  front t (got v) only = go (g t.value) (all_of g v.value)
+  front t (Err m) only = after_refused (g t.value) _ m (Err m) refl (only m refl)
+  front t (Ok v) only = go (g t.value) (all_of g v.value)
     where
-      go : (b c : Bool) → and_then (check b 25 (taken (f t.value) t.rest)) (λ s. and_then (check c 25 (taken (map f v.value) v.rest)) λ u. taken (s.value ∷ u.value) u.rest) ≡ check (both b c) 25 (taken (f t.value ∷ map f v.value) v.rest)
+      go : (b c : Bool) → and_then (check b HelloMalformed (taken (f t.value) t.rest)) (λ s. and_then (check c HelloMalformed (taken (map f v.value) v.rest)) λ u. taken (s.value ∷ u.value) u.rest) ≡ check (both b c) HelloMalformed (taken (f t.value ∷ map f v.value) v.rest)
       go true true = refl
       go true false = refl
       go false c = refl
 
-  back : (t : Taken A) (r : Result (Taken (List A))) → and_then (and_then r λ u. taken (t.value ∷ u.value) u.rest) (λ u. check (all_of g u.value) 25 (taken (map f u.value) u.rest)) ≡ Rest t r
+  back : (t : Taken A) (r : Outcome (Taken (List A))) → and_then (and_then r λ u. taken (t.value ∷ u.value) u.rest) (λ u. check (all_of g u.value) HelloMalformed (taken (map f u.value) u.rest)) ≡ Rest t r
   unfolding and_then all_of Rest
-  back t (refused m) = refl
-  back t (got v) = refl
+  back t (Err m) = refl
+  back t (Ok v) = refl
 
-  one_more : (n : ℕ) (q : Taker (List B)) → ((l : List ℕ) → q l ≡ via (take_many p n) (all_of g) (map f) l) → (r : Result (Taken A))
-      → and_then (and_then r λ t. check (g t.value) 25 (taken (f t.value) t.rest)) (λ s. and_then (q s.rest) λ u. taken (s.value ∷ u.value) u.rest)
-      ≡ and_then (and_then r λ s. and_then (take_many p n s.rest) λ u. taken (s.value ∷ u.value) u.rest) λ u. check (all_of g u.value) 25 (taken (map f u.value) u.rest)
+  one_more : (n : ℕ) (q : Taker (List B)) → ((l : List ℕ) → q l ≡ via (take_many p n) (all_of g) (map f) l) → (r : Outcome (Taken A))
+      → and_then (and_then r λ t. check (g t.value) HelloMalformed (taken (f t.value) t.rest)) (λ s. and_then (q s.rest) λ u. taken (s.value ∷ u.value) u.rest)
+      ≡ and_then (and_then r λ s. and_then (take_many p n s.rest) λ u. taken (s.value ∷ u.value) u.rest) λ u. check (all_of g u.value) HelloMalformed (taken (map f u.value) u.rest)
   unfolding and_then via
-  one_more n q h (refused m) = refl
-  one_more n q h (got t) =
-      after_check (g t.value) _ _ _ (ap (λ (r : Result (Taken (List B))). and_then r λ u. taken (f t.value ∷ u.value) u.rest) (h t.rest))
+  one_more n q h (Err m) = refl
+  one_more n q h (Ok t) =
+      after_check (g t.value) _ _ _ (ap (λ (r : Outcome (Taken (List B))). and_then r λ u. taken (f t.value ∷ u.value) u.rest) (h t.rest))
       ∙ front t (take_many p n t.rest) (λ m e. only_many p o n t.rest m e)
       ∙ sym (back t (take_many p n t.rest))
 

@@ -7,7 +7,7 @@ use mathlib.Core.Path.{◌≡◌, refl, sym, ap, ◌∙◌}
 use lib.Dec.{leb, eqb}
 use lib.ListN.{length, get_or}
 use Rattle.numbers.specs.Tests.{both, all_of}
-use Rattle.numbers.specs.Result.{Result, refused, got, check, and_then}
+use Rattle.numbers.specs.Result.{Outcome, check, and_then}
 use Rattle.numbers.proofs.Answers.{then_got, got_got}
 use Rattle.hello.specs.Pieces.{Sub}
 use Rattle.hello.specs.Contents.{Parameters, Nickname, Trees, SmartMac, Contents}
@@ -18,6 +18,8 @@ use Rattle.hello.specs.Calls.{area_written}
 use Rattle.hello_area.specs.Entries.{via, take_sub, take_both, take_subs, numbers_in, entries_written}
 use Rattle.hello_area.proofs.Takers.{Only, only_taken, only_then, only_counted, only_parameters, only_nickname, only_trees, only_smart_mac, then-then, then_same, check-then}
 use Rattle.hello_area.proofs.Entries.{Pair, pair_via, got_then, section-via, sub_22, sub_6, sub_8, sub_23, many_length}
+use Rattle.std.specs.Prelude.{Ok, Err}
+use Rattle.numbers.specs.declared.refusals.Refusal.TheVariants.{HelloMalformed, ParametersMissing}
 
 -- ---- two sections
 
@@ -49,8 +51,8 @@ module _ {A B : Type 0} (p : Taker A) (g : A → Bool) (f : A → List Sub) (q :
   two_via : (x y : Taker (List Sub)) → ((l : List ℕ) → x l ≡ via p g f l) → ((l : List ℕ) → y l ≡ via q g' f' l) → (l : List ℕ) → take_both x y l ≡ via (take_two p q) GoodTwo SubsTwo l
   unfolding take_both then
   two_via x y a b l =
-      ap (λ (z : Result (Taken (List Sub))). and_then z λ s. and_then (y s.rest) λ u. taken (s.value ++ u.value) u.rest) (a l)
-      ∙ then_same (via p g f l) _ _ (λ s. ap (λ (z : Result (Taken (List Sub))). and_then z λ u. taken (s.value ++ u.value) u.rest) (b s.rest))
+      ap (λ (z : Outcome (Taken (List Sub))). and_then z λ s. and_then (y s.rest) λ u. taken (s.value ++ u.value) u.rest) (a l)
+      ∙ then_same (via p g f l) _ _ (λ s. ap (λ (z : Outcome (Taken (List Sub))). and_then z λ u. taken (s.value ++ u.value) u.rest) (b s.rest))
       ∙ pair_via g f q o g' f' (λ (a b : List Sub). a ++ b) p (via (take_two p q) GoodTwo SubsTwo) two_pair l
 
 -- ---- all four
@@ -141,7 +143,7 @@ via22 l =
 contents_from : Two (List Parameters) (Two (List (List Nickname)) (Two (List Trees) (List SmartMac))) → Contents
 contents_from x = record { parameters = x.first; nicknames = x.second.first; trees = x.second.second.first; macs = x.second.second.second }
 
-two_then : {A B C : Type 0} (p : Taker A) (q : Taker B) (l : List ℕ) (k : Taken (Two A B) → Result C) → and_then (take_two p q l) k ≡ and_then (p l) λ t. and_then (q t.rest) λ u. k (record { value = two t.value u.value; rest = u.rest })
+two_then : {A B C : Type 0} (p : Taker A) (q : Taker B) (l : List ℕ) (k : Taken (Two A B) → Outcome C) → and_then (take_two p q l) k ≡ and_then (p l) λ t. and_then (q t.rest) λ u. k (record { value = two t.value u.value; rest = u.rest })
 unfolding take_two then
 two_then p q l k = then-then (p l) _ _ ∙ then_same (p l) _ _ (λ t. then-then (q t.rest) _ _ ∙ then_same (q t.rest) _ _ (λ u. got_then _ _))
 
@@ -162,30 +164,30 @@ pub subs_via : (l : List ℕ) → take_subs l ≡ via take_contents contents_goo
 unfolding via
 subs_via l =
     via22 l
-    ∙ sym (ap (λ (z : Result (Taken Contents)). and_then z λ t. check (contents_good t.value) 25 (taken (subs_of t.value) t.rest)) (contents_two l)
+    ∙ sym (ap (λ (z : Outcome (Taken Contents)). and_then z λ t. check (contents_good t.value) HelloMalformed (taken (subs_of t.value) t.rest)) (contents_two l)
     ∙ then-then (take_two p22 t6 l) _ _
     ∙ then_same (take_two p22 t6 l) _ _ (λ t. got_then _ _ ∙ rw (same_good t.value, same_subs t.value)))
 
 -- ---- the payload
 
-then-known : {X Y : Type 0} (x : Result X) (k j : X → Result Y) → ((t : X) → x ≡ got t → k t ≡ j t) → and_then x k ≡ and_then x j
+then-known : {X Y : Type 0} (x : Outcome X) (k j : X → Outcome Y) → ((t : X) → x ≡ Ok t → k t ≡ j t) → and_then x k ≡ and_then x j
 unfolding and_then
-then-known (refused m) k j h = refl
-then-known (got t) k j h = h t refl
+then-known (Err m) k j h = refl
+then-known (Ok t) k j h = h t refl
 
-check_swap : {X : Type 0} (a b : Bool) (x : Result X) → check a 25 (check b 25 x) ≡ check b 25 (check a 25 x)
+check_swap : {X : Type 0} (a b : Bool) (x : Outcome X) → check a HelloMalformed (check b HelloMalformed x) ≡ check b HelloMalformed (check a HelloMalformed x)
 unfolding check
 check_swap true true x = refl
 check_swap true false x = refl
 check_swap false true x = refl
 check_swap false false x = refl
 
-one_first : (l : List ℕ) (t : Taken ℕ) → take_one l ≡ got t → t.value ≡ get_or l 0 0
+one_first : (l : List ℕ) (t : Taken ℕ) → take_one l ≡ Ok t → t.value ≡ get_or l 0 0
 unfolding take_one
 one_first [] t e = let z : ◌≡◌ {A = ℕ} 0 1 = cc in cc
 one_first (n ∷ r) t e = sym (ap (λ (s : Taken ℕ). s.value) (got_got (record { value = n; rest = r }) t e))
 
-first_count : (l : List ℕ) (t : Taken Contents) → take_contents l ≡ got t → length t.value.parameters ≡ get_or l 0 0
+first_count : (l : List ℕ) (t : Taken Contents) → take_contents l ≡ Ok t → length t.value.parameters ≡ get_or l 0 0
 unfolding take_contents then take_counted
 first_count l t e =
     let a = then_got (take_counted take_parameters l) _ t e in
@@ -198,18 +200,18 @@ first_count l t e =
     ∙ n ∙ one_first l o.0 o.1
 
 -- what is made of the sub-TLVs
-Ending : ℕ → Taken (List Sub) → Result (List ℕ)
-Ending n t = check (leb (length t.rest) 0) 25 (check (leb n 1) 25 (check (leb 1 n) 26 (got (tlvs_of t.value))))
+Ending : ℕ → Taken (List Sub) → Outcome (List ℕ)
+Ending n t = check (leb (length t.rest) 0) HelloMalformed (check (leb n 1) HelloMalformed (check (leb 1 n) ParametersMissing (Ok (tlvs_of t.value))))
 
-written_then : (ns : List ℕ) (t : Taken Contents) → take_contents ns ≡ got t
-    → and_then (check (leb (length t.rest) 0) 25 (got t.value)) hello_written ≡ and_then (check (contents_good t.value) 25 (taken (subs_of t.value) t.rest)) (Ending (get_or ns 0 0))
+written_then : (ns : List ℕ) (t : Taken Contents) → take_contents ns ≡ Ok t
+    → and_then (check (leb (length t.rest) 0) HelloMalformed (Ok t.value)) hello_written ≡ and_then (check (contents_good t.value) HelloMalformed (taken (subs_of t.value) t.rest)) (Ending (get_or ns 0 0))
 unfolding hello_written single Ending
 written_then ns t e =
-    check-then (leb (length t.rest) 0) (got t.value) hello_written
-    ∙ ap (check (leb (length t.rest) 0) 25) (got_then t.value hello_written)
+    check-then (leb (length t.rest) 0) (Ok t.value) hello_written
+    ∙ ap (check (leb (length t.rest) 0) HelloMalformed) (got_then t.value hello_written)
     ∙ check_swap (leb (length t.rest) 0) (contents_good t.value) _
-    ∙ ap (λ (n : ℕ). check (contents_good t.value) 25 (check (leb (length t.rest) 0) 25 (check (leb n 1) 25 (check (leb 1 n) 26 (got (tlvs_of (subs_of t.value))))))) (first_count ns t e)
-    ∙ sym (check-then (contents_good t.value) (taken (subs_of t.value) t.rest) (Ending (get_or ns 0 0)) ∙ ap (check (contents_good t.value) 25) (got_then _ (Ending (get_or ns 0 0))))
+    ∙ ap (λ (n : ℕ). check (contents_good t.value) HelloMalformed (check (leb (length t.rest) 0) HelloMalformed (check (leb n 1) HelloMalformed (check (leb 1 n) ParametersMissing (Ok (tlvs_of (subs_of t.value))))))) (first_count ns t e)
+    ∙ sym (check-then (contents_good t.value) (taken (subs_of t.value) t.rest) (Ending (get_or ns 0 0)) ∙ ap (check (contents_good t.value) HelloMalformed) (got_then _ (Ending (get_or ns 0 0))))
 
 all_then : (ns : List ℕ) → and_then (contents_of ns) hello_written ≡ and_then (take_subs ns) (Ending (get_or ns 0 0))
 unfolding contents_of via
@@ -217,8 +219,8 @@ all_then ns =
     then-then (take_contents ns) _ hello_written
     ∙ then-known (take_contents ns) _ _ (λ t e. written_then ns t e)
     ∙ sym (then-then (take_contents ns) _ (Ending (get_or ns 0 0)))
-    ∙ ap (λ (z : Result (Taken (List Sub))). and_then z (Ending (get_or ns 0 0))) (sym (subs_via ns))
+    ∙ ap (λ (z : Outcome (Taken (List Sub))). and_then z (Ending (get_or ns 0 0))) (sym (subs_via ns))
 
 pub entries_are : (area : List ℕ) → area_written area ≡ entries_written area
 unfolding area_written contents_in entries_written numbers_in Ending
-entries_are area = check-then (eqb (length area % 8) 0) _ hello_written ∙ ap (check (eqb (length area % 8) 0) 25) (all_then (numbers_in area))
+entries_are area = check-then (eqb (length area % 8) 0) _ hello_written ∙ ap (check (eqb (length area % 8) 0) HelloMalformed) (all_then (numbers_in area))

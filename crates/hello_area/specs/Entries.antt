@@ -1,15 +1,15 @@
 -- The contents area entry by entry: each entry is taken as the sub-TLV that it is written as, or is 25; one shape for all types.
 -- Assumes nothing.
-use Rattle.std.specs.Prelude.{ℕ, zero, suc, ◌+◌, ◌-◌, ◌*◌, ◌%◌, ◌^◌, Bool, leb, ltb, eqb, length, drop, get_or}
+use Rattle.std.specs.Prelude.{ℕ, zero, suc, ◌+◌, ◌-◌, ◌*◌, ◌%◌, ◌^◌, Bool, leb, ltb, eqb, length, drop, get_or, Ok, Err}
 use mathlib.Core.List.{List, [], ◌∷◌, ◌++◌, map, flat_map}
 use Rattle.numbers.specs.Tests.{pick, both, either}
 use Rattle.numbers.specs.Bytes.{num, bytes_of, parts}
-use Rattle.numbers.specs.Result.{Result, refused, got, check, and_then}
+use Rattle.numbers.specs.Result.{Outcome, check, and_then}
 use Rattle.hello.specs.Pieces.{capability, geninfo, parameters_type, smart_mac_type, nickname_type, trees_type, Sub}
 use Rattle.hello.specs.Contents.{Parameters}
-use Rattle.hello.specs.Reading.{hello_malformed, parameters_missing}
 use Rattle.hello.specs.Writing.{within, most_nicknames, most_trees, most_macs, parameters_good, nickname_good, label_top, nickname_bytes, tlvs_of}
 use Rattle.hello.specs.Area.{Taken, Taker, taken, take_one, then, take_many, take_counted, take_parameters, take_nickname}
+use Rattle.numbers.specs.declared.refusals.Refusal.TheVariants.{HelloMalformed, ParametersMissing}
 
 -- the numbers of an area
 unfoldable pub numbers_in : List ℕ → List ℕ
@@ -17,7 +17,7 @@ numbers_in area = map num (parts 8 area)
 
 -- what is taken where it passes a test, in another form
 unfoldable pub via : {A B : Type 0} → Taker A → (A → Bool) → (A → B) → Taker B
-via p g f l = and_then (p l) λ t. check (g t.value) hello_malformed (taken (f t.value) t.rest)
+via p g f l = and_then (p l) λ t. check (g t.value) HelloMalformed (taken (f t.value) t.rest)
 
 -- F, M and the label of a Smart-MAC, as one number of 32 bits
 pub record Label : Type 0 where
@@ -57,7 +57,7 @@ most_of k = pick (eqb k nickname_type) most_nicknames (pick (eqb k trees_type) m
 
 -- the list, as bytes
 unfoldable pub take_list : ℕ → Taker (List ℕ)
-take_list k = then take_one λ m r. check (leb m (most_of k)) hello_malformed (and_then (take_many (take_item k) m r) λ t. taken (flat_map (λ (b : List ℕ). b) t.value) t.rest)
+take_list k = then take_one λ m r. check (leb m (most_of k)) HelloMalformed (and_then (take_many (take_item k) m r) λ t. taken (flat_map (λ (b : List ℕ). b) t.value) t.rest)
 
 -- the TLV that holds sub-TLVs of a type
 abbrev pub holder_for : ℕ → ℕ
@@ -82,19 +82,19 @@ take_subs =
     (take_both (take_counted (take_sub trees_type)) (take_counted (take_sub smart_mac_type))))
 
 -- the payload that an area is written as, entry by entry; the first number is how many Smart-Parameters there are
-unfoldable pub entries_written : List ℕ → Result (List ℕ)
+unfoldable pub entries_written : List ℕ → Outcome (List ℕ)
 entries_written area =
-    check (eqb (length area % 8) 0) hello_malformed
+    check (eqb (length area % 8) 0) HelloMalformed
     (and_then (take_subs (numbers_in area)) λ t.
-    check (leb (length t.rest) 0) hello_malformed
-    (check (leb (get_or (numbers_in area) 0 0) 1) hello_malformed
-    (check (leb 1 (get_or (numbers_in area) 0 0)) parameters_missing
-    (got (tlvs_of t.value)))))
+    check (leb (length t.rest) 0) HelloMalformed
+    (check (leb (get_or (numbers_in area) 0 0) 1) HelloMalformed
+    (check (leb 1 (get_or (numbers_in area) 0 0)) ParametersMissing
+    (Ok (tlvs_of t.value)))))
 
 -- where a taker that starts at the number i ends; past the end where it refuses
-abbrev pub end_in : {A : Type 0} → List ℕ → Result (Taken A) → ℕ
-end_in ns (refused m) = 1 + length ns
-end_in ns (got t) = length ns - length t.rest
+abbrev pub end_in : {A : Type 0} → List ℕ → Outcome (Taken A) → ℕ
+end_in ns (Err m) = 1 + length ns
+end_in ns (Ok t) = length ns - length t.rest
 
 unfoldable pub end_from : {A : Type 0} → Taker A → List ℕ → ℕ → ℕ
 end_from p ns i = end_in ns (p (drop i ns))
@@ -104,9 +104,9 @@ unfoldable pub reach : {A : Type 0} → Taker A → List ℕ → ℕ → ℕ
 reach p ns i = pick (leb i (length ns)) (end_from p ns i) (1 + length ns)
 
 -- the sub-TLV that the entry at the number i is; one without a value where it is malformed
-unfoldable pub sub_in : ℕ → Result (Taken Sub) → Sub
-sub_in k (refused m) = record { holder = holder_for k; kind = k; value = [] }
-sub_in k (got t) = t.value
+unfoldable pub sub_in : ℕ → Outcome (Taken Sub) → Sub
+sub_in k (Err m) = record { holder = holder_for k; kind = k; value = [] }
+sub_in k (Ok t) = t.value
 
 unfoldable pub sub_at : ℕ → List ℕ → ℕ → Sub
 sub_at k ns i = sub_in k (take_sub k (drop i ns))

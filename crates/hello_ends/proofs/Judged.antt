@@ -10,7 +10,7 @@ use lib.ListN.{length, get_or}
 use borrow.Author.Tests.{eq-eqb, ne_eqb, le-leb, lt-leb, leb-true}
 use Rattle.numbers.specs.Tests.{pick}
 use Rattle.numbers.specs.Bytes.{bytes_of}
-use Rattle.numbers.specs.Result.{Result, refused, got, check, and_then}
+use Rattle.numbers.specs.Result.{Outcome, check, and_then, finished}
 use Rattle.hello.specs.Pieces.{Sub}
 use Rattle.hello.specs.Writing.{within, parameters_good, nickname_good, nickname_bytes, tlvs_of}
 use Rattle.hello.specs.Area.{Taken, Taker, taken, take_one, then, take_many, take_counted, take_parameters, take_nickname}
@@ -19,23 +19,26 @@ use Rattle.hello_area.specs.Entries.{via, take_label, label_good, label_bytes, p
 use Rattle.hello_area.proofs.Takers.{Only, only_taken, only_then, only_one, only_many, only_counted, only_parameters, only_nickname}
 use Rattle.hello_area.proofs.Whole.{entries_are}
 use Rattle.hello_area.proofs.Places.{Suffix, suffix_then, suffix_taken, suffix_counted, reach_in}
-use Rattle.hello_ends.specs.Below.{refusal_of}
 use Rattle.hello_ends.proofs.Shapes.{suffix_sub}
+use Rattle.std.specs.Prelude.{Ok, Err}
+use Rattle.numbers.specs.declared.refusals.Refusal.TheVariants.{HelloMalformed, ParametersMissing}
+use Rattle.numbers.specs.declared.refusals.Refusal.{Refusal}
+use Rattle.hello.specs.Reading.{refusal_of}
 
 -- ---- every refusal is 25
 
-refused_same : {A : Type 0} (m n : ℕ) → ◌≡◌ {A = Result A} (refused m) (refused n) → n ≡ m
+refused_same : {A : Type 0} (m n : Refusal) → ◌≡◌ {A = Outcome A} (Err m) (Err n) → n ≡ m
 refused_same m n p = cc
 
-check_only : {A : Type 0} (b : Bool) (x : Result A) (m : ℕ) → ((n : ℕ) → x ≡ refused n → n ≡ 25) → check b 25 x ≡ refused m → m ≡ 25
+check_only : {A : Type 0} (b : Bool) (x : Outcome A) (m : Refusal) → ((n : Refusal) → x ≡ Err n → n ≡ HelloMalformed) → check b HelloMalformed x ≡ Err m → m ≡ HelloMalformed
 unfolding check
 check_only true x m h e = h m e
-check_only false x m h e = refused_same 25 m e
+check_only false x m h e = refused_same HelloMalformed m e
 
-after_only : {A B : Type 0} (z : Result A) (k : A → Result B) (m : ℕ) → ((n : ℕ) → z ≡ refused n → n ≡ 25) → ((t : A) (n : ℕ) → k t ≡ refused n → n ≡ 25) → and_then z k ≡ refused m → m ≡ 25
+after_only : {A B : Type 0} (z : Outcome A) (k : A → Outcome B) (m : Refusal) → ((n : Refusal) → z ≡ Err n → n ≡ HelloMalformed) → ((t : A) (n : Refusal) → k t ≡ Err n → n ≡ HelloMalformed) → and_then z k ≡ Err m → m ≡ HelloMalformed
 unfolding and_then
-after_only (refused n) k m first next e = refused_same n m e ∙ first n refl
-after_only (got t) k m first next e = next t m e
+after_only (Err n) k m first next e = refused_same n m e ∙ first n refl
+after_only (Ok t) k m first next e = next t m e
 
 only_via : {A B : Type 0} (p : Taker A) (g : A → Bool) (f : A → B) → Only p → Only (via p g f)
 unfolding via
@@ -63,7 +66,7 @@ only_head k =
     (only_pick (eqb k 6) _ _ (only_taken [])
     (only_pick (eqb k 8) _ _ (only_via take_one (within 2) (bytes_of 2) only_one) (only_via take_label label_good label_bytes only_label)))
 
-only_rest : {A B : Type 0} (b : Bool) (q : Taker A) (f : A → B) → Only q → Only (λ r. check b 25 (and_then (q r) λ t. taken (f t.value) t.rest))
+only_rest : {A B : Type 0} (b : Bool) (q : Taker A) (f : A → B) → Only q → Only (λ r. check b HelloMalformed (and_then (q r) λ t. taken (f t.value) t.rest))
 only_rest b q f o l m e = check_only b _ m (λ n r. after_only (q l) _ n (λ k s. o l k s) (λ t k s. only_taken (f t.value) t.rest k s) r) e
 
 only_list : (k : ℕ) → Only (take_list k)
@@ -100,7 +103,7 @@ suffix_subs = suffix_both _ _ (suffix_section 22) (suffix_both _ _ (suffix_secti
 
 -- ---- the judgement
 
-pub bad_length : (area : List ℕ) → (length area % 8 ≡ 0 → ⊥) → 25 ≡ refusal_of (area_written area)
+pub bad_length : (area : List ℕ) → (length area % 8 ≡ 0 → ⊥) → Err HelloMalformed ≡ refusal_of (area_written area)
 unfolding entries_written check
 bad_length area d = rw (entries_are area, ne_eqb (length area % 8) 0 d)
 
@@ -115,35 +118,35 @@ some_there_at (x ∷ ns) n e en ee h = omega arith
 pub some_there : (ns : List ℕ) (n e : ℕ) → n ≡ length ns → e ≡ reach take_subs ns 0 → e ≡ n → 0 < length ns
 some_there ns n e en ee h = some_there_at ns n e en (whole_end ns e ee) h
 
-got_there : (ns : List ℕ) (n e : ℕ) → n ≡ length ns → e ≡ n → (z : Result (Taken (List Sub))) → take_subs ns ≡ z → e ≡ end_in ns z → (t : Taken (List Sub)) × ((take_subs ns ≡ got t) × (length t.rest ≤ 0))
-got_there ns n e en h (refused m) q f = absurd (omega arith)
-got_there ns n e en h (got t) q f = let s = (suffix_subs ns t q).short in (t, (q, omega arith))
+got_there : (ns : List ℕ) (n e : ℕ) → n ≡ length ns → e ≡ n → (z : Outcome (Taken (List Sub))) → take_subs ns ≡ z → e ≡ end_in ns z → (t : Taken (List Sub)) × ((take_subs ns ≡ Ok t) × (length t.rest ≤ 0))
+got_there ns n e en h (Err m) q f = absurd (omega arith)
+got_there ns n e en h (Ok t) q f = let s = (suffix_subs ns t q).short in (t, (q, omega arith))
 
 module _ (area : List ℕ) (eight : length area % 8 ≡ 0) (n : ℕ) (en : n ≡ length (numbers_in area)) (e : ℕ) (ee : e ≡ reach take_subs (numbers_in area) 0) where
-  pub bad_end : (e ≡ n → ⊥) → 25 ≡ refusal_of (area_written area)
+  pub bad_end : (e ≡ n → ⊥) → Err HelloMalformed ≡ refusal_of (area_written area)
   unfolding entries_written check and_then
   bad_end d = rw (entries_are area, eq-eqb (length area % 8) 0 eight) (go (take_subs (numbers_in area)) refl)
     where
-      rest_bad : (t : Taken (List Sub)) (c : Bool) → leb (length t.rest) 0 ≡ c → e ≡ length (numbers_in area) - length t.rest → (x : Result (List ℕ)) → 25 ≡ refusal_of (check c 25 x)
+      rest_bad : (t : Taken (List Sub)) (c : Bool) → leb (length t.rest) 0 ≡ c → e ≡ length (numbers_in area) - length t.rest → (x : Outcome (List ℕ)) → Err HelloMalformed ≡ refusal_of (check c HelloMalformed x)
       rest_bad t true g f x = let h = leb-true (length t.rest) 0 g in absurd (d (omega arith))
       rest_bad t false g f x = refl
 
-      go : (z : Result (Taken (List Sub))) → take_subs (numbers_in area) ≡ z → 25 ≡ refusal_of (and_then z λ t. check (leb (length t.rest) 0) 25 (check (leb (get_or (numbers_in area) 0 0) 1) 25 (check (leb 1 (get_or (numbers_in area) 0 0)) 26 (got (tlvs_of t.value)))))
-      go (refused m) q = sym (only_subs (numbers_in area) m q)
-      go (got t) q = rest_bad t (leb (length t.rest) 0) refl (whole_end (numbers_in area) e ee ∙ ap (end_in (numbers_in area)) q) _
+      go : (z : Outcome (Taken (List Sub))) → take_subs (numbers_in area) ≡ z → Err HelloMalformed ≡ refusal_of (and_then z λ t. check (leb (length t.rest) 0) HelloMalformed (check (leb (get_or (numbers_in area) 0 0) 1) HelloMalformed (check (leb 1 (get_or (numbers_in area) 0 0)) ParametersMissing (Ok (tlvs_of t.value)))))
+      go (Err m) q = ap Err (sym (only_subs (numbers_in area) m q))
+      go (Ok t) q = rest_bad t (leb (length t.rest) 0) refl (whole_end (numbers_in area) e ee ∙ ap (end_in (numbers_in area)) q) _
 
   module _ (good : e ≡ n) (p : ℕ) (ep : p ≡ get_or (numbers_in area) 0 0) where
-    there : (t : Taken (List Sub)) × ((take_subs (numbers_in area) ≡ got t) × (length t.rest ≤ 0))
+    there : (t : Taken (List Sub)) × ((take_subs (numbers_in area) ≡ Ok t) × (length t.rest ≤ 0))
     there = got_there (numbers_in area) n e en good (take_subs (numbers_in area)) refl (whole_end (numbers_in area) e ee)
 
-    pub area_twice : 1 < p → 25 ≡ refusal_of (area_written area)
+    pub area_twice : 1 < p → Err HelloMalformed ≡ refusal_of (area_written area)
     unfolding entries_written check and_then
     area_twice h = rw (entries_are area, eq-eqb (length area % 8) 0 eight, there.1.0, le-leb (length there.0.rest) 0 there.1.1, ← ep, lt-leb p 1 h)
 
-    pub area_missing : p ≤ 1 → p < 1 → 26 ≡ refusal_of (area_written area)
+    pub area_missing : p ≤ 1 → p < 1 → Err ParametersMissing ≡ refusal_of (area_written area)
     unfolding entries_written check and_then
     area_missing g h = rw (entries_are area, eq-eqb (length area % 8) 0 eight, there.1.0, le-leb (length there.0.rest) 0 there.1.1, ← ep, le-leb p 1 g, lt-leb 1 p h)
 
-    pub area_good : p ≤ 1 → 1 ≤ p → 0 ≡ refusal_of (area_written area)
+    pub area_good : p ≤ 1 → 1 ≤ p → finished ≡ refusal_of (area_written area)
     unfolding entries_written check and_then
     area_good g h = rw (entries_are area, eq-eqb (length area % 8) 0 eight, there.1.0, le-leb (length there.0.rest) 0 there.1.1, ← ep, le-leb p 1 g, le-leb 1 p h)

@@ -10,7 +10,7 @@ use lib.ListN.{length, drop, get_or, length-drop}
 use borrow.Author.Tests.{eq-eqb, ne_eqb, le-leb, lt-leb, lt-ltb, le-ltb, leb-true, leb-false}
 use Rattle.numbers.specs.Tests.{pick, both}
 use Rattle.numbers.specs.Bytes.{bytes_of}
-use Rattle.numbers.specs.Result.{Result, check, and_then}
+use Rattle.numbers.specs.Result.{Outcome, check, and_then}
 use Rattle.numbers.proofs.Answers.{got_got, check_got, then_got}
 use Rattle.hello.specs.Pieces.{Sub}
 use Rattle.hello.specs.Contents.{Nickname}
@@ -22,6 +22,7 @@ use Rattle.hello_area.proofs.Entries.{Pair, pair_at_lem, got_then, via-map}
 use Rattle.hello_area.proofs.Places.{Suffix, suffix_one, suffix_via, suffix_then, suffix_taken, suffix_many, suffix_counted, reach_in, reach_over, chain, reach_as, reach_none, reach_next, value_lost}
 use Rattle.hello_ends.specs.Below.{TwoNumbers, take_below, take_pair, pair_below, take_two}
 use Rattle.hello_ends.proofs.Numbers.{suffix_below, here}
+use Rattle.numbers.specs.declared.refusals.Refusal.TheVariants.{HelloMalformed}
 
 -- ---- two numbers
 
@@ -196,9 +197,9 @@ label_is : (top a : ℕ) (r : List ℕ) → top ≡ label_top a → take_head 23
 unfolding take_head pick via take_label take_pair take_one then and_then Pair label_good pair_below
 label_is top a r e = second (take_one r)
   where
-    second : (z : Result (Taken ℕ))
-        → and_then (and_then z λ u. and_then (take_one u.rest) λ w. taken (label_from a (pair_of u.value w.value)) w.rest) (λ x. check (label_good x.value) 25 (taken (label_bytes x.value) x.rest))
-        ≡ and_then (and_then z λ u. and_then (take_one u.rest) λ w. taken (pair_of u.value w.value) w.rest) (λ x. check (both (ltb a 2) (pair_below 2 top x.value)) 25 (taken (label_bytes (label_from a x.value)) x.rest))
+    second : (z : Outcome (Taken ℕ))
+        → and_then (and_then z λ u. and_then (take_one u.rest) λ w. taken (label_from a (pair_of u.value w.value)) w.rest) (λ x. check (label_good x.value) HelloMalformed (taken (label_bytes x.value) x.rest))
+        ≡ and_then (and_then z λ u. and_then (take_one u.rest) λ w. taken (pair_of u.value w.value) w.rest) (λ x. check (both (ltb a 2) (pair_below 2 top x.value)) HelloMalformed (taken (label_bytes (label_from a x.value)) x.rest))
     second z = then-then z _ _ ∙ then_same z _ _ (λ u. then-then (take_one u.rest) _ _ ∙ then_same (take_one u.rest) _ _ (λ w. rw (leb-one a, leb-one u.value, ← e)) ∙ sym (then-then (take_one u.rest) _ _)) ∙ sym (then-then z _ _)
 
 label_shape : (top a : ℕ) (r : List ℕ) → top ≡ label_top a → take_head 23 (a ∷ r) ≡ and_then (take_below 2 (a ∷ r)) λ s. and_then (take_two 2 top s.rest) λ u. taken (label_bytes (label_from s.value u.value)) u.rest
@@ -251,9 +252,9 @@ module _ (k : ℕ) (ns : List ℕ) (i : ℕ) where
 
 -- ---- sections
 
-suffix_rest : {A B : Type 0} (b : Bool) (q : Taker A) (f : A → B) → Suffix q → Suffix (λ r. check b 25 (and_then (q r) λ t. taken (f t.value) t.rest))
+suffix_rest : {A B : Type 0} (b : Bool) (q : Taker A) (f : A → B) → Suffix q → Suffix (λ r. check b HelloMalformed (and_then (q r) λ t. taken (f t.value) t.rest))
 suffix_rest b q f s l t e =
-    let a = check_got b 25 _ t e in
+    let a = check_got b HelloMalformed _ t e in
     let c = then_got (q l) _ t a.1 in
     rw (ap (λ (x : Taken _). x.rest) (sym (got_got (record { value = f c.0.value; rest = c.0.rest }) t c.2))) (s l c.0 c.1)
 

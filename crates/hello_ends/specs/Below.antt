@@ -2,7 +2,6 @@
 -- Assumes nothing.
 use Rattle.std.specs.Prelude.{ℕ, ◌<◌, ◌≤◌, Bool, List, ◌≡◌, leb, ltb, eqb, length}
 use Rattle.numbers.specs.Tests.{both, either}
-use Rattle.numbers.specs.Result.{Result, refused, got}
 use Rattle.hello.specs.Area.{Taker, taken, take_one, then}
 use Rattle.hello_area.specs.Entries.{via, take_sub, reach}
 
@@ -36,8 +35,3 @@ take_two a b = via take_pair (pair_below a b) (λ x. x)
 -- the entry of a type at the number i is taken: it ends within the area
 abbrev pub entry_good : ℕ → List ℕ → ℕ → Bool
 entry_good k ns i = leb (reach (take_sub k) ns i) (length ns)
-
--- the number of a refusal, or 0
-abbrev pub refusal_of : {A : Type 0} → Result A → ℕ
-refusal_of (refused n) = n
-refusal_of (got x) = 0

@@ -9,13 +9,15 @@ use lib.Dec.{leb}
 use lib.ListN.{length, drop, get_or, length-drop, length-append}
 use borrow.Author.Tests.{leb-true, leb-false}
 use Rattle.numbers.specs.Tests.{pick}
-use Rattle.numbers.specs.Result.{Result, refused, got}
+use Rattle.numbers.specs.Result.{Outcome}
 use Rattle.numbers.proofs.Answers.{refused_got, got_got, then_got, check_got}
 use Rattle.hello.specs.Area.{Taken, Taker, taken, take_one, then, take_many}
 use Rattle.hello_area.specs.Entries.{via, end_in, reach}
 use Rattle.hello_area.proofs.Places.{reach_in, reach_over}
 use Rattle.hello_ends.proofs.Numbers.{here}
 use Rattle.hello_entry.specs.Bytes.{run}
+use Rattle.std.specs.Prelude.{Ok, Err}
+use Rattle.numbers.specs.declared.refusals.Refusal.TheVariants.{HelloMalformed}
 
 -- w numbers from the place i on, as x
 pub record Took {A : Type 0} (ns : List ℕ) (i w : ℕ) (x : A) (t : Taken A) : Type 0 where
@@ -23,7 +25,7 @@ pub record Took {A : Type 0} (ns : List ℕ) (i w : ℕ) (x : A) (t : Taken A) :
   pub is : t ≡ record { value = x; rest = drop (i + w) ns }
 
 abbrev pub Plain : {A : Type 0} → Taker A → List ℕ → ℕ → ℕ → A → Type 0
-Plain {A} p ns i w x = (t : Taken A) → i ≤ length ns → p (drop i ns) ≡ got t → Took ns i w x t
+Plain {A} p ns i w x = (t : Taken A) → i ≤ length ns → p (drop i ns) ≡ Ok t → Took ns i w x t
 
 pub took_as : {A : Type 0} (ns : List ℕ) (i w v : ℕ) (x : A) (t : Taken A) → w ≡ v → Took ns i w x t → Took ns i v x t
 took_as ns i w v x t e s = rw (sym e) s
@@ -50,7 +52,7 @@ plain_one ns i t h e = go (leb (i + 1) (length ns)) refl
         record { inside = g; is = sym (got_got _ t (ap take_one (sym (here ns i (omega arith))) ∙ e)) }
     go false f =
         let g = leb-false (i + 1) (length ns) f in
-        refused_got 25 t (ap take_one (sym (none_at ns i (omega arith))) ∙ e)
+        refused_got HelloMalformed t (ap take_one (sym (none_at ns i (omega arith))) ∙ e)
 
 -- one behind the other
 pub plain_then : {A B : Type 0} (p : Taker A) (k : A → Taker B) (ns : List ℕ) (i w v n : ℕ) (x : A) (y : B) → w + v ≡ n → Plain p ns i w x → Plain (k x) ns (i + w) v y → Plain (then p k) ns i n y
@@ -69,16 +71,16 @@ unfolding via
 plain_via p g f ns i w x a t h e =
     let s = then_got (p (drop i ns)) _ t e in
     let u = a s.0 h s.1 in
-    let c = check_got (g s.0.value) 25 _ t s.2 in
+    let c = check_got (g s.0.value) HelloMalformed _ t s.2 in
     record { inside = u.inside; is = sym (got_got _ t c.1) ∙ ap (λ (z : Taken _). record { value = f z.value; rest = z.rest }) u.is }
 
 -- the test was passed
-pub via_good : {A B : Type 0} (p : Taker A) (g : A → Bool) (f : A → B) (ns : List ℕ) (i w : ℕ) (x : A) → Plain p ns i w x → (t : Taken B) → i ≤ length ns → via p g f (drop i ns) ≡ got t → g x ≡ true
+pub via_good : {A B : Type 0} (p : Taker A) (g : A → Bool) (f : A → B) (ns : List ℕ) (i w : ℕ) (x : A) → Plain p ns i w x → (t : Taken B) → i ≤ length ns → via p g f (drop i ns) ≡ Ok t → g x ≡ true
 unfolding via
 via_good p g f ns i w x a t h e =
     let s = then_got (p (drop i ns)) _ t e in
     let u = a s.0 h s.1 in
-    ap (λ (z : Taken _). g z.value) (sym u.is) ∙ (check_got (g s.0.value) 25 _ t s.2).0
+    ap (λ (z : Taken _). g z.value) (sym u.is) ∙ (check_got (g s.0.value) HelloMalformed _ t s.2).0
 
 pub plain_pick : {A : Type 0} (c : Bool) (p q : Taker A) (ns : List ℕ) (i w v : ℕ) (x y : A) → Plain p ns i w x → Plain q ns i v y → Plain (pick c p q) ns i (pick c w v) (pick c x y)
 unfolding pick
@@ -119,15 +121,15 @@ length_run f w b long (suc m) i =
 pub record Good {A : Type 0} (p : Taker A) (ns : List ℕ) (i : ℕ) : Type 0 where
   pub starts : i ≤ length ns
   pub took : Taken A
-  pub is : p (drop i ns) ≡ got took
+  pub is : p (drop i ns) ≡ Ok took
   pub ends : reach p ns i ≡ length ns - length took.rest
 
 pub reach_got : {A : Type 0} (p : Taker A) (ns : List ℕ) (i : ℕ) → reach p ns i ≤ length ns → Good p ns i
 reach_got p ns i h = go (leb i (length ns)) refl
   where
-    found : (z : Result (Taken _)) → p (drop i ns) ≡ z → i ≤ length ns → Good p ns i
-    found (refused m) e g = let r = reach_in p ns i g ∙ ap (end_in ns) e in absurd (omega arith)
-    found (got t) e g = record { starts = g; took = t; is = e; ends = reach_in p ns i g ∙ ap (end_in ns) e }
+    found : (z : Outcome (Taken _)) → p (drop i ns) ≡ z → i ≤ length ns → Good p ns i
+    found (Err m) e g = let r = reach_in p ns i g ∙ ap (end_in ns) e in absurd (omega arith)
+    found (Ok t) e g = record { starts = g; took = t; is = e; ends = reach_in p ns i g ∙ ap (end_in ns) e }
 
     go : (c : Bool) → leb i (length ns) ≡ c → Good p ns i
     go true f = found (p (drop i ns)) refl (leb-true i (length ns) f)

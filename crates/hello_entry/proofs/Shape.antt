@@ -10,7 +10,7 @@ use lib.ListN.{length, drop, get_or, length-drop, length-append}
 use borrow.Author.Tests.{ne_eqb, leb-true}
 use Rattle.numbers.specs.Tests.{pick}
 use Rattle.numbers.specs.Bytes.{bytes_of}
-use Rattle.numbers.specs.Result.{got, check, and_then}
+use Rattle.numbers.specs.Result.{check, and_then}
 use Rattle.numbers.proofs.Answers.{got_got, then_got, check_got}
 use Rattle.numbers.proofs.Bytes.{length-bytes_of}
 use Rattle.hello.specs.Pieces.{Sub}
@@ -19,6 +19,8 @@ use Rattle.hello.specs.Area.{Taken, Taker, taken, take_one, then, take_many, tak
 use Rattle.hello_area.specs.Entries.{via, take_label, label_good, label_bytes, parameters_bytes, take_head, take_item, most_of, take_list, holder_for, take_sub, reach, sub_in, sub_at}
 use Rattle.hello_entry.specs.Bytes.{parameters_at, nickname_at, label_at, record_at, number_at, run}
 use Rattle.hello_entry.proofs.Plain.{Took, Plain, plain_taken, plain_one, plain_then, plain_via, via_good, plain_pick, plain_many, each_run, reach_got}
+use Rattle.std.specs.Prelude.{Ok}
+use Rattle.numbers.specs.declared.refusals.Refusal.TheVariants.{HelloMalformed}
 
 -- ---- the head
 
@@ -95,14 +97,14 @@ pub record Listed (k : ℕ) (ns : List ℕ) (i : ℕ) (t : Taken (List ℕ)) : T
   pub few : get_or ns i 0 ≤ most_of k
   pub took : Took ns i (1 + item_numbers k * get_or ns i 0) (run (item_at k ns) (item_numbers k) (i + 1) (get_or ns i 0)) t
 
-pub list_took : (k : ℕ) (ns : List ℕ) (i : ℕ) (t : Taken (List ℕ)) → i ≤ length ns → take_list k (drop i ns) ≡ got t → Listed k ns i t
+pub list_took : (k : ℕ) (ns : List ℕ) (i : ℕ) (t : Taken (List ℕ)) → i ≤ length ns → take_list k (drop i ns) ≡ Ok t → Listed k ns i t
 unfolding take_list then
 list_took k ns i t h e =
     let m = get_or ns i 0 in
     let w = item_numbers k in
     let a = then_got (take_one (drop i ns)) _ t e in
     let u = plain_one ns i a.0 h a.1 in
-    let b = check_got (leb m (most_of k)) 25 _ t (ap (λ (z : Taken ℕ). check (leb z.value (most_of k)) 25 (and_then (take_many (take_item k) z.value z.rest) λ s. taken (flat_map (λ (b : List ℕ). b) s.value) s.rest)) (sym u.is) ∙ a.2) in
+    let b = check_got (leb m (most_of k)) HelloMalformed _ t (ap (λ (z : Taken ℕ). check (leb z.value (most_of k)) HelloMalformed (and_then (take_many (take_item k) z.value z.rest) λ s. taken (flat_map (λ (b : List ℕ). b) s.value) s.rest)) (sym u.is) ∙ a.2) in
     let c = then_got (take_many (take_item k) m (drop (i + 1) ns)) _ t b.1 in
     let v = plain_many (take_item k) ns w (item_at k ns) (λ j. plain_item k ns j) m (i + 1) c.0 u.inside c.1 in
     let q = v.inside in
@@ -118,7 +120,7 @@ abbrev pub sub_of : ℕ → List ℕ → Sub
 sub_of k v = record { holder = holder_for k; kind = k; value = v }
 
 module _ (k : ℕ) (ns : List ℕ) (i : ℕ) (good : reach (take_sub k) ns i ≤ length ns) where
-  ends_at : (w : ℕ) (s : Sub) (t : Taken Sub) → take_sub k (drop i ns) ≡ got t → reach (take_sub k) ns i ≡ length ns - length t.rest → Took ns i w s t → (i + w ≤ length ns) × ((reach (take_sub k) ns i ≡ i + w) × (sub_at k ns i ≡ s))
+  ends_at : (w : ℕ) (s : Sub) (t : Taken Sub) → take_sub k (drop i ns) ≡ Ok t → reach (take_sub k) ns i ≡ length ns - length t.rest → Took ns i w s t → (i + w ≤ length ns) × ((reach (take_sub k) ns i ≡ i + w) × (sub_at k ns i ≡ s))
   unfolding sub_at sub_in
   ends_at w s t e f u =
       let q = u.inside in
@@ -133,7 +135,7 @@ module _ (k : ℕ) (ns : List ℕ) (i : ℕ) (good : reach (take_sub k) ns i ≤
       let g = reach_got (take_sub k) ns i good in
       ends_at 2 _ g.took g.is g.ends (alone g.took g.starts g.is)
     where
-      alone : (t : Taken Sub) → i ≤ length ns → take_sub k (drop i ns) ≡ got t → Took ns i 2 (sub_of k (parameters_bytes (parameters_at ns i))) t
+      alone : (t : Taken Sub) → i ≤ length ns → take_sub k (drop i ns) ≡ Ok t → Took ns i 2 (sub_of k (parameters_bytes (parameters_at ns i))) t
       alone = rw e (plain_then _ _ ns i 2 0 2 _ _ refl (plain_via take_parameters parameters_good parameters_bytes ns i 2 (parameters_at ns i) (plain_parameters ns i)) (plain_taken ns (i + 2) _))
 
   pub record Entry : Type 0 where
@@ -167,15 +169,15 @@ module _ (k : ℕ) (ns : List ℕ) (i : ℕ) (good : reach (take_sub k) ns i ≤
 
   -- ---- the tests that it passed
 
-  head_got : (t : Taken (List ℕ)) × ((i ≤ length ns) × (take_head k (drop i ns) ≡ got t))
+  head_got : (t : Taken (List ℕ)) × ((i ≤ length ns) × (take_head k (drop i ns) ≡ Ok t))
   unfolding take_sub pick then
   head_got =
       let g = reach_got (take_sub k) ns i good in
       go (eqb k 22) g.took g.starts g.is
     where
       go : (c : Bool) (t : Taken Sub) → i ≤ length ns
-          → pick c (then (take_head k) λ h. taken (sub_of k h)) (then (take_head k) λ h. then (take_list k) λ b. taken (sub_of k (h ++ b))) (drop i ns) ≡ got t
-          → (u : Taken (List ℕ)) × ((i ≤ length ns) × (take_head k (drop i ns) ≡ got u))
+          → pick c (then (take_head k) λ h. taken (sub_of k h)) (then (take_head k) λ h. then (take_list k) λ b. taken (sub_of k (h ++ b))) (drop i ns) ≡ Ok t
+          → (u : Taken (List ℕ)) × ((i ≤ length ns) × (take_head k (drop i ns) ≡ Ok u))
       go true t h e = let a = then_got (take_head k (drop i ns)) _ t e in (a.0, (h, a.1))
       go false t h e = let a = then_got (take_head k (drop i ns)) _ t e in (a.0, (h, a.1))
 

@@ -16,6 +16,9 @@ use Rattle.hello.specs.Reading.{says, items}
 use Rattle.hello_judge.specs.declared.Counts.{Counts}
 use Rattle.hello_judge.specs.Counting.{walked, nothing, counting, sub_counting, tlv_counting, total, past_empty, refusal_for}
 use Rattle.hello_judge.proofs.Laws.{past_same}
+use Rattle.numbers.specs.Result.{finished, check}
+use Rattle.numbers.specs.declared.refusals.Refusal.TheVariants.{HelloMalformed, ParametersMissing}
+use Rattle.std.specs.Prelude.{Err}
 
 walked-append : {S A : Type 0} (f : S → A → S) (s : S) (xs ys : List A) → walked f s (xs ++ ys) ≡ walked f (walked f s xs) ys
 unfolding walked
@@ -84,21 +87,21 @@ tlv_stump c r e = e
 -- ---- the judgement
 
 module _ (c : Counts) where
-  pub refused_malformed : 0 < c.malformed → 25 ≡ refusal_for c
-  unfolding refusal_for pick
+  pub refused_malformed : 0 < c.malformed → Err HelloMalformed ≡ refusal_for c
+  unfolding refusal_for check
   refused_malformed h = rw (le-leb 1 c.malformed h)
 
   module _ (fine : c.malformed ≤ 0) where
-    pub refused_twice : 1 < c.parameters → 25 ≡ refusal_for c
-    unfolding refusal_for pick
+    pub refused_twice : 1 < c.parameters → Err HelloMalformed ≡ refusal_for c
+    unfolding refusal_for check
     refused_twice h = rw (lt-leb 1 c.malformed (omega arith), lt-leb c.parameters 1 h)
 
-    pub refused_missing : c.parameters ≤ 1 → c.parameters < 1 → 26 ≡ refusal_for c
-    unfolding refusal_for pick
+    pub refused_missing : c.parameters ≤ 1 → c.parameters < 1 → Err ParametersMissing ≡ refusal_for c
+    unfolding refusal_for check
     refused_missing g h = rw (lt-leb 1 c.malformed (omega arith), le-leb c.parameters 1 g, lt-leb 1 c.parameters h)
 
-    pub refused_none : c.parameters ≤ 1 → 1 ≤ c.parameters → 0 ≡ refusal_for c
-    unfolding refusal_for pick
+    pub refused_none : c.parameters ≤ 1 → 1 ≤ c.parameters → finished ≡ refusal_for c
+    unfolding refusal_for check
     refused_none g h = rw (lt-leb 1 c.malformed (omega arith), le-leb c.parameters 1 g, le-leb 1 c.parameters h)
 
 -- ---- past empty TLVs

@@ -9,11 +9,13 @@ use lib.Dec.{leb}
 use lib.ListN.{length, length-append}
 use borrow.Author.Tests.{le-leb}
 use Rattle.numbers.specs.Tests.{pick, either, any_of}
-use Rattle.numbers.specs.Result.{got, check}
+use Rattle.numbers.specs.Result.{check, Outcome, finished}
 use Rattle.hello.specs.Contents.{Item, parameters, nicknames, trees, smart_mac, ignored, malformed}
-use Rattle.hello.specs.Reading.{is_malformed, parameters_in, gathered, items, single, understood, hello_read}
+use Rattle.hello.specs.Reading.{is_malformed, parameters_in, gathered, items, single, understood, hello_read, refusal_of}
 use Rattle.hello_judge.specs.declared.Counts.{Counts}
-use Rattle.hello_judge.specs.Counting.{walked, nothing, counting, refusal_for, refusal_of}
+use Rattle.hello_judge.specs.Counting.{walked, nothing, counting, refusal_for}
+use Rattle.std.specs.Prelude.{Ok}
+use Rattle.numbers.specs.declared.refusals.Refusal.TheVariants.{HelloMalformed, ParametersMissing}
 
 walked_adds : {A : Type 0} (f : Counts → ℕ) (h : Item → List A) → ((c : Counts) (i : Item) → f (counting c i) ≡ f c + length (h i)) → (c : Counts) (is : List Item) → f (walked counting c is) ≡ f c + length (flat_map h is)
 unfolding walked flat_map
@@ -64,14 +66,14 @@ any_marks (smart_mac m ∷ is) = any_marks is
 any_marks (ignored ∷ is) = any_marks is
 any_marks (malformed ∷ is) = sym (le-leb 1 (length (0 ∷ flat_map marks is)) (omega arith))
 
-by_tests : {A : Type 0} (b a d : Bool) (x : A) → pick b 25 (pick a (pick d 0 26) 25) ≡ refusal_of (check (not b) 25 (check a 25 (check d 26 (got x))))
+by_tests : {A : Type 0} (b a d : Bool) (x : A) → check (not b) HelloMalformed (check a HelloMalformed (check d ParametersMissing finished)) ≡ refusal_of (check (not b) HelloMalformed (check a HelloMalformed (check d ParametersMissing (Ok x))))
 unfolding pick check
 by_tests true a d x = refl
 by_tests false true true x = refl
 by_tests false true false x = refl
 by_tests false false d x = refl
 
-pub judged : (l : List ℕ) (c : Counts) → c ≡ walked counting nothing (items l) → (j : ℕ) → j ≡ refusal_for c → j ≡ refusal_of (hello_read l)
+pub judged : (l : List ℕ) (c : Counts) → c ≡ walked counting nothing (items l) → (j : Outcome (Unit {0})) → j ≡ refusal_for c → j ≡ refusal_of (hello_read l)
 unfolding refusal_for hello_read understood single
 judged l c e j f =
     let m : c.malformed ≡ length (flat_map marks (items l)) = ap (λ (x : Counts). x.malformed) e ∙ from_nothing (λ x. x.malformed) marks malformed_add refl (items l) in

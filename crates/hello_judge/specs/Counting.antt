@@ -1,14 +1,15 @@
 -- What the pieces of a payload add up to: malformed ones, and for each type of sub-TLV how many there are and how many numbers they bring
 -- to the contents area.
 -- Assumes nothing.
-use Rattle.std.specs.Prelude.{ℕ, ◌+◌, ◌*◌, ◌/◌, ◌%◌, List, [], ◌∷◌, map, leb, eqb, length}
+use Rattle.std.specs.Prelude.{ℕ, ◌+◌, ◌*◌, ◌/◌, ◌%◌, List, [], ◌∷◌, map, leb, eqb, length, not}
 use Rattle.numbers.specs.Tests.{pick, either}
-use Rattle.numbers.specs.Result.{Result, refused, got}
+use Rattle.numbers.specs.Result.{Outcome, check, finished}
 use Rattle.hello.specs.Tlvs.{Tlv, tlv, stump}
 use Rattle.hello.specs.Pieces.{capability, geninfo, inside, tlv_pieces}
 use Rattle.hello.specs.Contents.{Item, parameters, nicknames, trees, smart_mac, ignored, malformed}
-use Rattle.hello.specs.Reading.{hello_malformed, parameters_missing, says}
+use Rattle.hello.specs.Reading.{says}
 use Rattle.hello_judge.specs.declared.Counts.{Counts}
+use Rattle.numbers.specs.declared.refusals.Refusal.TheVariants.{HelloMalformed, ParametersMissing}
 
 -- one element after the other, from a state on
 unfoldable pub walked : {S A : Type 0} → (S → A → S) → S → List A → S
@@ -66,14 +67,13 @@ past_empty (tlv k [] ∷ ts) = pick (either (eqb k capability) (eqb k geninfo)) 
 past_empty (tlv k (b ∷ v) ∷ ts) = tlv k (b ∷ v) ∷ ts
 past_empty (stump ∷ ts) = stump ∷ ts
 
--- the number that reading is refused with, or 0: 25 a malformed piece, 25 Smart-Parameters twice, 26 none
-unfoldable pub refusal_for : Counts → ℕ
-refusal_for c = pick (leb 1 c.malformed) hello_malformed (pick (leb c.parameters 1) (pick (leb 1 c.parameters) 0 parameters_missing) hello_malformed)
-
--- the number of a refusal, or 0
-abbrev pub refusal_of : {A : Type 0} → Result A → ℕ
-refusal_of (refused n) = n
-refusal_of (got x) = 0
+-- what reading is refused with: 25 a malformed piece, 25 Smart-Parameters twice, 26 none
+unfoldable pub refusal_for : Counts → Outcome (Unit {0})
+refusal_for c =
+    check (not (leb 1 c.malformed)) HelloMalformed
+    (check (leb c.parameters 1) HelloMalformed
+    (check (leb 1 c.parameters) ParametersMissing
+    finished))
 
 abbrev pub head_from : ℕ → ℕ
 head_from f = 3 + (4 * (f / 4 % 2) + 16 * (f / 8 % 2))

@@ -10,19 +10,17 @@ use lib.ListN.{length, length-append}
 use borrow.Author.Tests.{le-leb, lt-leb, leb-true, leb-false}
 use Rattle.numbers.specs.Tests.{any_of}
 use Rattle.numbers.specs.Bytes.{laid}
-use Rattle.numbers.specs.Result.{Result, refused, got, check, and_then, settled}
-use Rattle.numbers.specs.Refusals.{area_short}
+use Rattle.numbers.specs.Result.{Outcome, check, and_then, settled, finished}
 use Rattle.numbers.specs.After.{on_area}
 use Rattle.convert.specs.Compaction.{written}
 use Rattle.frame_copy.specs.Areas.{pasted}
 use Rattle.frame_copy.proofs.Copying.{paste_next, paste_laid}
 use Rattle.hello.specs.Contents.{Contents, Item}
-use Rattle.hello.specs.Reading.{is_malformed, parameters_in, gathered, items, single, understood, hello_read}
+use Rattle.hello.specs.Reading.{is_malformed, parameters_in, gathered, items, single, understood, hello_read, refusal_of}
 use Rattle.hello.specs.Area.{area_of}
 use Rattle.hello.specs.Calls.{area_read, answered, read_call}
-use Rattle.hello.specs.declared.HelloAnswer.TheVariants.{Refused, Written}
 use Rattle.hello_judge.specs.declared.Counts.{Counts}
-use Rattle.hello_judge.specs.Counting.{walked, nothing, counting, refusal_for, refusal_of}
+use Rattle.hello_judge.specs.Counting.{walked, nothing, counting, refusal_for}
 use Rattle.hello_judge.proofs.Sums.{judged}
 use Rattle.hello_count.specs.Sections.{brought, joined, section}
 use Rattle.hello_count.proofs.Sections.{sections, numbers_22, numbers_6, numbers_8, numbers_23}
@@ -31,6 +29,10 @@ use Rattle.hello_words.proofs.Words.{length-words, words_append}
 use Rattle.hello_fill.specs.Filling.{section_words}
 use Rattle.hello_fill.proofs.Apart.{length-pasted, paste_apart}
 use Rattle.hello_read.specs.Sections.{all_words}
+use Rattle.std.specs.Prelude.{Ok, Err}
+use Rattle.numbers.specs.declared.refusals.Refusal.TheVariants.{AreaShort, HelloMalformed, ParametersMissing}
+use Rattle.numbers.specs.declared.refusals.Refusal.{Refusal}
+use Rattle.numbers.proofs.Answers.{refused_got}
 
 -- ---- whether they fit
 
@@ -136,46 +138,46 @@ module _ (l : List ℕ) (c : Counts) (ec : c ≡ walked counting nothing (items 
 
 -- ---- the call
 
-refused_call : (r : Result Contents) (out : List ℕ) (j : ℕ) → j ≡ refusal_of r → (j ≡ 0 → ⊥) → on_area (Refused j) out ≡ answered (and_then r λ c. got (area_of c)) out
+refused_call : (r : Outcome Contents) (out : List ℕ) (j : Outcome (Unit {0})) (n : Refusal) → j ≡ refusal_of r → j ≡ Err n → on_area (Err n) out ≡ answered (and_then r λ c. Ok (area_of c)) out
 unfolding answered and_then settled
-refused_call (refused n) out j e d = rw e
-refused_call (got c) out j e d = absurd (d e)
+refused_call (Err m) out j n e d = let same : n ≡ m = cc in rw same
+refused_call (Ok c) out j n e d = refused_got n _ (sym d ∙ e)
 
-pub refused_way : (l out : List ℕ) (c : Counts) → c ≡ walked counting nothing (items l) → (j : ℕ) → j ≡ refusal_for c → (j ≡ 0 → ⊥) → on_area (Refused j) out ≡ read_call l out
+pub refused_way : (l out : List ℕ) (c : Counts) → c ≡ walked counting nothing (items l) → (j : Outcome (Unit {0})) → j ≡ refusal_for c → (n : Refusal) → j ≡ Err n → on_area (Err n) out ≡ read_call l out
 unfolding read_call area_read
-refused_way l out c ec j e d = refused_call (hello_read l) out j (judged l c ec j e) d
+refused_way l out c ec j e n d = refused_call (hello_read l) out j n (judged l c ec j e) d
 
-single_got : (a b : Bool) (c : Contents) → refusal_of (check a 25 (check b 26 (got c))) ≡ 0 → check a 25 (check b 26 (got c)) ≡ got c
+single_got : (a b : Bool) (c : Contents) → refusal_of (check a HelloMalformed (check b ParametersMissing (Ok c))) ≡ finished → check a HelloMalformed (check b ParametersMissing (Ok c)) ≡ Ok c
 unfolding check
 single_got true true c e = refl
-single_got true false c e = absurd (omega arith)
-single_got false b c e = absurd (omega arith)
+single_got true false c e = refused_got _ _ e
+single_got false b c e = refused_got _ _ e
 
-understood_got : (a b d : Bool) (c : Contents) → refusal_of (check a 25 (check b 25 (check d 26 (got c)))) ≡ 0 → check a 25 (check b 25 (check d 26 (got c))) ≡ got c
+understood_got : (a b d : Bool) (c : Contents) → refusal_of (check a HelloMalformed (check b HelloMalformed (check d ParametersMissing (Ok c)))) ≡ finished → check a HelloMalformed (check b HelloMalformed (check d ParametersMissing (Ok c))) ≡ Ok c
 unfolding check
 understood_got true b d c e = single_got b d c e
-understood_got false b d c e = absurd (omega arith)
+understood_got false b d c e = refused_got _ _ e
 
-read_got : (l : List ℕ) → refusal_of (hello_read l) ≡ 0 → hello_read l ≡ got (gathered (items l))
+read_got : (l : List ℕ) → refusal_of (hello_read l) ≡ finished → hello_read l ≡ Ok (gathered (items l))
 unfolding hello_read understood single
 read_got l e = understood_got (not (any_of is_malformed (items l))) (leb (length (flat_map parameters_in (items l))) 1) (leb 1 (length (flat_map parameters_in (items l)))) (gathered (items l)) e
 
-call_is : (l out : List ℕ) (j : ℕ) → j ≡ refusal_of (hello_read l) → j ≡ 0 → settled (λ n. on_area (Refused n) out) (written Written (all_words (items l)) out) ≡ read_call l out
+call_is : (l out : List ℕ) (j : Outcome (Unit {0})) → j ≡ refusal_of (hello_read l) → j ≡ finished → settled (λ n. on_area (Err n) out) (written Ok (all_words (items l)) out) ≡ read_call l out
 unfolding read_call area_read answered and_then
 call_is l out j e z = sym (rw (read_got l (sym e ∙ z), contents_are (items l)))
 
-put_short : (b out : List ℕ) → length out < length b → on_area (Refused area_short) out ≡ settled (λ n. on_area (Refused n) out) (written Written b out)
+put_short : (b out : List ℕ) → length out < length b → on_area (Err AreaShort) out ≡ settled (λ n. on_area (Err n) out) (written Ok b out)
 unfolding written settled check
 put_short b out h = rw (lt-leb (length b) (length out) h)
 
-put_fits : (b out : List ℕ) → length b ≤ length out → on_area (Written (length b)) (laid b out) ≡ settled (λ n. on_area (Refused n) out) (written Written b out)
+put_fits : (b out : List ℕ) → length b ≤ length out → on_area (Ok (length b)) (laid b out) ≡ settled (λ n. on_area (Err n) out) (written Ok b out)
 unfolding written settled check
 put_fits b out h = rw (le-leb (length b) (length out) h)
 
-module _ (l out : List ℕ) (c : Counts) (ec : c ≡ walked counting nothing (items l)) (j : ℕ) (ej : j ≡ refusal_for c) (good : j ≡ 0)
+module _ (l out : List ℕ) (c : Counts) (ec : c ≡ walked counting nothing (items l)) (j : Outcome (Unit {0})) (ej : j ≡ refusal_for c) (good : j ≡ finished)
     (r : Bool) (er : r ≡ leb (4 + (c.parameter_numbers + (c.nickname_numbers + (c.tree_numbers + c.mac_numbers)))) (length out / 8)) where
-  pub short_way : r ≡ false → on_area (Refused area_short) out ≡ read_call l out
+  pub short_way : r ≡ false → on_area (Err AreaShort) out ≡ read_call l out
   short_way e = put_short (all_words (items l)) out (no_room l c ec out r er e) ∙ call_is l out j (judged l c ec j ej) good
 
-  pub written_way : r ≡ true → (n : ℕ) (u : List ℕ) → n ≡ length (all_words (items l)) → u ≡ laid (all_words (items l)) out → on_area (Written n) u ≡ read_call l out
+  pub written_way : r ≡ true → (n : ℕ) (u : List ℕ) → n ≡ length (all_words (items l)) → u ≡ laid (all_words (items l)) out → on_area (Ok n) u ≡ read_call l out
   written_way e n u en eu = rw (en, eu) (put_fits (all_words (items l)) out (fit_room l c ec out r er e) ∙ call_is l out j (judged l c ec j ej) good)

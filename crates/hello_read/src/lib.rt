@@ -10,9 +10,8 @@ ghost use Rattle.hello.specs.Calls.{read_call};
 ghost use Rattle.hello_judge.specs.Counting.{walked, nothing, counting};
 ghost use Rattle.hello_read.specs.Sections.{all_words};
 
-use hello::HelloAnswer;
 use hello_judge::Counts;
-use numbers::refusals::AREA_SHORT;
+use numbers::refusals::Refusal;
 
 // Whether the numbers of four sections fit, with the count of each.
 fn sections_fit(room: usize, a: usize, b: usize, c: usize, d: usize) -> bool
@@ -50,14 +49,11 @@ fn put_sections(l: &[u8], c: Counts, out: &mut [u8]) -> usize
 }
 
 // Reads a Smart-Hello into a contents area.
-pub fn hello_read(payload: &[u8], contents: &mut [u8]) -> HelloAnswer
+pub fn hello_read(payload: &[u8], contents: &mut [u8]) -> Result<usize, Refusal>
     ensures { on_area result contents.new ≡ read_call payload.now contents.old }
 {
     let c = hello_judge::count(payload);
-    let j = hello_judge::refusal(c);
-    if j != 0 {
-        return HelloAnswer::Refused(j);
-    }
+    hello_judge::refusal(c)?;
     let room = contents.len() / 8;
     if !sections_fit(
         room,
@@ -66,8 +62,8 @@ pub fn hello_read(payload: &[u8], contents: &mut [u8]) -> HelloAnswer
         c.tree_numbers,
         c.mac_numbers,
     ) {
-        return HelloAnswer::Refused(AREA_SHORT);
+        return Err(Refusal::AreaShort);
     }
     let e = put_sections(payload, c, contents);
-    HelloAnswer::Written(e)
+    Ok(e)
 }

@@ -10,10 +10,9 @@ use borrow.Author.Tests.{leb-true, leb-false}
 use Rattle.hello.specs.Pieces.{Sub}
 use Rattle.hello.specs.Writing.{sub_bytes}
 use Rattle.hello.specs.Area.{take_many}
-use Rattle.hello.specs.Calls.{area_written}
 use Rattle.hello_area.specs.Entries.{numbers_in, holder_for, take_sub, take_subs, reach, sub_at, subs_at}
 use Rattle.hello_area.proofs.Places.{reach_none}
-use Rattle.hello_ends.specs.Below.{entry_good, refusal_of}
+use Rattle.hello_ends.specs.Below.{entry_good}
 use Rattle.hello_ends.proofs.Shapes.{suffix_sub, many_next, many_over, section_none, section_on, subs_end}
 use Rattle.hello_put.specs.declared.Cursor.{Cursor}
 use Rattle.hello_put.specs.Placing.{unopened, stepped, stepped_all}
@@ -23,6 +22,10 @@ use Rattle.hello_write.specs.declared.Walk.{Walk}
 use Rattle.hello_write.specs.Sections.{section_at, section_end, subs_in, at_first, Follows, SizeIs}
 use Rattle.hello_write.proofs.Taking.{within_22, within_6, within_8}
 use Rattle.hello_write.proofs.Walking.{entry-stepped, entry_most, entries_next, entries_done}
+use Rattle.numbers.specs.Result.{Outcome}
+use Rattle.std.specs.Prelude.{Ok, Err}
+use Rattle.numbers.specs.declared.refusals.Refusal.{Refusal}
+use Rattle.numbers.proofs.Answers.{refused_got}
 
 pub past_follows : (ns : List ℕ) (n : ℕ) → n ≡ length ns → (c : Cursor) (ss : List Sub) (r : Walk) → r.next ≡ n + 1 → Follows ns c ss r
 past_follows ns n en c ss r e = record { is = λ h. absurd (omega arith) }
@@ -112,17 +115,11 @@ module _ (ns : List ℕ) (z : Walk) (ez : z ≡ at_first) (a b c d : Walk) (ea :
 
 -- ---- the judgement
 
-pub as_refused : (area : List ℕ) (x r : ℕ) → r ≡ x → x ≡ refusal_of (area_written area) → r ≡ refusal_of (area_written area)
-as_refused area x r e f = e ∙ f
+pub size_refused : (ns : List ℕ) (m : Refusal) → SizeIs ns (Err m)
+size_refused ns m = record { is = λ n z. refused_got m n z }
 
-pub size_25 : (ns : List ℕ) (r s : ℕ) → r ≡ 25 → SizeIs ns r s
-size_25 ns r s e = record { is = λ z. absurd (omega arith) }
+pub size_is_one : (ns : List ℕ) (w : Walk) (n : ℕ) → n ≡ length ns → w.next ≡ n → Follows ns unopened (subs_in ns) w → SizeIs ns (Ok w.cursor.at)
+size_is_one ns w n en e f = record { is = λ k z. let same : k ≡ w.cursor.at = cc in same ∙ ap (λ (c : Cursor). c.at) (f.is (omega arith)) }
 
-pub size_26 : (ns : List ℕ) (r s : ℕ) → r ≡ 26 → SizeIs ns r s
-size_26 ns r s e = record { is = λ z. absurd (omega arith) }
-
-pub size_is_one : (ns : List ℕ) (w : Walk) (n : ℕ) → n ≡ length ns → w.next ≡ n → Follows ns unopened (subs_in ns) w → SizeIs ns 0 w.cursor.at
-size_is_one ns w n en e f = record { is = λ z. ap (λ (c : Cursor). c.at) (f.is (omega arith)) }
-
-pub size_known : (ns : List ℕ) (r s : ℕ) → SizeIs ns r s → r ≡ 0 → s ≡ (stepped_all unopened (subs_in ns)).at
-size_known ns r s i e = i.is e
+pub size_known : (ns : List ℕ) (r : Outcome ℕ) → SizeIs ns r → (n : ℕ) → r ≡ Ok n → n ≡ (stepped_all unopened (subs_in ns)).at
+size_known ns r i n e = i.is n e

@@ -1,12 +1,13 @@
 -- A contents area by its sections: their sub-TLVs, and the walk over them.
 -- Assumes nothing.
-use Rattle.std.specs.Prelude.{ℕ, ◌+◌, ◌≤◌, List, ◌++◌, ◌≡◌, length, get_or}
+use Rattle.std.specs.Prelude.{ℕ, ◌+◌, ◌≤◌, List, ◌++◌, ◌≡◌, length, get_or, Ok}
 use Rattle.hello.specs.Pieces.{Sub, parameters_type, smart_mac_type, nickname_type, trees_type}
 use Rattle.hello.specs.Area.{take_counted}
 use Rattle.hello_area.specs.Entries.{take_sub, reach, subs_at}
 use Rattle.hello_put.specs.declared.Cursor.{Cursor}
 use Rattle.hello_put.specs.Placing.{unopened, stepped_all}
 use Rattle.hello_write.specs.declared.Walk.{Walk}
+use Rattle.numbers.specs.Result.{Outcome}
 
 -- the sub-TLVs of the section of a type whose count is the number i, and where the section ends
 unfoldable pub section_at : ℕ → List ℕ → ℕ → List Sub
@@ -39,5 +40,5 @@ pub record Follows (ns : List ℕ) (c : Cursor) (ss : List Sub) (r : Walk) : Typ
   pub is : r.next ≤ length ns → r.cursor ≡ stepped_all c ss
 
 -- where an area is not refused, its payload has the size
-pub record SizeIs (ns : List ℕ) (r size : ℕ) : Type 0 where
-  pub is : r ≡ 0 → size ≡ (stepped_all unopened (subs_in ns)).at
+pub record SizeIs (ns : List ℕ) (r : Outcome ℕ) : Type 0 where
+  pub is : (n : ℕ) → r ≡ Ok n → n ≡ (stepped_all unopened (subs_in ns)).at

@@ -9,14 +9,14 @@ ghost use Rattle.hello.specs.Writing.{sub_bytes};
 ghost use Rattle.hello.specs.Area.{take_many};
 ghost use Rattle.hello.specs.Calls.{area_written, write_call};
 ghost use Rattle.hello_area.specs.Entries.{numbers_in, holder_for, take_sub, take_subs, reach, sub_at, subs_at};
-ghost use Rattle.hello_ends.specs.Below.{entry_good, refusal_of};
+ghost use Rattle.hello_ends.specs.Below.{entry_good};
 ghost use Rattle.hello_entry.specs.Kinds.{has_section, count_at};
 ghost use Rattle.hello_put.specs.Placing.{unopened, stepped_by, placed, stepped_all, placed_all};
+ghost use Rattle.hello.specs.Reading.{refusal_of};
 ghost use Rattle.hello_write.specs.Sections.{section_at, section_end, subs_in, front_in, at_first, walked, Follows, SizeIs};
 
-use hello::{HELLO_MALFORMED, HelloAnswer, PARAMETERS_MISSING};
 use hello_put::Cursor;
-use numbers::refusals::AREA_SHORT;
+use numbers::refusals::Refusal;
 
 // The types of the sections.
 const PARAMETERS: u8 = 22;
@@ -37,13 +37,6 @@ const GENINFO: u64 = 251;
 pub struct Walk {
     pub cursor: Cursor,
     pub next: usize,
-}
-
-// What a contents area is refused with, or 0, and the size of its payload.
-#[derive(Clone, Copy)]
-pub struct Judgement {
-    pub refusal: u8,
-    pub size: usize,
 }
 
 // The TLV that holds sub-TLVs of a type.
@@ -147,37 +140,25 @@ fn sections_size(area: &[u8]) -> Walk
     section_size::<SMART_MAC>(area, c)
 }
 
-// The number that writing an area is refused with before its room is judged, or 0, and how long the payload is.
-fn judge(area: &[u8]) -> Judgement
-    ensures { (result.refusal ≡ refusal_of (area_written area.now)) × SizeIs (numbers_in area.now) result.refusal result.size }
+// How long the payload of an area is, or what writing it is refused with before its room is judged.
+fn judge(area: &[u8]) -> Result<usize, Refusal>
+    ensures { (refusal_of result ≡ refusal_of (area_written area.now)) × SizeIs (numbers_in area.now) result }
 {
     if area.len() % 8 != 0 {
-        return refused(HELLO_MALFORMED);
+        return Err(Refusal::HelloMalformed);
     }
     let w = sections_size(area);
     if w.next != hello_ends::size(area) {
-        return refused(HELLO_MALFORMED);
+        return Err(Refusal::HelloMalformed);
     }
     let p = hello_ends::number(area, 0);
     if 1 < p {
-        return refused(HELLO_MALFORMED);
+        return Err(Refusal::HelloMalformed);
     }
     if p < 1 {
-        return refused(PARAMETERS_MISSING);
+        return Err(Refusal::ParametersMissing);
     }
-    Judgement {
-        refusal: 0,
-        size: w.cursor.at,
-    }
-}
-
-fn refused(n: u8) -> Judgement
-    ensures { result.refusal ≡ n }
-{
-    Judgement {
-        refusal: n,
-        size: 0,
-    }
+    Ok(w.cursor.at)
 }
 
 // Puts the sub-TLV of an entry into an area.
@@ -256,16 +237,13 @@ fn put_payload(area: &[u8], out: &mut [u8])
 }
 
 // Writes the Smart-Hello of a contents area.
-pub fn hello_write(contents: &[u8], out: &mut [u8]) -> HelloAnswer
+pub fn hello_write(contents: &[u8], out: &mut [u8]) -> Result<usize, Refusal>
     ensures { on_area result out.new ≡ write_call contents.now out.old }
 {
-    let j = judge(contents);
-    if j.refusal != 0 {
-        return HelloAnswer::Refused(j.refusal);
-    }
-    if out.len() < j.size {
-        return HelloAnswer::Refused(AREA_SHORT);
+    let n = judge(contents)?;
+    if out.len() < n {
+        return Err(Refusal::AreaShort);
     }
     put_payload(contents, out);
-    HelloAnswer::Written(j.size)
+    Ok(n)
 }

@@ -6,7 +6,6 @@ use mathlib.Core.List.{List}
 use mathlib.Core.Path.{◌≡◌, ap, ◌∙◌}
 use lib.ListN.{length, drop}
 use borrow.Author.Tests.{leb-true}
-use Rattle.numbers.specs.Result.{got}
 use Rattle.numbers.proofs.Answers.{check_got, then_got, got_got}
 use Rattle.frame.specs.Labels.{is_tag}
 use Rattle.frame.specs.declared.Settings.{Settings}
@@ -16,6 +15,7 @@ use Rattle.port_map.specs.Maps.{pairs_in, map_good, label_for}
 use Rattle.port_map.specs.declared.CampusLabel.{CampusLabel}
 use Rattle.ingress.specs.Ingress.{Native, given_good, hops_good, native_of, native_parsed, general_for, judged, ingressing, ingressed}
 use Rattle.ingress.specs.declared.Given.{Given}
+use Rattle.std.specs.Prelude.{Ok}
 
 pub record NativeIs (f : List ℕ) (n : Native) : Type 0 where
   pub tagged : is_tag (drop 12 f) ≡ true
@@ -23,7 +23,7 @@ pub record NativeIs (f : List ℕ) (n : Native) : Type 0 where
   pub some : 2 ≤ length (drop 16 f)
   pub same : native_of f ≡ n
 
-pub native_is : (f : List ℕ) (n : Native) → native_parsed f ≡ got n → NativeIs f n
+pub native_is : (f : List ℕ) (n : Native) → native_parsed f ≡ Ok n → NativeIs f n
 unfolding native_parsed
 native_is f n q =
     let a = check_got _ _ _ _ q in
@@ -39,10 +39,10 @@ pub record Accepted (m : List ℕ) (u : Given) (f g : List ℕ) : Type 0 where
   pub native_facts : NativeIs f native
   pub hops : hops_good u ≡ true
   pub label : CampusLabel
-  pub found : label_for (pairs_in m) native.vlan ≡ got label
+  pub found : label_for (pairs_in m) native.vlan ≡ Ok label
   pub bytes : general_for u native label ≡ g
 
-pub accepted : (s : Settings) (m : List ℕ) (u : Given) (f g area : List ℕ) → converted (ingressed s m u f area) ≡ got g → Accepted m u f g
+pub accepted : (s : Settings) (m : List ℕ) (u : Given) (f g area : List ℕ) → converted (ingressed s m u f area) ≡ Ok g → Accepted m u f g
 unfolding ingressed ingressing judged
 accepted s m u f g area e =
     let q = wrote (ingressing s m u f) area g e in
@@ -59,4 +59,4 @@ accepted s m u f g area e =
     let y = check_got _ _ _ _ x.1 in
     let same : k ≡ n = got_got _ _ y.1 in
     let (l, lq, z) = then_got _ _ _ r in
-    record { given = b.0; map-good = c.0; native = n; native_facts = native_is f n (kq ∙ ap got same); hops = j.0; label = l; found = lq; bytes = got_got _ _ z }
+    record { given = b.0; map-good = c.0; native = n; native_facts = native_is f n (kq ∙ ap Ok same); hops = j.0; label = l; found = lq; bytes = got_got _ _ z }

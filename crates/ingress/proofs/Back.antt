@@ -10,7 +10,6 @@ use lib.Seq.{drop-drop, take-add, length-take-le}
 use borrow.Author.Tests.{le-leb, eq-eqb}
 use Rattle.numbers.specs.Tests.{both}
 use Rattle.numbers.specs.Bytes.{AreBytes, num, bytes_of, starts_with}
-use Rattle.numbers.specs.Result.{got}
 use Rattle.numbers.proofs.Truth.{pick_false}
 use Rattle.numbers.proofs.Answers.{check_pass}
 use Rattle.numbers.proofs.Bytes.{length-bytes_of, num_same, num_part_lt}
@@ -27,6 +26,7 @@ use Rattle.port_map.specs.Maps.{campus_label, port_vlan}
 use Rattle.port_map.specs.declared.CampusLabel.{CampusLabel}
 use Rattle.receive.specs.Delivering.{fine_in, priority_at, tag_word, tagged_bytes}
 use Rattle.ingress.specs.Claims.{without_dei}
+use Rattle.std.specs.Prelude.{Ok}
 
 -- ---- the label
 
@@ -69,7 +69,7 @@ module _ (q : ℕ) (l : CampusLabel) where
     unfolding fine_label bytes_of starts_with both
     second_fine = refl
 
-    label_long : label_length (fine_label q l ++ r) ≡ got 8
+    label_long : label_length (fine_label q l ++ r) ≡ Ok 8
     unfolding label_length
     label_long =
         let n = length-append (fine_label q l) r in
@@ -100,7 +100,7 @@ module _ (u : Given) (m : u.multicast ≤ 1) (h : u.hops ≤ 63) where
   word_is : num (bytes_of 2 (u.multicast * 2 ^ 11 + u.hops)) ≡ u.multicast * 2 ^ 11 + u.hops
   word_is = num_same 2 _ (omega arith)
 
-  header_long : (d : Front) → agrees d (multicast_of (header_of u)) ≡ true → (r : List ℕ) → header_length d (header_of u ++ r) ≡ got 6
+  header_long : (d : Front) → agrees d (multicast_of (header_of u)) ≡ true → (r : List ℕ) → header_length d (header_of u ++ r) ≡ Ok 6
   unfolding header_length
   header_long d a r =
       let n = length-append (header_of u) r in
@@ -112,7 +112,7 @@ module _ (u : Given) (m : u.multicast ≤ 1) (h : u.hops ≤ 63) where
       ∙ check_pass _ _ _ (eq-eqb (version_of (header_of u ++ r)) 0 (omega arith))
       ∙ check_pass _ _ _ (ap (λ (k : ℕ). agrees d (k / 2 ^ 11 % 2 ^ 1)) s ∙ a)
       ∙ check_pass _ _ _ (le-leb (header_bytes (header_of u ++ r)) (length (header_of u ++ r)) (omega arith))
-      ∙ ap (λ (k : ℕ). got (6 + 4 * k)) z
+      ∙ ap (λ (k : ℕ). Ok (6 + 4 * k)) z
 
   -- ---- the frame
 
@@ -122,13 +122,13 @@ module _ (u : Given) (m : u.multicast ≤ 1) (h : u.hops ≤ 63) where
     fields_good = record {
       dst = six-d;
       src = six-s;
-      label = λ r. label_long n.priority l r ∙ ap got (sym (eight n.priority l));
-      header = λ d a r. header_long d a r ∙ ap got (sym six);
+      label = λ r. label_long n.priority l r ∙ ap Ok (sym (eight n.priority l));
+      header = λ d a r. header_long d a r ∙ ap Ok (sym six);
       content = some;
     }
 
     -- a General frame of ingress is read as what it was made of, by any port that reads it as General
-    pub ingress_reads : (d : Front) → agrees d (multicast_of (fields_for u n l).header) ≡ true → general d (general_for u n l) ≡ got (fields_for u n l)
+    pub ingress_reads : (d : Front) → agrees d (multicast_of (fields_for u n l).header) ≡ true → general d (general_for u n l) ≡ Ok (fields_for u n l)
     unfolding general_for general_tail
     ingress_reads d a =
         let x = length-append (bytes_of address_bytes u.destination) (bytes_of address_bytes u.source) in

@@ -9,7 +9,6 @@ use mathlib.Core.Path.{◌≡◌, refl, sym, ap, ◌∙◌}
 use lib.ListN.{length, drop}
 use Rattle.numbers.specs.Tests.{both}
 use Rattle.numbers.specs.Bytes.{bytes_of, starts_with}
-use Rattle.numbers.specs.Result.{got}
 use Rattle.numbers.proofs.Answers.{check_got, pick_got, then_got, got_got, refused_got}
 use Rattle.numbers.proofs.Truth.{false_true}
 use Rattle.frame.specs.Front.{Front, unicast, multicast, refused_front, inner, address_in, front_of}
@@ -25,6 +24,7 @@ use Rattle.port_map.specs.declared.CampusLabel.{CampusLabel}
 use Rattle.ingress.specs.Ingress.{Native, header_of, fields_for, general_for}
 use Rattle.ingress.specs.declared.Given.{Given}
 use Rattle.ingress.proofs.Back.{ingress_reads}
+use Rattle.std.specs.Prelude.{Ok}
 
 module _ (u : Given) (m : u.multicast ≤ 1) (h : u.hops ≤ 63) (n : Native) (l : CampusLabel) (six-d : length n.dst ≡ 6) (six-s : length n.src ≡ 6)
     (some : 2 ≤ length n.content) where
@@ -43,7 +43,7 @@ module _ (u : Given) (m : u.multicast ≤ 1) (h : u.hops ≤ 63) (n : Native) (l
   unfolding general_for general_tail bytes_of starts_with both
   no_tag = refl
 
-  no_label : (k : ℕ) → label_length (drop 6 (drop 6 g)) ≡ got k → false ≡ true
+  no_label : (k : ℕ) → label_length (drop 6 (drop 6 g)) ≡ Ok k → false ≡ true
   unfolding label_length general_for general_tail bytes_of starts_with both
   no_label k q =
       let a = check_got _ _ _ _ q in
@@ -56,7 +56,7 @@ module _ (u : Given) (m : u.multicast ≤ 1) (h : u.hops ≤ 63) (n : Native) (l
   unfolding header_of fields_for bytes_of
   same_word = refl
 
-  outer_fourteen : (o : ℕ) → outer_length g ≡ got o → o ≡ 14
+  outer_fourteen : (o : ℕ) → outer_length g ≡ Ok o → o ≡ 14
   unfolding outer_length
   outer_fourteen o q =
       let a = check_got _ _ _ _ q in
@@ -65,7 +65,7 @@ module _ (u : Given) (m : u.multicast ≤ 1) (h : u.hops ≤ 63) (n : Native) (l
       (λ v. sym (got_got _ _ (check_got _ _ _ _ v.1).1))
       (pick_got _ _ _ _ a.1)
 
-  as_general : (d : Front) (p : Fields) → general d g ≡ got p → fields_for u n l ≡ p
+  as_general : (d : Front) (p : Fields) → general d g ≡ Ok p → fields_for u n l ≡ p
   unfolding general general_after
   as_general d p q =
       let (o, oq, r) = then_got _ _ _ q in
@@ -75,7 +75,7 @@ module _ (u : Given) (m : u.multicast ≤ 1) (h : u.hops ≤ 63) (n : Native) (l
       let a : agrees d (multicast_of (fields_for u n l).header) ≡ true = ap (agrees d) (sym (ap multicast_of (ap (λ (x : ℕ). drop x g) e ∙ behind) ∙ same_word)) ∙ i.multicast in
       got_got _ _ (sym (ingress_reads u m h n l six-d six-s some d a) ∙ q)
 
-  by_front_lem : (on : Bool) (d : Front) (p : Fields) → by_front on d g ≡ got p → fields_for u n l ≡ p
+  by_front_lem : (on : Bool) (d : Front) (p : Fields) → by_front on d g ≡ Ok p → fields_for u n l ≡ p
   unfolding by_front compact
   by_front_lem on unicast p q = as_general unicast p q
   by_front_lem on multicast p q = as_general multicast p q
@@ -90,6 +90,6 @@ module _ (u : Given) (m : u.multicast ≤ 1) (h : u.hops ≤ 63) (n : Native) (l
       (λ v. refused_got _ p v.1)
       (pick_got _ _ _ _ q)
 
-  pub reads_only : (s : Settings) (p : Fields) → parsed s g ≡ got p → fields_for u n l ≡ p
+  pub reads_only : (s : Settings) (p : Fields) → parsed s g ≡ Ok p → fields_for u n l ≡ p
   unfolding parsed
   reads_only s p q = by_front_lem (compact_on s) (front_of s (address_in g)) p (check_got _ _ _ _ q).1

@@ -12,7 +12,7 @@ use lib.ListN.{length, take, drop, length-drop}
 use lib.Seq.{length-take-le, take-append_seam}
 use borrow.Author.Tests.{leb-true, ne_eqb}
 use Rattle.numbers.specs.Tests.{pick, either}
-use Rattle.numbers.specs.Result.{got, and_then}
+use Rattle.numbers.specs.Result.{and_then, Outcome}
 use Rattle.numbers.specs.After.{OnBoth, on_both}
 use Rattle.numbers.specs.Bytes.{AreBytes, laid}
 use Rattle.numbers.proofs.Answers.{check_got, pick_got, got_got, refused_got}
@@ -38,7 +38,7 @@ use Rattle.port_map.specs.declared.CampusLabel.{CampusLabel}
 use Rattle.receive.specs.Delivering.{fine_in, stays, native_out}
 use Rattle.receive.specs.Receive.{reading, received_with, port_received}
 use Rattle.receive.specs.declared.ReadAnswer.{ReadAnswer}
-use Rattle.receive.specs.declared.ReadAnswer.TheVariants.{Refused, Delivered}
+use Rattle.receive.specs.declared.ReadAnswer.TheVariants.{Delivered}
 use Rattle.receive.proofs.Outcomes.{reading_left, settled_left, apart}
 use Rattle.ingress.specs.Ingress.{Native, given_good, hops_good, native_of, fields_for, general_for}
 use Rattle.ingress.specs.declared.Given.{Given}
@@ -46,8 +46,10 @@ use Rattle.ingress.specs.Claims.{without_dei, RoundTrip, MapRoundTrip}
 use Rattle.ingress.proofs.Back.{fine_back, not_tag, tag_back, dei_length}
 use Rattle.ingress.proofs.Accepted.{NativeIs, Accepted, accepted}
 use Rattle.ingress.proofs.Far.{reads_only}
+use Rattle.std.specs.Prelude.{Ok, Err}
+use Rattle.numbers.specs.declared.refusals.Refusal.TheVariants.{NoPair}
 
-length_same : (c d : Learning) (a b : ℕ) (k l : Label) → Delivered c a k ≡ Delivered d b l → a ≡ b
+length_same : (c d : Learning) (a b : ℕ) (k l : Label) → ◌≡◌ {A = Outcome ReadAnswer} (Ok (Delivered c a k)) (Ok (Delivered d b l)) → a ≡ b
 length_same c d a b k l e = cc
 
 either_no : (a b : Bool) → a ≡ false → b ≡ false → either a b ≡ false
@@ -64,7 +66,7 @@ module _ (m : List ℕ) (u : Given) (f g : List ℕ) (bytes : AreBytes f) (a : A
   from_frame : general_for u (native_of f) l ≡ g
   from_frame = ap (λ (n : Native). general_for u n l) facts.same ∙ a.bytes
 
-  found : label_for (pairs_in m) (port_vlan (low12 14 f)) ≡ got l
+  found : label_for (pairs_in m) (port_vlan (low12 14 f)) ≡ Ok l
   found = ap (λ (n : Native). label_for (pairs_in m) n.vlan) facts.same ∙ a.found
 
   pairs_good_lem : pairs_good (pairs_in m) ≡ true
@@ -77,7 +79,7 @@ module _ (m : List ℕ) (u : Given) (f g : List ℕ) (bytes : AreBytes f) (a : A
   -- where a label was found there are pairs
   some_pairs : length m ≡ 0 → ⊥
   unfolding label_for
-  some_pairs z = refused_got 22 l (ap (λ ps. label_for ps (port_vlan (low12 14 f))) (sym (pairs_end m (omega arith))) ∙ found)
+  some_pairs z = refused_got NoPair l (ap (λ ps. label_for ps (port_vlan (low12 14 f))) (sym (pairs_end m (omega arith))) ∙ found)
 
   three : word_at 14 f / 2 ^ 13 < 8
   three = let x : word_at 14 f < 256 ^ 2 = num_part_lt f 14 2 bytes facts.long in omega arith
@@ -95,13 +97,13 @@ module _ (m : List ℕ) (u : Given) (f g : List ℕ) (bytes : AreBytes f) (a : A
   label_back = fine_back (word_at 14 f / 2 ^ 13) l three small
 
   -- what the far port writes
-  gives_back : native_out m (fields_for u (native_of f) l) ≡ got (without_dei f)
+  gives_back : native_out m (fields_for u (native_of f) l) ≡ Ok (without_dei f)
   unfolding native_out pick and_then
   gives_back =
-      let back : vlan_for (pairs_in m) l ≡ got (port_vlan (low12 14 f)) = search_inverse.there (pairs_in m) (port_vlan (low12 14 f)) l pairs_good_lem found in
-      rw (not_stays, label_back, back) (ap got (tag_back f bytes facts.long facts.tagged u l small))
+      let back : vlan_for (pairs_in m) l ≡ Ok (port_vlan (low12 14 f)) = search_inverse.there (pairs_in m) (port_vlan (low12 14 f)) l pairs_good_lem found in
+      rw (not_stays, label_back, back) (ap Ok (tag_back f bytes facts.long facts.tagged u l small))
 
-  trip_done : (p : Fields) → fields_for u (native_of f) l ≡ p → (b o : List ℕ) → native_out m p ≡ got b → (n : ℕ) → length b ≡ n → RoundTrip f (laid b o) n
+  trip_done : (p : Fields) → fields_for u (native_of f) l ≡ p → (b o : List ℕ) → native_out m p ≡ Ok b → (n : ℕ) → length b ≡ n → RoundTrip f (laid b o) n
   unfolding laid
   trip_done p e b o made n long =
       let is : without_dei f ≡ b = got_got _ _ (sym gives_back ∙ ap (native_out m) e ∙ made) in
@@ -112,11 +114,11 @@ module _ (m : List ℕ) (u : Given) (f g : List ℕ) (bytes : AreBytes f) (a : A
       }
 
   -- what was read of the frame, in whatever form it came
-  module _ (far : Settings) (h t o : List ℕ) (reads : (p : Fields) → parsed far h ≡ got p → fields_for u (native_of f) l ≡ p) where
-    trip : (c : Learning) (n : ℕ) (k : Label) → (port_received far m h t o).answer ≡ Delivered c n k → RoundTrip f (port_received far m h t o).out n
+  module _ (far : Settings) (h t o : List ℕ) (reads : (p : Fields) → parsed far h ≡ Ok p → fields_for u (native_of f) l ≡ p) where
+    trip : (c : Learning) (n : ℕ) (k : Label) → (port_received far m h t o).answer ≡ (Ok (Delivered c n k)) → RoundTrip f (port_received far m h t o).out n
     unfolding port_received received_with
     trip c n k =
-        settled_left (λ (x : OnBoth ReadAnswer). x.answer ≡ Delivered c n k → RoundTrip f x.out n) (λ r. on_both (Refused r) t o) (reading m default_life far (parsed far h) t o)
+        settled_left (λ (x : OnBoth (Outcome ReadAnswer)). x.answer ≡ (Ok (Delivered c n k)) → RoundTrip f x.out n) (λ r. on_both (Err r) t o) (reading m default_life far (parsed far h) t o)
         (λ r e. apart cc)
         (reading_left m default_life far (parsed far h) t o _ (λ p set d q.
         record {
@@ -126,7 +128,7 @@ module _ (m : List ℕ) (u : Given) (f g : List ℕ) (bytes : AreBytes f) (a : A
           delivers = λ x y b made e. trip_done p (reads p q) b o made n (length_same _ c _ n _ k e);
         }))
 
-  read_general : (far : Settings) (p : Fields) → parsed far g ≡ got p → fields_for u (native_of f) l ≡ p
+  read_general : (far : Settings) (p : Fields) → parsed far g ≡ Ok p → fields_for u (native_of f) l ≡ p
   unfolding given_good hops_good
   read_general far p q =
       let x = both_true _ _ (both_true _ _ a.given).1 in
@@ -136,7 +138,7 @@ module _ (m : List ℕ) (u : Given) (f g : List ℕ) (bytes : AreBytes f) (a : A
       reads_only u (leb-true u.multicast 1 x.1) y.1 (native_of f) l (length-take-le 6 f (omega arith)) (length-take-le 6 (drop 6 f) (omega arith)) facts.some far p (ap (parsed far) from_frame ∙ q)
 
 -- a frame that compaction made is read only with Compact on
-on_only : (s : Settings) (g h work : List ℕ) (p : Fields) → converted (compacted s g work) ≡ got h → parsed s h ≡ got p → compact_on s ≡ true
+on_only : (s : Settings) (g h work : List ℕ) (p : Fields) → converted (compacted s g work) ≡ Ok h → parsed s h ≡ Ok p → compact_on s ≡ true
 unfolding parsed by_front
 on_only s g h work p c q =
     let a = compacting.accepted s g h work c in

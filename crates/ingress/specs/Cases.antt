@@ -1,7 +1,6 @@
 -- The worked cases of 2026-01.
 -- Assumes nothing.
-use Rattle.std.specs.Prelude.{ℕ, List, [], ◌∷◌, ◌≡◌, take}
-use Rattle.numbers.specs.Result.{got, refused}
+use Rattle.std.specs.Prelude.{ℕ, List, [], ◌∷◌, ◌≡◌, take, Ok, Err}
 use Rattle.numbers.specs.After.{OnBoth}
 use Rattle.table.specs.Slots.{freed}
 use Rattle.frame.specs.declared.Settings.{Settings}
@@ -10,6 +9,8 @@ use Rattle.receive.specs.Words.{read_word}
 use Rattle.receive.specs.declared.ReadAnswer.{ReadAnswer}
 use Rattle.ingress.specs.Ingress.{ingressing}
 use Rattle.ingress.specs.declared.Given.{Given}
+use Rattle.numbers.specs.Result.{Outcome}
+use Rattle.numbers.specs.declared.refusals.Refusal.TheVariants.{CutShort, LabelBad, NoPair}
 
 abbrev pub near_port : Settings
 near_port = record {
@@ -61,17 +62,17 @@ far_port = record {
 }
 
 -- "Read by port ..A1, nickname 0102, one free slot, same map", with an area of 20 bytes
-abbrev pub read_back : OnBoth ReadAnswer
+abbrev pub read_back : OnBoth (Outcome ReadAnswer)
 read_back = port_received far_port map_bytes general freed (take 20 general)
 
 pub record MapCases : Type 0 where
-  pub plain : ingressing near_port map_bytes given (native_with 0x60) ≡ got general
+  pub plain : ingressing near_port map_bytes given (native_with 0x60) ≡ Ok general
   -- DEI is not copied
-  pub dei : ingressing near_port map_bytes given (native_with 0x70) ≡ got general
-  pub content_cut : ingressing near_port map_bytes given (take 17 (native_with 0x60)) ≡ refused 6
-  pub tag_cut : ingressing near_port map_bytes given (take 15 (native_with 0x60)) ≡ refused 6
-  pub no_tag : ingressing near_port map_bytes given untagged ≡ refused 10
-  pub no_map : ingressing near_port [] given (native_with 0x60) ≡ refused 22
+  pub dei : ingressing near_port map_bytes given (native_with 0x70) ≡ Ok general
+  pub content_cut : ingressing near_port map_bytes given (take 17 (native_with 0x60)) ≡ Err CutShort
+  pub tag_cut : ingressing near_port map_bytes given (take 15 (native_with 0x60)) ≡ Err CutShort
+  pub no_tag : ingressing near_port map_bytes given untagged ≡ Err LabelBad
+  pub no_map : ingressing near_port [] given (native_with 0x60) ≡ Err NoPair
   -- "the native bytes, answer 0xABCDEF0100001441"
   pub answer : read_word read_back.answer ≡ 0xABCD_EF01_0000_1441
   pub native : read_back.out ≡ native_with 0x60

@@ -1,9 +1,8 @@
 -- Inbound (2026-01): a native frame tagged with a mapped VLAN as a General frame with the label.
 -- Assumes nothing.
-use Rattle.std.specs.Prelude.{ℕ, ◌+◌, ◌*◌, ◌/◌, ◌%◌, ◌^◌, Bool, List, ◌∷◌, ◌++◌, leb, eqb, length, take, drop}
+use Rattle.std.specs.Prelude.{ℕ, ◌+◌, ◌*◌, ◌/◌, ◌%◌, ◌^◌, Bool, List, ◌∷◌, ◌++◌, leb, eqb, length, take, drop, Ok, Err}
 use Rattle.numbers.specs.Tests.{pick, both, between}
-use Rattle.numbers.specs.Result.{Result, got, check, and_then, settled}
-use Rattle.numbers.specs.Refusals.{settings_bad, frame_length_bad, hops_spent, nickname_bad, label_bad, source_group, multicast_disagrees}
+use Rattle.numbers.specs.Result.{Outcome, check, and_then, settled}
 use Rattle.numbers.specs.After.{OnArea, on_area}
 use Rattle.numbers.specs.Bytes.{num, bytes_of}
 use Rattle.numbers.specs.Ranges.{individual, nickname_good, vlan_good, last_address}
@@ -16,12 +15,11 @@ use Rattle.frame.specs.Formats.{tagged_addresses, untagged_outer, frame_length_g
 use Rattle.frame.specs.declared.Settings.{Settings}
 use Rattle.convert.specs.Compaction.{written}
 use Rattle.convert.specs.Expansion.{general_tail}
-use Rattle.convert.specs.declared.ConvertAnswer.{ConvertAnswer}
-use Rattle.convert.specs.declared.ConvertAnswer.TheVariants.{Refused, Written}
-use Rattle.port_map.specs.Maps.{map_bad, port_vlan, pairs_in, map_good, label_for}
+use Rattle.port_map.specs.Maps.{port_vlan, pairs_in, map_good, label_for}
 use Rattle.port_map.specs.declared.PortVlan.{PortVlan}
 use Rattle.port_map.specs.declared.CampusLabel.{CampusLabel}
 use Rattle.ingress.specs.declared.Given.{Given}
+use Rattle.numbers.specs.declared.refusals.Refusal.TheVariants.{SettingsBad, FrameLengthBad, HopsSpent, NicknameBad, LabelBad, SourceGroup, MulticastDisagrees, MapBad}
 
 -- ---- what the caller gives
 
@@ -66,13 +64,13 @@ native_of f = record {
 
 -- "6 and 10 (also untagged) from left to right": 10 without 8100, 6 where the tag is cut, 10 for VLAN 0 or FFF, 6 for content under 2
 -- bytes. The addresses and the Ethertype are there, since a frame has 14 bytes
-unfoldable pub native_parsed : List ℕ → Result Native
+unfoldable pub native_parsed : List ℕ → Outcome Native
 native_parsed f =
-    check (is_tag (drop addresses_bytes f)) label_bad
+    check (is_tag (drop addresses_bytes f)) LabelBad
     (field tagged_addresses f
-    (check (vlan_good (low12 untagged_outer f)) label_bad
+    (check (vlan_good (low12 untagged_outer f)) LabelBad
     (field least_content (drop tagged_addresses f)
-    (got (native_of f)))))
+    (Ok (native_of f)))))
 
 -- ---- the General frame
 
@@ -100,29 +98,29 @@ abbrev pub longer_by : ℕ
 longer_by = 24
 
 -- what is judged before the map is searched: 3 (frame, then result), 6 and 10, 11, 8, 9, 12
-unfoldable pub judged : Given → List ℕ → Result Native
+unfoldable pub judged : Given → List ℕ → Outcome Native
 judged u f =
-    check (frame_length_good (length f)) frame_length_bad
-    (check (frame_length_good (length f + longer_by)) frame_length_bad
+    check (frame_length_good (length f)) FrameLengthBad
+    (check (frame_length_good (length f + longer_by)) FrameLengthBad
     (and_then (native_parsed f) λ n.
-    check (individual (num n.src)) source_group
-    (check (hops_good u) hops_spent
-    (check (nicks_good u) nickname_bad
-    (check (destination_agrees u) multicast_disagrees
-    (got n))))))
+    check (individual (num n.src)) SourceGroup
+    (check (hops_good u) HopsSpent
+    (check (nicks_good u) NicknameBad
+    (check (destination_agrees u) MulticastDisagrees
+    (Ok n))))))
 
 -- "Ingress order: 1 (also a group outer source), 21, 3 (frame, then result), 6 and 10 (also untagged) from left to right, 11, 8 (0 or over
 -- 63), 9 (range only), 12 (also M 0 with a group outer destination), 22, 16"
-unfoldable pub ingressing : Settings → List ℕ → Given → List ℕ → Result (List ℕ)
+unfoldable pub ingressing : Settings → List ℕ → Given → List ℕ → Outcome (List ℕ)
 ingressing s m u f =
-    check (settings_good s) settings_bad
-    (check (given_good u) settings_bad
-    (check (map_good m) map_bad
+    check (settings_good s) SettingsBad
+    (check (given_good u) SettingsBad
+    (check (map_good m) MapBad
     (and_then (judged u f) λ n.
     and_then (label_for (pairs_in m) n.vlan) λ l.
-    got (general_for u n l))))
+    Ok (general_for u n l))))
 
-unfoldable pub ingressed : Settings → List ℕ → Given → List ℕ → List ℕ → OnArea ConvertAnswer
+unfoldable pub ingressed : Settings → List ℕ → Given → List ℕ → List ℕ → OnArea (Outcome ℕ)
 ingressed s m u f area =
-    settled (λ n. on_area (Refused n) area)
-    (and_then (ingressing s m u f) λ b. written Written b area)
+    settled (λ n. on_area (Err n) area)
+    (and_then (ingressing s m u f) λ b. written Ok b area)

@@ -9,7 +9,7 @@ use lib.Dec.{eqb}
 use lib.ListN.{length, take, drop, length-drop}
 use borrow.Author.Tests.{le-leb, lt-leb, eq-eqb, ne_eqb}
 use Rattle.numbers.specs.Tests.{pick, both, between}
-use Rattle.numbers.specs.Result.{Result, refused, got, check, and_then, settled}
+use Rattle.numbers.specs.Result.{Outcome, check, and_then, settled}
 use Rattle.numbers.specs.After.{OnArea, on_area}
 use Rattle.numbers.specs.Bytes.{num, starts_with}
 use Rattle.numbers.specs.Ranges.{individual, vlan_good}
@@ -22,20 +22,18 @@ use Rattle.frame.specs.declared.Settings.{Settings}
 use Rattle.frame_copy.specs.Areas.{pasted}
 use Rattle.frame_copy.proofs.Copying.{paste_laid}
 use Rattle.convert.specs.Compaction.{written}
-use Rattle.convert.specs.declared.ConvertAnswer.{ConvertAnswer}
-use Rattle.convert.specs.declared.ConvertAnswer.TheVariants.{Refused, Written}
 use Rattle.port_map.specs.Maps.{port_vlan, pairs_in, map_good, label_for}
 use Rattle.port_map.specs.declared.PortVlan.{PortVlan}
 use Rattle.port_map.specs.declared.CampusLabel.{CampusLabel}
 use Rattle.port_map_search.specs.Meaning.{label_as}
-use Rattle.port_map_search.specs.declared.LabelFound.{LabelFound}
-use Rattle.port_map_search.specs.declared.LabelFound.TheVariants as found
 use Rattle.ingress.specs.Ingress.{Native, given_good, hops_good, nicks_good, destination_agrees, native_parsed, general_for, longer_by, judged, ingressing, ingressed}
 use Rattle.ingress.specs.declared.Given.{Given}
-use Rattle.ingress_call.specs.Meaning.{native_with, JudgedFits, Judges, native_judged, put_on}
-use Rattle.ingress_call.specs.declared.Judged.{Judged}
-use Rattle.ingress_call.specs.declared.Judged.TheVariants as verdict
+use Rattle.ingress_call.specs.Meaning.{native_with, Judges, native_judged, put_on}
 use Rattle.ingress_call.proofs.Pieces.{general-length}
+use Rattle.std.specs.Prelude.{Option, Some, None, Ok, Err}
+use Rattle.numbers.specs.declared.refusals.Refusal.TheVariants.{SettingsBad, FrameLengthBad, CutShort, HopsSpent, NicknameBad, LabelBad, SourceGroup, MulticastDisagrees, AreaShort, MapBad, NoPair}
+use Rattle.numbers.specs.declared.refusals.Refusal.{Refusal}
+use Rattle.ingress_call.specs.declared.Tagged.{Tagged}
 
 -- ---- M and the outer destination
 
@@ -50,18 +48,18 @@ module _ (u : Given) where
 
 -- ---- the native frame
 
-no : (f : List ℕ) (x : Result Native) (n : ℕ) → refused n ≡ x → Judges f x (verdict.Refused n)
+no : (f : List ℕ) (x : Outcome Native) (n : Refusal) → Err n ≡ x → Judges f x (Err n)
 no f x n e = record { native = e; fits = tt }
 
 module _ (f : List ℕ) where
-  pub native_short : length f < 14 → Judges f (native_judged f) (verdict.Refused 3)
+  pub native_short : length f < 14 → Judges f (native_judged f) (Err FrameLengthBad)
   unfolding native_judged check frame_length_good between both
-  native_short h = no f _ 3 (rw (lt-leb 14 (length f) h))
+  native_short h = no f _ FrameLengthBad (rw (lt-leb 14 (length f) h))
 
   good : Bool
   good = both (frame_length_good (length f)) (frame_length_good (length f + 24))
 
-  long_bad : (a b : Bool) (r : Result Native) → b ≡ false → refused 3 ≡ check a 3 (check b 3 r)
+  long_bad : (a b : Bool) (r : Outcome Native) → b ≡ false → Err FrameLengthBad ≡ check a FrameLengthBad (check b FrameLengthBad r)
   unfolding check
   long_bad true b r h = rw h
   long_bad false b r h = refl
@@ -74,9 +72,9 @@ module _ (f : List ℕ) where
   unfolding frame_length_good between both
   in_length n a b = rw (le-leb 14 n a, le-leb n 9216 b)
 
-  pub native_long : 9192 < length f → Judges f (native_judged f) (verdict.Refused 3)
+  pub native_long : 9192 < length f → Judges f (native_judged f) (Err FrameLengthBad)
   unfolding native_judged
-  native_long h = no f _ 3 (long_bad (frame_length_good (length f)) (frame_length_good (length f + 24)) (native_parsed f) (too_long (length f + 24) (omega arith)))
+  native_long h = no f _ FrameLengthBad (long_bad (frame_length_good (length f)) (frame_length_good (length f + 24)) (native_parsed f) (too_long (length f + 24) (omega arith)))
 
   module _ (some : 14 ≤ length f) (few : length f ≤ 9192) where
     parses : native_judged f ≡ native_parsed f
@@ -84,31 +82,31 @@ module _ (f : List ℕ) where
     parses = rw (in_length (length f) some (omega arith), in_length (length f + 24) (omega arith) (omega arith))
 
     module _ (t : Bool) (et : t ≡ starts_with (0x8100 / 256) (0x8100 % 256) (drop 12 f)) where
-      pub native_untagged : t ≡ false → Judges f (native_judged f) (verdict.Refused 10)
+      pub native_untagged : t ≡ false → Judges f (native_judged f) (Err LabelBad)
       unfolding native_parsed check
-      native_untagged h = no f _ 10 (rw (parses, ← et, h))
+      native_untagged h = no f _ LabelBad (rw (parses, ← et, h))
 
       module _ (tagged : t ≡ true) where
-        pub native_cut : length f < 16 → Judges f (native_judged f) (verdict.Refused 6)
+        pub native_cut : length f < 16 → Judges f (native_judged f) (Err CutShort)
         unfolding native_parsed check
-        native_cut h = no f _ 6 (rw (parses, ← et, tagged, lt-leb 16 (length f) h))
+        native_cut h = no f _ CutShort (rw (parses, ← et, tagged, lt-leb 16 (length f) h))
 
         module _ (there : 16 ≤ length f) (w : ℕ) (ew : w ≡ word_at 14 f) (g : Bool) (eg : g ≡ vlan_good (w % 0x1000)) where
           vlan_good_lem : vlan_good (low12 14 f) ≡ g
           vlan_good_lem = sym (rw ew at eg)
 
-          pub native_vlan : g ≡ false → Judges f (native_judged f) (verdict.Refused 10)
+          pub native_vlan : g ≡ false → Judges f (native_judged f) (Err LabelBad)
           unfolding native_parsed check
-          native_vlan h = no f _ 10 (rw (parses, ← et, tagged, le-leb 16 (length f) there, vlan_good_lem, h))
+          native_vlan h = no f _ LabelBad (rw (parses, ← et, tagged, le-leb 16 (length f) there, vlan_good_lem, h))
 
           module _ (vlan : g ≡ true) where
-            pub native_empty : length f - 16 < 2 → Judges f (native_judged f) (verdict.Refused 6)
+            pub native_empty : length f - 16 < 2 → Judges f (native_judged f) (Err CutShort)
             unfolding native_parsed check
             native_empty h =
                 let d = length-drop 16 f in
-                no f _ 6 (rw (parses, ← et, tagged, le-leb 16 (length f) there, vlan_good_lem, vlan, lt-leb 2 (length (drop 16 f)) (omega arith)))
+                no f _ CutShort (rw (parses, ← et, tagged, le-leb 16 (length f) there, vlan_good_lem, vlan, lt-leb 2 (length (drop 16 f)) (omega arith)))
 
-            pub native_good : 2 ≤ length f - 16 → w < 2 ^ 16 → Judges f (native_judged f) (verdict.Tagged (port_vlan (w % 0x1000)) (w / 0x2000))
+            pub native_good : 2 ≤ length f - 16 → w < 2 ^ 16 → Judges f (native_judged f) (Ok (record { vlan = (port_vlan (w % 0x1000)); priority = (w / 0x2000) }))
             unfolding native_parsed check
             native_good h small =
                 let d = length-drop 16 f in
@@ -119,100 +117,94 @@ module _ (f : List ℕ) where
 
 -- ---- the verdict
 
-module _ (u : Given) (f : List ℕ) (r : Judged) (er : Judges f (native_judged f) r) where
-  judged_is : judged u f ≡ and_then (native_judged f) (λ n. check (individual (num n.src)) 11 (check (hops_good u) 8 (check (nicks_good u) 9 (check (destination_agrees u) 12 (got n)))))
+module _ (u : Given) (f : List ℕ) where
+  judged_is : judged u f ≡ and_then (native_judged f) (λ n. check (individual (num n.src)) SourceGroup (check (hops_good u) HopsSpent (check (nicks_good u) NicknameBad (check (destination_agrees u) MulticastDisagrees (Ok n)))))
   unfolding judged native_judged check and_then
   judged_is = go (frame_length_good (length f)) (frame_length_good (length f + longer_by)) (native_parsed f) _
     where
-      go : (a b : Bool) (x : Result Native) (k : Native → Result Native) → check a 3 (check b 3 (and_then x k)) ≡ and_then (check a 3 (check b 3 x)) k
+      go : (a b : Bool) (x : Outcome Native) (k : Native → Outcome Native) → check a FrameLengthBad (check b FrameLengthBad (and_then x k)) ≡ and_then (check a FrameLengthBad (check b FrameLengthBad x)) k
       go true true x k = refl
       go true false x k = refl
       go false b x k = refl
 
-  pub verdict_native : (n : ℕ) → r ≡ verdict.Refused n → Judges f (judged u f) (verdict.Refused n)
+  pub verdict_native : (n : Refusal) → Judges f (native_judged f) (Err n) → Judges f (judged u f) (Err n)
   unfolding and_then
-  verdict_native n e = no f _ n (sym (judged_is ∙ rw (← rw e at er.native)))
+  verdict_native n j = no f _ n (sym (judged_is ∙ rw (← j.native)))
 
-  module _ (v : PortVlan) (q : ℕ) (e : r ≡ verdict.Tagged v q) where
-    tagged_fits : JudgedFits f (verdict.Tagged v q)
-    tagged_fits = rw e at er.fits
-
+  module _ (t : Tagged) (j : Judges f (native_judged f) (Ok t)) where
     pub source_room : 6 + 6 ≤ length f
-    source_room = let k = tagged_fits.0 in omega arith
+    source_room = let k = j.fits.0 in omega arith
 
-    tagged_is : judged u f ≡ check (individual (num (take 6 (drop 6 f)))) 11 (check (hops_good u) 8 (check (nicks_good u) 9 (check (destination_agrees u) 12 (got (native_with f v q)))))
+    tagged_is : judged u f ≡ check (individual (num (take 6 (drop 6 f)))) SourceGroup (check (hops_good u) HopsSpent (check (nicks_good u) NicknameBad (check (destination_agrees u) MulticastDisagrees (Ok (native_with f t.vlan t.priority)))))
     unfolding and_then
-    tagged_is = judged_is ∙ rw (← rw e at er.native)
+    tagged_is = judged_is ∙ rw (← j.native)
 
     module _ (x : ℕ) (ex : x ≡ num (take 6 (drop 6 f))) (i : Bool) (ei : i ≡ individual x) where
-      pub verdict_source : i ≡ false → Judges f (judged u f) (verdict.Refused 11)
+      pub verdict_source : i ≡ false → Judges f (judged u f) (Err SourceGroup)
       unfolding check
-      verdict_source h = no f _ 11 (sym (tagged_is ∙ rw (← ex, ← ei, h)))
+      verdict_source h = no f _ SourceGroup (sym (tagged_is ∙ rw (← ex, ← ei, h)))
 
       module _ (is : i ≡ true) (a : Bool) (ea : a ≡ hops_good u) where
-        pub verdict_hops : a ≡ false → Judges f (judged u f) (verdict.Refused 8)
+        pub verdict_hops : a ≡ false → Judges f (judged u f) (Err HopsSpent)
         unfolding check
-        verdict_hops h = no f _ 8 (sym (tagged_is ∙ rw (← ex, ← ei, is, ← ea, h)))
+        verdict_hops h = no f _ HopsSpent (sym (tagged_is ∙ rw (← ex, ← ei, is, ← ea, h)))
 
         module _ (ha : a ≡ true) (b : Bool) (eb : b ≡ nicks_good u) where
-          pub verdict_nicks : b ≡ false → Judges f (judged u f) (verdict.Refused 9)
+          pub verdict_nicks : b ≡ false → Judges f (judged u f) (Err NicknameBad)
           unfolding check
-          verdict_nicks h = no f _ 9 (sym (tagged_is ∙ rw (← ex, ← ei, is, ← ea, ha, ← eb, h)))
+          verdict_nicks h = no f _ NicknameBad (sym (tagged_is ∙ rw (← ex, ← ei, is, ← ea, ha, ← eb, h)))
 
           module _ (hb : b ≡ true) (d : Bool) (ed : d ≡ destination_agrees u) where
-            pub verdict_destination : d ≡ false → Judges f (judged u f) (verdict.Refused 12)
+            pub verdict_destination : d ≡ false → Judges f (judged u f) (Err MulticastDisagrees)
             unfolding check
-            verdict_destination h = no f _ 12 (sym (tagged_is ∙ rw (← ex, ← ei, is, ← ea, ha, ← eb, hb, ← ed, h)))
+            verdict_destination h = no f _ MulticastDisagrees (sym (tagged_is ∙ rw (← ex, ← ei, is, ← ea, ha, ← eb, hb, ← ed, h)))
 
-            pub verdict_good : d ≡ true → Judges f (judged u f) (verdict.Tagged v q)
+            pub verdict_good : d ≡ true → Judges f (judged u f) (Ok t)
             unfolding check
             verdict_good h = record {
               native = sym (tagged_is ∙ rw (← ex, ← ei, is, ← ea, ha, ← eb, hb, ← ed, h));
-              fits = tagged_fits;
+              fits = j.fits;
             }
 
 -- ---- 16, or written
 
 module _ (u : Given) (v : PortVlan) (q : ℕ) (l : CampusLabel) (f o : List ℕ) (there : 16 ≤ length f) where
-  pub put_short : length o < length f + 24 → on_area (Refused 16) o ≡ put_on (general_for u (native_with f v q) l) o
+  pub put_short : length o < length f + 24 → on_area (Err AreaShort) o ≡ put_on (general_for u (native_with f v q) l) o
   unfolding written settled check
   put_short h = rw (general-length u q l f o there v, lt-leb (length f + 24) (length o) h)
 
-  pub put_done : length f + 24 ≤ length o → (e : List ℕ) → ((w : PortVlan) → e ≡ pasted o 0 (general_for u (native_with f w q) l)) → on_area (Written (length f + 24)) e ≡ put_on (general_for u (native_with f v q) l) o
+  pub put_done : length f + 24 ≤ length o → (e : List ℕ) → ((w : PortVlan) → e ≡ pasted o 0 (general_for u (native_with f w q) l)) → on_area (Ok (length f + 24)) e ≡ put_on (general_for u (native_with f v q) l) o
   unfolding written settled check
   put_done h e w = rw (general-length u q l f o there v, le-leb (length f + 24) (length o) h, w v, paste_laid o (general_for u (native_with f v q) l))
 
 -- ---- the call
 
-pub fits_in : (f : List ℕ) (x : Result Native) (r : Judged) → Judges f x r → (v : PortVlan) (q : ℕ) → r ≡ verdict.Tagged v q → (16 ≤ length f) × ((length f + 24 ≤ 9216) × (q < 2 ^ 3))
-fits_in f x r er v q e = rw e at er.fits
-
 module _ (s : Settings) (m : List ℕ) (u : Given) (f o : List ℕ) (g : Bool) (eg : g ≡ settings_good s) where
-  pub settings_out : g ≡ false → on_area (Refused 1) o ≡ ingressed s m u f o
+  pub settings_out : g ≡ false → on_area (Err SettingsBad) o ≡ ingressed s m u f o
   unfolding ingressed ingressing settled check and_then
   settings_out h = rw (← eg, h)
 
   module _ (set : g ≡ true) (a : Bool) (ea : a ≡ given_good u) where
-    pub given_out : a ≡ false → on_area (Refused 1) o ≡ ingressed s m u f o
+    pub given_out : a ≡ false → on_area (Err SettingsBad) o ≡ ingressed s m u f o
     unfolding ingressed ingressing settled check and_then
     given_out h = rw (← eg, set, ← ea, h)
 
     module _ (ha : a ≡ true) (k : Bool) (ek : k ≡ map_good m) where
-      pub map_out : k ≡ false → on_area (Refused 21) o ≡ ingressed s m u f o
+      pub map_out : k ≡ false → on_area (Err MapBad) o ≡ ingressed s m u f o
       unfolding ingressed ingressing settled check and_then
       map_out h = rw (← eg, set, ← ea, ha, ← ek, h)
 
-      module _ (hk : k ≡ true) (r : Judged) (er : Judges f (judged u f) r) where
-        pub judge_out : (n : ℕ) → r ≡ verdict.Refused n → on_area (Refused n) o ≡ ingressed s m u f o
+      module _ (hk : k ≡ true) where
+        pub judge_out : (n : Refusal) → Judges f (judged u f) (Err n) → on_area (Err n) o ≡ ingressed s m u f o
         unfolding ingressed ingressing settled check and_then
-        judge_out n e = rw (← eg, set, ← ea, ha, ← ek, hk, ← rw e at er.native)
+        judge_out n j = rw (← eg, set, ← ea, ha, ← ek, hk, ← j.native)
 
-        module _ (v : PortVlan) (q : ℕ) (e : r ≡ verdict.Tagged v q) where
-          module _ (x : LabelFound) (ex : label_as x ≡ label_for (pairs_in m) v) where
-            pub missing_out : x ≡ found.Missing → on_area (Refused 22) o ≡ ingressed s m u f o
+        module _ (t : Tagged) (j : Judges f (judged u f) (Ok t)) where
+          module _ (x : Option CampusLabel) (ex : label_as x ≡ label_for (pairs_in m) t.vlan) where
+            pub missing_out : x ≡ None → on_area (Err NoPair) o ≡ ingressed s m u f o
             unfolding ingressed ingressing settled check and_then
-            missing_out h = rw (← eg, set, ← ea, ha, ← ek, hk, ← rw e at er.native, ← ex, h)
+            missing_out h = rw (← eg, set, ← ea, ha, ← ek, hk, ← j.native, ← ex, h)
 
-            pub put_out : (l : CampusLabel) → x ≡ found.Label l → (y : OnArea ConvertAnswer) → y ≡ put_on (general_for u (native_with f v q) l) o → y ≡ ingressed s m u f o
+            pub put_out : (l : CampusLabel) → x ≡ Some l → (y : OnArea (Outcome ℕ)) → y ≡ put_on (general_for u (native_with f t.vlan t.priority) l) o → y ≡ ingressed s m u f o
             unfolding ingressed ingressing settled check and_then
-            put_out l h y ey = ey ∙ rw (← eg, set, ← ea, ha, ← ek, hk, ← rw e at er.native, ← ex, h)
+            put_out l h y ey = ey ∙ rw (← eg, set, ← ea, ha, ← ek, hk, ← j.native, ← ex, h)

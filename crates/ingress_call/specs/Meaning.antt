@@ -1,44 +1,41 @@
 -- What the code's own steps mean, in the terms of ingress/specs.
 -- Assumes nothing.
-use Rattle.std.specs.Prelude.{ℕ, ◌+◌, ◌^◌, ◌≤◌, ◌<◌, List, ◌++◌, ◌≡◌, length, take, drop}
-use Rattle.numbers.specs.Result.{Result, refused, got, check, settled}
-use Rattle.numbers.specs.Refusals.{frame_length_bad}
+use Rattle.std.specs.Prelude.{ℕ, ◌+◌, ◌^◌, ◌≤◌, ◌<◌, List, ◌++◌, ◌≡◌, length, take, drop, Ok, Err}
+use Rattle.numbers.specs.Result.{Outcome, check, settled}
 use Rattle.numbers.specs.After.{OnArea, on_area}
 use Rattle.numbers.specs.Bytes.{bytes_of}
 use Rattle.frame.specs.Front.{address_bytes}
 use Rattle.frame.specs.Labels.{trill_type}
 use Rattle.frame.specs.Formats.{tagged_addresses, longest_frame, frame_length_good}
 use Rattle.convert.specs.Compaction.{written}
-use Rattle.convert.specs.declared.ConvertAnswer.{ConvertAnswer}
-use Rattle.convert.specs.declared.ConvertAnswer.TheVariants.{Refused, Written}
 use Rattle.port_map.specs.declared.PortVlan.{PortVlan}
 use Rattle.ingress.specs.Ingress.{Native, native_parsed, longer_by}
 use Rattle.ingress.specs.declared.Given.{Given}
-use Rattle.ingress_call.specs.declared.Judged.{Judged}
-use Rattle.ingress_call.specs.declared.Judged.TheVariants as judged
+use Rattle.numbers.specs.declared.refusals.Refusal.TheVariants.{FrameLengthBad}
+use Rattle.ingress_call.specs.declared.Tagged.{Tagged}
 
 -- the native frame with this VLAN and priority in its tag
 abbrev pub native_with : List ℕ → PortVlan → ℕ → Native
 native_with f v q = record { dst = take address_bytes f; src = take address_bytes (drop address_bytes f); priority = q; vlan = v; content = drop tagged_addresses f }
 
-abbrev pub judged_as : List ℕ → Judged → Result Native
-judged_as f (judged.Refused n) = refused n
-judged_as f (judged.Tagged v q) = got (native_with f v q)
+abbrev pub judged_as : List ℕ → Outcome Tagged → Outcome Native
+judged_as f (Err n) = Err n
+judged_as f (Ok t) = Ok (native_with f t.vlan t.priority)
 
 -- what holds of a frame that was judged a tagged one: there is a tag, the result is no longer than a frame, and a priority has 3 bits
-abbrev pub JudgedFits : List ℕ → Judged → Type 0
-JudgedFits f (judged.Refused n) = Unit {0}
-JudgedFits f (judged.Tagged v q) = (tagged_addresses ≤ length f) × ((length f + longer_by ≤ longest_frame) × (q < 2 ^ 3))
+abbrev pub JudgedFits : List ℕ → Outcome Tagged → Type 0
+JudgedFits f (Err n) = Unit {0}
+JudgedFits f (Ok t) = (tagged_addresses ≤ length f) × ((length f + longer_by ≤ longest_frame) × (t.priority < 2 ^ 3))
 
-pub record Judges (f : List ℕ) (x : Result Native) (r : Judged) : Type 0 where
+pub record Judges (f : List ℕ) (x : Outcome Native) (r : Outcome Tagged) : Type 0 where
   pub native : judged_as f r ≡ x
   pub fits : JudgedFits f r
 
 -- 3, 6 and 10
-unfoldable pub native_judged : List ℕ → Result Native
+unfoldable pub native_judged : List ℕ → Outcome Native
 native_judged f =
-    check (frame_length_good (length f)) frame_length_bad
-    (check (frame_length_good (length f + longer_by)) frame_length_bad
+    check (frame_length_good (length f)) FrameLengthBad
+    (check (frame_length_good (length f + longer_by)) FrameLengthBad
     (native_parsed f))
 
 -- outer addresses and 22F3
@@ -46,5 +43,5 @@ unfoldable pub outer_of : Given → List ℕ
 outer_of u = bytes_of address_bytes u.destination ++ (bytes_of address_bytes u.source ++ trill_type)
 
 -- bytes written to an area, or 16
-abbrev pub put_on : List ℕ → List ℕ → OnArea ConvertAnswer
-put_on b area = settled (λ n. on_area (Refused n) area) (written Written b area)
+abbrev pub put_on : List ℕ → List ℕ → OnArea (Outcome ℕ)
+put_on b area = settled (λ n. on_area (Err n) area) (written Ok b area)

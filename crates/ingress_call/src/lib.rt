@@ -9,7 +9,6 @@ ghost use Rattle.ingress.specs.Ingress.{given_good, hops_good, nicks_good, desti
 ghost use Rattle.ingress_call.specs.Meaning.{native_with, Judges, native_judged, outer_of, put_on};
 ghost use Rattle.port_map.specs.declared.PortVlan.{PortVlan};
 
-use convert::ConvertAnswer;
 use frame::{
     ADDRESS_BYTES, ADDRESSES_BYTES, ALL_RBRIDGES, ETHERTYPE_BYTES, FINE_ETHERTYPE,
     FIXED_HEADER_BYTES, LABEL_PART, LEAST_CONTENT, LONGEST_FRAME, MULTICAST_BIT, SHORTEST_FRAME,
@@ -18,18 +17,14 @@ use frame::{
 };
 use ingress::{Given, LONGER_BY, MOST_HOPS, MOST_MULTICAST};
 use numbers::LAST_ADDRESS;
-use numbers::refusals::{
-    AREA_SHORT, CUT_SHORT, FRAME_LENGTH_BAD, HOPS_SPENT, LABEL_BAD, MULTICAST_DISAGREES,
-    NICKNAME_BAD, SETTINGS_BAD, SOURCE_GROUP,
-};
-use port_map::{CampusLabel, MAP_BAD, NO_PAIR, PRIORITY_BIT, PortVlan};
-use port_map_search::LabelFound;
+use numbers::refusals::Refusal;
+use port_map::{CampusLabel, PRIORITY_BIT, PortVlan};
 
 // What a native frame is judged: refused, or tagged with this VLAN and priority.
 #[derive(Clone, Copy)]
-pub enum Judged {
-    Refused(u8),
-    Tagged { vlan: PortVlan, priority: u64 },
+pub struct Tagged {
+    pub vlan: PortVlan,
+    pub priority: u64,
 }
 
 // Refusal 1, of what the caller gives.
@@ -65,61 +60,54 @@ fn destination_agrees(u: Given) -> bool
 }
 
 // The tag of a native frame: 3, 10, 6, 10, 6.
-fn read_native(f: &[u8]) -> Judged
+fn read_native(f: &[u8]) -> Result<Tagged, Refusal>
     ensures { Judges f.now (native_judged f.now) result }
 {
     let n = f.len();
     if n < SHORTEST_FRAME {
-        return Judged::Refused(FRAME_LENGTH_BAD);
+        return Err(Refusal::FrameLengthBad);
     }
     if LONGEST_FRAME - LONGER_BY < n {
-        return Judged::Refused(FRAME_LENGTH_BAD);
+        return Err(Refusal::FrameLengthBad);
     }
     if !frame_fields::has_ethertype(f, ADDRESSES_BYTES, TAG_ETHERTYPE) {
-        return Judged::Refused(LABEL_BAD);
+        return Err(Refusal::LabelBad);
     }
     if n < TAGGED_ADDRESSES_BYTES {
-        return Judged::Refused(CUT_SHORT);
+        return Err(Refusal::CutShort);
     }
     let w = numbers::be2(f, UNTAGGED_OUTER_BYTES);
     let v = w % LABEL_PART;
     if !numbers::vlan_good(v) {
-        return Judged::Refused(LABEL_BAD);
+        return Err(Refusal::LabelBad);
     }
     if n - TAGGED_ADDRESSES_BYTES < LEAST_CONTENT {
-        return Judged::Refused(CUT_SHORT);
+        return Err(Refusal::CutShort);
     }
-    Judged::Tagged {
+    Ok(Tagged {
         vlan: PortVlan(v as u16),
         priority: w / PRIORITY_BIT,
-    }
+    })
 }
 
 // The verdict on a native frame and what the caller gives: 3, 6 and 10, 11, 8, 9, 12.
-fn judge(u: Given, f: &[u8]) -> Judged
+fn judge(u: Given, f: &[u8]) -> Result<Tagged, Refusal>
     ensures { Judges f.now (judged u f.now) result }
 {
-    match read_native(f) {
-        Judged::Refused(n) => Judged::Refused(n),
-        Judged::Tagged { vlan, priority } => {
-            if !numbers::is_individual(numbers::be6(f, ADDRESS_BYTES)) {
-                return Judged::Refused(SOURCE_GROUP);
-            }
-            if !hops_good(u) {
-                return Judged::Refused(HOPS_SPENT);
-            }
-            if !nicks_good(u) {
-                return Judged::Refused(NICKNAME_BAD);
-            }
-            if !destination_agrees(u) {
-                return Judged::Refused(MULTICAST_DISAGREES);
-            }
-            Judged::Tagged {
-                vlan: vlan,
-                priority: priority,
-            }
-        }
+    let t = read_native(f)?;
+    if !numbers::is_individual(numbers::be6(f, ADDRESS_BYTES)) {
+        return Err(Refusal::SourceGroup);
     }
+    if !hops_good(u) {
+        return Err(Refusal::HopsSpent);
+    }
+    if !nicks_good(u) {
+        return Err(Refusal::NicknameBad);
+    }
+    if !destination_agrees(u) {
+        return Err(Refusal::MulticastDisagrees);
+    }
+    Ok(t)
 }
 
 // Where the parts of the General frame stand.
@@ -206,36 +194,34 @@ fn put_general(
     l: CampusLabel,
     f: &[u8],
     out: &mut [u8],
-) -> ConvertAnswer
+) -> Result<u16, Refusal>
     requires { (tagged_addresses ≤ length f.now) × ((length f.now + longer_by ≤ longest_frame) × (priority < 2 ^ 3)) }
     ensures { on_area result out.new ≡ put_on (general_for u (native_with f.now vlan priority) l) out.old }
 {
     let n = f.len() + LONGER_BY;
     if out.len() < n {
-        return ConvertAnswer::Refused(AREA_SHORT);
+        return Err(Refusal::AreaShort);
     }
     write_general(u, priority, l, f, out);
-    ConvertAnswer::Written(n as u16)
+    Ok(n as u16)
 }
 
 // The ingress call.
-pub fn ingress(s: Settings, map: &[u8], u: Given, f: &[u8], out: &mut [u8]) -> ConvertAnswer
+pub fn ingress(s: Settings, map: &[u8], u: Given, f: &[u8], out: &mut [u8]) -> Result<u16, Refusal>
     ensures { on_area result out.new ≡ ingressed s map.now u f.now out.old }
 {
     if !frame_settings::settings_good(s) {
-        return ConvertAnswer::Refused(SETTINGS_BAD);
+        return Err(Refusal::SettingsBad);
     }
     if !given_good(u) {
-        return ConvertAnswer::Refused(SETTINGS_BAD);
+        return Err(Refusal::SettingsBad);
     }
     if !port_map_judge::map_good(map) {
-        return ConvertAnswer::Refused(MAP_BAD);
+        return Err(Refusal::MapBad);
     }
-    match judge(u, f) {
-        Judged::Refused(n) => ConvertAnswer::Refused(n),
-        Judged::Tagged { vlan, priority } => match port_map_search::label_for(map, vlan) {
-            LabelFound::Missing => ConvertAnswer::Refused(NO_PAIR),
-            LabelFound::Label(l) => put_general(u, vlan, priority, l, f, out),
-        },
+    let t = judge(u, f)?;
+    match port_map_search::label_for(map, t.vlan) {
+        None => Err(Refusal::NoPair),
+        Some(l) => put_general(u, t.vlan, t.priority, l, f, out),
     }
 }

@@ -6,25 +6,25 @@ use mathlib.Core.Bool.{Bool, true, false}
 use mathlib.Core.List.{List}
 use mathlib.Core.Path.{◌≡◌, refl, sym, ap, ◌∙◌}
 use lib.ListN.{length}
-use Rattle.numbers.specs.Result.{Result, refused, got, check, and_then}
+use Rattle.numbers.specs.Result.{Outcome, check, and_then}
 use Rattle.numbers.specs.After.{OnArea}
 use Rattle.numbers.proofs.Answers.{check_got, then_got}
 use Rattle.frame.specs.Header.{word_at}
 use Rattle.frame.specs.Labels.{low12}
 use Rattle.frame.specs.declared.Settings.{Settings}
-use Rattle.convert.specs.declared.ConvertAnswer.{ConvertAnswer}
 use Rattle.port_map.specs.Maps.{port_vlan, pairs_in, map_good, label_for}
 use Rattle.port_map.specs.declared.PortVlan.{PortVlan}
 use Rattle.port_map.specs.declared.CampusLabel.{CampusLabel}
 use Rattle.port_map_pairs.specs.Pairs.{map_bytes_of}
 use Rattle.port_map_pairs.specs.declared.MapPair.{MapPair}
-use Rattle.port_map_search.specs.declared.LabelFound.{LabelFound}
 use Rattle.port_map_one.specs.One.{VlanSearched, VlanAlike, pair_for_vlan, one_map}
 use Rattle.port_map_one.proofs.Alike.{vlan_alike}
 use Rattle.ingress.specs.Ingress.{Native, general_for, judged, ingressing, ingressed}
 use Rattle.ingress.specs.declared.Given.{Given}
 use Rattle.ingress.proofs.Accepted.{native_is}
 use Rattle.ingress_pairs.specs.Meaning.{VlanAsked}
+use Rattle.std.specs.Prelude.{Option, Ok, Err}
+use Rattle.numbers.specs.declared.refusals.Refusal.TheVariants.{MapBad}
 
 -- ---- the VLAN asked
 
@@ -35,7 +35,7 @@ pub asked_tag : (f : List ℕ) (w : ℕ) → w ≡ word_at 14 f → VlanAsked f 
 asked_tag f w e k = ap (λ (n : ℕ). port_vlan (n % 0x1000)) e
 
 -- what is judged a native frame has the VLAN of its tag
-judged_vlan : (u : Given) (f : List ℕ) (n : Native) → judged u f ≡ got n → (16 ≤ length f) × (port_vlan (low12 14 f) ≡ n.vlan)
+judged_vlan : (u : Given) (f : List ℕ) (n : Native) → judged u f ≡ Ok n → (16 ≤ length f) × (port_vlan (low12 14 f) ≡ n.vlan)
 unfolding judged
 judged_vlan u f n q =
     let a = check_got _ _ _ _ q in
@@ -51,18 +51,18 @@ judged_vlan u f n q =
 -- ---- two maps between which a search for that VLAN does not tell
 
 module _ (s : Settings) (u : Given) (f : List ℕ) (v : PortVlan) (asked : VlanAsked f v) (m k : List ℕ) (a : VlanAlike v m k) where
-  abbrev taken : List ℕ → Native → Result (List ℕ)
-  taken b n = and_then (label_for (pairs_in b) n.vlan) λ l. got (general_for u n l)
+  abbrev taken : List ℕ → Native → Outcome (List ℕ)
+  taken b n = and_then (label_for (pairs_in b) n.vlan) λ l. Ok (general_for u n l)
 
-  taken_alike : (x : Result Native) → judged u f ≡ x → map_good m ≡ true → and_then x (taken m) ≡ and_then x (taken k)
+  taken_alike : (x : Outcome Native) → judged u f ≡ x → map_good m ≡ true → and_then x (taken m) ≡ and_then x (taken k)
   unfolding and_then
-  taken_alike (refused n) q g = refl
-  taken_alike (got n) q g =
+  taken_alike (Err n) q g = refl
+  taken_alike (Ok n) q g =
       let is = judged_vlan u f n q in
       let same : v ≡ n.vlan = asked is.0 ∙ is.1 in
-      ap (λ (r : Result CampusLabel). and_then r (λ l. got (general_for u n l))) (ap (label_for (pairs_in m)) (sym same) ∙ a.found g ∙ ap (label_for (pairs_in k)) same)
+      ap (λ (r : Outcome CampusLabel). and_then r (λ l. Ok (general_for u n l))) (ap (label_for (pairs_in m)) (sym same) ∙ a.found g ∙ ap (label_for (pairs_in k)) same)
 
-  taken_by : (c : Bool) → map_good m ≡ c → check c 21 (and_then (judged u f) (taken m)) ≡ check c 21 (and_then (judged u f) (taken k))
+  taken_by : (c : Bool) → map_good m ≡ c → check c MapBad (and_then (judged u f) (taken m)) ≡ check c MapBad (and_then (judged u f) (taken k))
   unfolding check
   taken_by true e = taken_alike (judged u f) refl e
   taken_by false e = refl
@@ -73,8 +73,8 @@ module _ (s : Settings) (u : Given) (f : List ℕ) (v : PortVlan) (asked : VlanA
 
 -- ---- with what was found in a slice
 
-module _ (s : Settings) (u : Given) (f o : List ℕ) (n : ℕ) (good : Bool) (v : PortVlan) (r : LabelFound) where
-  pub ingress_found : (m : List ℕ) → m ≡ one_map n good (pair_for_vlan v r) → (x : OnArea ConvertAnswer) → x ≡ ingressed s m u f o
+module _ (s : Settings) (u : Given) (f o : List ℕ) (n : ℕ) (good : Bool) (v : PortVlan) (r : Option CampusLabel) where
+  pub ingress_found : (m : List ℕ) → m ≡ one_map n good (pair_for_vlan v r) → (x : OnArea (Outcome ℕ)) → x ≡ ingressed s m u f o
       → (ps : List MapPair) → VlanSearched ps n good v r → VlanAsked f v → x ≡ ingressed s (map_bytes_of ps) u f o
   ingress_found m is x e ps k asked =
       e ∙ ap (λ (b : List ℕ). ingressed s b u f o) is ∙ ingress_alike s u f v asked (map_bytes_of ps) (one_map n good (pair_for_vlan v r)) (vlan_alike ps n good v r k) o

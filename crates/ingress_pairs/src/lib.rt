@@ -10,12 +10,11 @@ ghost use Rattle.port_map_pairs.specs.declared.MapPair.{MapPair as Pair};
 ghost use Rattle.port_map_one.specs.One.{VlanSearched};
 ghost use Rattle.ingress_pairs.specs.Meaning.{VlanAsked};
 
-use convert::ConvertAnswer;
 use frame::{LABEL_PART, Settings, TAGGED_ADDRESSES_BYTES, UNTAGGED_OUTER_BYTES};
 use ingress::Given;
-use port_map::PortVlan;
+use numbers::refusals::Refusal;
+use port_map::{CampusLabel, PortVlan};
 use port_map_pairs::MapPair;
-use port_map_search::LabelFound;
 
 // The VLAN in a native frame's tag; any other where the tag is not there.
 pub fn vlan_asked(f: &[u8]) -> PortVlan
@@ -34,11 +33,11 @@ pub fn ingress_found(
     n: usize,
     good: bool,
     v: PortVlan,
-    found: LabelFound,
+    found: Option<CampusLabel>,
     u: Given,
     f: &[u8],
     out: &mut [u8],
-) -> ConvertAnswer
+) -> Result<u16, Refusal>
     ensures { (ps : List Pair) → VlanSearched ps n good v found → VlanAsked f.now v → on_area result out.new ≡ ingressed s (map_bytes_of ps) u f.now out.old }
 {
     let p = port_map_one::pair_for_vlan(v, found);
@@ -54,7 +53,7 @@ pub fn ingress_mapped(
     u: Given,
     f: &[u8],
     out: &mut [u8],
-) -> ConvertAnswer
+) -> Result<u16, Refusal>
     ensures { on_area result out.new ≡ ingressed s (map_bytes_of map.now) u f.now out.old }
 {
     let good = port_map_pairs::map_good(map);

@@ -10,7 +10,6 @@ use lib.Dec.{leb, eqb}
 use lib.ListN.{length}
 use borrow.Author.Tests.{eqb-true}
 use Rattle.numbers.specs.Tests.{pick, both, either, any_of}
-use Rattle.numbers.specs.Result.{got}
 use Rattle.numbers.specs.Numberings.{vlans, in_blocks, in_map}
 use Rattle.numbers.proofs.Answers.{check_got, check_pass}
 use Rattle.numbers.proofs.Truth.{both_true, false_true}
@@ -20,6 +19,7 @@ use Rattle.flush.specs.Meaning.{vlan_in, some_mac_in, brings_label, gathers_mac,
 use Rattle.flush.specs.Sets.{Some}
 use Rattle.flush.proofs.Lists.{any_true, any_member, any_false}
 use Rattle.models.specs.Claims.{MacTlv}
+use Rattle.std.specs.Prelude.{Ok}
 
 -- ---- corrupt pieces
 
@@ -38,7 +38,7 @@ none_corrupt ps h =
     let z : ◌≡◌ {A = Bool} false true = sym (ap not e) ∙ h in
     false_true z))
 
-pub accepts : (l : List ℕ) (p : Payload) → payload_of every_type l ≡ got p → payload_of vlan_types l ≡ got p
+pub accepts : (l : List ℕ) (p : Payload) → payload_of every_type l ≡ Ok p → payload_of vlan_types l ≡ Ok p
 unfolding payload_of
 accepts l p e =
     let a = check_got (leb 1 (length l)) _ _ p e in

@@ -10,7 +10,7 @@ use mathlib.Core.Path.{◌≡◌, refl, sym, ap, ◌∙◌}
 use native.Mathlib.Omega.{arith}
 use lib.ListN.{length}
 use Rattle.numbers.specs.Tests.{both}
-use Rattle.numbers.specs.Result.{got, check, and_then, settled}
+use Rattle.numbers.specs.Result.{check, and_then, settled}
 use Rattle.numbers.proofs.Truth.{both_true, both_pass, false_true}
 use Rattle.table.specs.Record.{unpacked}
 use Rattle.table.specs.Slots.{table_good, slots_of, slot_at, freed}
@@ -27,6 +27,7 @@ use Rattle.flush.proofs.Flushing.{cleared_hit, cleared_miss, cleared_keeps}
 use Rattle.models.specs.Models.{flushed_by, Message, flushes_by}
 use Rattle.models.specs.Claims.{FullModel, VlanRecord, Accepted, NoMacTlv, Witness, VlanSlot, VlanOnly}
 use Rattle.models.proofs.Meaning.{accepts, label_same, every_mac, mac_missed}
+use Rattle.std.specs.Prelude.{Ok}
 
 pub full_model : FullModel
 unfolding flushed flushed_by
@@ -34,7 +35,7 @@ full_model ingress l t = refl
 
 -- ---- one message over a table, for any model
 
-module _ (types : Types) (ingress : ℕ) (l t : List ℕ) (p : Payload) (good : table_good t ≡ true) (read : payload_of types l ≡ got p) where
+module _ (types : Types) (ingress : ℕ) (l t : List ℕ) (p : Payload) (good : table_good t ≡ true) (read : payload_of types l ≡ Ok p) where
   ran : flushed_by types ingress l t ≡ answered (cleared_by (slot_meant types p ingress) t)
   unfolding flushed_by clearing settled check and_then
   ran = rw (good, read)
@@ -60,7 +61,7 @@ freed-stays meant = go (meant freed) refl
 
 -- ---- one message and one VLAN record
 
-module _ (r : List ℕ) (e : Entry) (v : VlanRecord r e) (m : Message) (p : Payload) (read : payload_of every_type m.payload ≡ got p) where
+module _ (r : List ℕ) (e : Entry) (v : VlanRecord r e) (m : Message) (p : Payload) (read : payload_of every_type m.payload ≡ Ok p) where
   abbrev nick : Bool
   nick = nickname_meant m.ingress p.nicks e.nickname
 
@@ -130,7 +131,7 @@ data Way (W : Type 0) (r full small : List ℕ) : Type 0 where
   gone : full ≡ freed → small ≡ freed → Way W r full small
   apart : full ≡ r → small ≡ freed → W → Way W r full small
 
-module _ (W : Type 0) (r : List ℕ) (e : Entry) (v : VlanRecord r e) (m : Message) (p : Payload) (read : payload_of every_type m.payload ≡ got p) (known : Witness r e m → W) where
+module _ (W : Type 0) (r : List ℕ) (e : Entry) (v : VlanRecord r e) (m : Message) (p : Payload) (read : payload_of every_type m.payload ≡ Ok p) (known : Witness r e m → W) where
   abbrev full_of : List ℕ → List ℕ
   full_of = cleared_slot (slot_meant every_type p m.ingress)
 
@@ -163,7 +164,7 @@ module _ (W : Type 0) (t : List ℕ) (good : table_good t ≡ true) (k : ℕ) (i
       let (p, read) = ok m (Memᴰ.head refl) in
       let gf : table_good full ≡ true = good_same t full f good in
       let gs : table_good small ≡ true = good_same t small s good in
-      let read2 : payload_of vlan_types m.payload ≡ got p = accepts m.payload p read in
+      let read2 : payload_of vlan_types m.payload ≡ Ok p = accepts m.payload p read in
       runs ms (λ n q. ok n (Memᴰ.tail q)) (λ q. known (q.0, Memᴰ.tail q.1, q.2))
       (flushed_by every_type m.ingress m.payload full).table
       (flushed_by vlan_types m.ingress m.payload small).table

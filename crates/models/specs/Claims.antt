@@ -1,8 +1,7 @@
 -- How the small model may differ from the full one.
 -- Assumes nothing.
-use Rattle.std.specs.Prelude.{ℕ, ◌<◌, true, ◌⊎◌, ◌≡◌}
+use Rattle.std.specs.Prelude.{ℕ, ◌<◌, true, ◌⊎◌, ◌≡◌, Ok}
 use mathlib.Core.List.{List, Memᴰ}
-use Rattle.numbers.specs.Result.{got}
 use Rattle.table.specs.Record.{unpacked}
 use Rattle.table.specs.Slots.{table_good, slots_of, slot_at, freed}
 use Rattle.table.specs.declared.Label.TheVariants.{Vlan}
@@ -31,17 +30,17 @@ MacTlv stump = ⊥
 
 -- the full model accepts every message of the list
 abbrev pub Accepted : List Message → Type 0
-Accepted ms = (m : Message) → Memᴰ m ms → (p : Payload) × (payload_of every_type m.payload ≡ got p)
+Accepted ms = (m : Message) → Memᴰ m ms → (p : Payload) × (payload_of every_type m.payload ≡ Ok p)
 
 -- no message of the list has a TLV of type 7 or 8
 abbrev pub NoMacTlv : List Message → Type 0
-NoMacTlv ms = (m : Message) → Memᴰ m ms → (p : Payload) → payload_of every_type m.payload ≡ got p → Some MacTlv p.pieces → ⊥
+NoMacTlv ms = (m : Message) → Memᴰ m ms → (p : Payload) → payload_of every_type m.payload ≡ Ok p → Some MacTlv p.pieces → ⊥
 
 -- the record was learned, and the message means its nickname and its label and not its MAC
 pub record Witness (r : List ℕ) (e : Entry) (m : Message) : Type 0 where
   pub learned : unpacked r ≡ Learned e
   pub payload : Payload
-  pub read : payload_of every_type m.payload ≡ got payload
+  pub read : payload_of every_type m.payload ≡ Ok payload
   pub nickname : NicknameMeant m.ingress payload.nicks e.nickname
   pub label : LabelMeant payload.pieces e.label
   pub mac : MacMeant payload.pieces e.mac → ⊥
@@ -57,7 +56,7 @@ pub record VlanSlot (ms : List Message) (r : List ℕ) (e : Entry) (full small :
 
 pub record VlanOnly : Type 0 where
   -- what the full model accepts the small one accepts, cut into the same pieces
-  pub accepts : (l : List ℕ) (p : Payload) → payload_of full_types l ≡ got p → payload_of small_types l ≡ got p
+  pub accepts : (l : List ℕ) (p : Payload) → payload_of full_types l ≡ Ok p → payload_of small_types l ≡ Ok p
   -- from equal tables, after any list of messages that the full model accepts
   pub slots : (ms : List Message) (t : List ℕ) → table_good t ≡ true → Accepted ms → (k : ℕ) → k < slots_of t → (e : Entry) → VlanRecord (slot_at k t) e
       → VlanSlot ms (slot_at k t) e (slot_at k (flushes_by full_types ms t)) (slot_at k (flushes_by small_types ms t))

@@ -1,14 +1,13 @@
 -- What is not promised: a message that the full model refuses as corrupt and the small one carries out.
 -- Assumes nothing.
-use Rattle.std.specs.Prelude.{ℕ, false, List, [], ◌∷◌, ◌≡◌}
-use Rattle.numbers.specs.Refusals.{payload_corrupt}
+use Rattle.std.specs.Prelude.{ℕ, false, List, [], ◌∷◌, ◌≡◌, Ok, Err}
 use Rattle.numbers.specs.After.{on_table}
 use Rattle.table.specs.Record.{learned_state, packed}
 use Rattle.table.specs.Slots.{freed}
 use Rattle.table.specs.declared.Label.TheVariants.{Vlan}
 use Rattle.flush.specs.Flush.{flushed}
-use Rattle.flush.specs.declared.FlushAnswer.TheVariants.{Refused, Flushed}
 use Rattle.models.specs.Models.{flushed_vlan_only}
+use Rattle.numbers.specs.declared.refusals.Refusal.TheVariants.{PayloadCorrupt}
 
 -- a learned record of the sender
 abbrev pub known : List ℕ
@@ -23,7 +22,7 @@ abbrev pub broken_fine : List ℕ
 broken_fine = 0x00 ∷ 0x00 ∷ 0x06 ∷ 0x00 ∷ 0x03 ∷ 0x01 ∷ 0x00 ∷ []
 
 pub record NotPromised : Type 0 where
-  pub full : flushed 0x1234 broken known ≡ on_table (Refused payload_corrupt) known
-  pub small : flushed_vlan_only 0x1234 broken known ≡ on_table (Flushed 1) freed
-  pub full_fine : flushed 0x1234 broken_fine known ≡ on_table (Refused payload_corrupt) known
-  pub small_fine : flushed_vlan_only 0x1234 broken_fine known ≡ on_table (Flushed 1) freed
+  pub full : flushed 0x1234 broken known ≡ on_table (Err PayloadCorrupt) known
+  pub small : flushed_vlan_only 0x1234 broken known ≡ on_table (Ok 1) freed
+  pub full_fine : flushed 0x1234 broken_fine known ≡ on_table (Err PayloadCorrupt) known
+  pub small_fine : flushed_vlan_only 0x1234 broken_fine known ≡ on_table (Ok 1) freed

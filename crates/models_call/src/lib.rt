@@ -11,10 +11,10 @@ ghost use Rattle.flush_payload.specs.Judging.{Noted};
 ghost use Rattle.flush_call.specs.Clearing.{payload_from};
 ghost use Rattle.models.specs.Models.{flushed_vlan_only};
 
-use flush::{FlushAnswer, Model};
+use flush::Model;
 use flush_marks::MARK_BYTES;
-use flush_payload::{Judged, Kinds};
-use numbers::refusals::{PAYLOAD_CORRUPT, TABLE_LENGTH_BAD};
+use flush_payload::Kinds;
+use numbers::refusals::Refusal;
 use table::SLOT_BYTES;
 
 // Clears the slots that a good payload means to the small model. Where it names no label there is nothing to do.
@@ -32,20 +32,16 @@ fn clear_vlans(ingress: u32, nicks: &[u8], rest: &[u8], f: Kinds, table: &mut [u
 }
 
 // The flush call of the small model: 2, then 15.
-pub fn flush_vlan_only(ingress: u32, payload: &[u8], table: &mut [u8]) -> FlushAnswer
+pub fn flush_vlan_only(ingress: u32, payload: &[u8], table: &mut [u8]) -> Result<u16, Refusal>
     ensures { on_table result table.new ≡ flushed_vlan_only ingress payload.now table.old }
 {
     if !table_records::table_good(table) {
-        return FlushAnswer::Refused(TABLE_LENGTH_BAD);
+        return Err(Refusal::TableLengthBad);
     }
-    match flush_payload::judge(Model::VlanOnly, payload) {
-        Judged::Corrupt => FlushAnswer::Refused(PAYLOAD_CORRUPT),
-        Judged::Good(f) => {
-            let k = flush_payload::nick_bytes(payload);
-            let a = 1 + k;
-            let s = 2 + k;
-            let n = clear_vlans(ingress, &payload[1..a], &payload[s..], f, table);
-            FlushAnswer::Flushed(n as u16)
-        }
-    }
+    let f = flush_payload::judge(Model::VlanOnly, payload)?;
+    let k = flush_payload::nick_bytes(payload);
+    let a = 1 + k;
+    let s = 2 + k;
+    let n = clear_vlans(ingress, &payload[1..a], &payload[s..], f, table);
+    Ok(n as u16)
 }

@@ -1,20 +1,13 @@
 -- A port's map (2026-01): pairs of a VLAN of the port and a fine-grained label of the campus; when it is good, and the two searches.
 -- Assumes nothing.
-use Rattle.std.specs.Prelude.{ℕ, ◌%◌, Bool, true, not, List, [], ◌∷◌, map, leb, eqb, length, take, drop}
+use Rattle.std.specs.Prelude.{ℕ, ◌%◌, Bool, true, not, List, [], ◌∷◌, map, leb, eqb, length, take, drop, Ok, Err}
 use Rattle.numbers.specs.Tests.{pick, both, any_of}
-use Rattle.numbers.specs.Result.{Result, refused, got}
+use Rattle.numbers.specs.Result.{Outcome}
 use Rattle.numbers.specs.Bytes.{num, parts}
 use Rattle.numbers.specs.Ranges.{vlan_good, last_fine}
 use Rattle.port_map.specs.declared.PortVlan.{PortVlan}
 use Rattle.port_map.specs.declared.CampusLabel.{CampusLabel}
-
--- 21: "map has a VLAN or label twice, a VLAN outside 1 to FFE or a label over FFFFFF", or a length that is no multiple of a pair's
-abbrev pub map_bad : ℕ
-map_bad = 21
-
--- 22: "no pair found"
-abbrev pub no_pair : ℕ
-no_pair = 22
+use Rattle.numbers.specs.declared.refusals.Refusal.TheVariants.{NoPair}
 
 -- "A port's VLAN number and a campus label are two numberings, kept strictly apart"
 abbrev pub port_vlan : ℕ → PortVlan
@@ -67,10 +60,10 @@ map_good m = both (eqb (length m % pair_bytes) 0) (pairs_good (pairs_in m))
 
 -- ---- the two searches: the first pair, or 22
 
-unfoldable pub label_for : List Pair → PortVlan → Result CampusLabel
-label_for [] v = refused no_pair
-label_for (p ∷ ps) v = pick (eqb p.vlan.0 v.0) (got p.label) (label_for ps v)
+unfoldable pub label_for : List Pair → PortVlan → Outcome CampusLabel
+label_for [] v = Err NoPair
+label_for (p ∷ ps) v = pick (eqb p.vlan.0 v.0) (Ok p.label) (label_for ps v)
 
-unfoldable pub vlan_for : List Pair → CampusLabel → Result PortVlan
-vlan_for [] l = refused no_pair
-vlan_for (p ∷ ps) l = pick (eqb p.label.0 l.0) (got p.vlan) (vlan_for ps l)
+unfoldable pub vlan_for : List Pair → CampusLabel → Outcome PortVlan
+vlan_for [] l = Err NoPair
+vlan_for (p ∷ ps) l = pick (eqb p.label.0 l.0) (Ok p.vlan) (vlan_for ps l)

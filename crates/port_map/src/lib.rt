@@ -18,11 +18,6 @@ pub const LABEL_OFFSET: usize = 2;
 // The priority of a tag, and of half a fine-grained label, is the number of this bit in its two bytes and above; DEI is the bit below.
 pub const PRIORITY_BIT: u64 = 0x2000;
 
-// Refusals: a map that is not good, and no pair found.
-pub const MAP_BAD: u8 = 21;
-
-pub const NO_PAIR: u8 = 22;
-
 // What holds of the definition of a map.
 pub fn claims()
     ensures { SearchInverse }

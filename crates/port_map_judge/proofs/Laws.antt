@@ -14,22 +14,20 @@ use Rattle.std.specs.List.{list_all, range_with_len}
 use Rattle.numbers.specs.Tests.{pick, both, either, any_of, between}
 use Rattle.numbers.specs.Numberings.{bit_at}
 use Rattle.numbers.specs.Ranges.{first_vlan, last_vlan, vlan_good, last_fine}
-use Rattle.numbers.specs.Result.{refused, got}
 use Rattle.numbers.proofs.Truth.{between_is, either_first, both_right}
 use Rattle.numbers.proofs.Answers.{refused_got}
 use lib.Bits.{bit_or}
 use Rattle.flush_bits.specs.Ranged.{mask_of, Ranged}
 use Rattle.flush_bits.proofs.Laws.{every, every_at, part_added, range_tells}
-use Rattle.port_map.specs.Maps.{no_pair, pair_bytes, Pair, pairs_in, good_once, vlan_of, label_of, fine_good, pairs_good, map_good, label_for, vlan_for}
+use Rattle.port_map.specs.Maps.{pair_bytes, Pair, pairs_in, good_once, vlan_of, label_of, fine_good, pairs_good, map_good, label_for, vlan_for}
 use Rattle.port_map.specs.declared.PortVlan.{PortVlan}
 use Rattle.port_map.specs.declared.CampusLabel.{CampusLabel}
 use Rattle.port_map.proofs.Steps.{pairs_end, pairs_more, pairs_done, pairs_at}
 use Rattle.port_map_search.specs.Meaning.{pair_at, label_as, vlan_as}
-use Rattle.port_map_search.specs.declared.LabelFound.{LabelFound}
-use Rattle.port_map_search.specs.declared.LabelFound.TheVariants as label
-use Rattle.port_map_search.specs.declared.VlanFound.{VlanFound}
-use Rattle.port_map_search.specs.declared.VlanFound.TheVariants as found
 use Rattle.port_map_judge.specs.Meaning.{vlans_in, labels_in, alone_at, seen_bytes, Noted, met_bytes, Met, LabelNoted, low_bytes, high_bytes, low_of, high_of, MetAt, LabelNotedTwice}
+use Rattle.std.specs.Prelude.{Option, Some, None, Ok, Err, is_some}
+use Rattle.numbers.specs.declared.refusals.Refusal.TheVariants.{NoPair}
+use Rattle.numbers.specs.declared.refusals.Refusal.{Refusal}
 
 -- ---- one bit
 
@@ -188,39 +186,46 @@ seen_done m s j i h =
 
 -- ---- labels
 
-none_any : (ps : List Pair) (l : CampusLabel) (n : ℕ) → vlan_for ps l ≡ refused n → any_of (eqb l.0) (map label_of ps) ≡ false
+none_any : (ps : List Pair) (l : CampusLabel) (n : Refusal) → vlan_for ps l ≡ Err n → any_of (eqb l.0) (map label_of ps) ≡ false
 unfolding vlan_for any_of pick either
 none_any [] l n e = refl
 none_any (p ∷ ps) l n e = go (eqb p.label.0 l.0) refl (none_any ps l n) e
   where
-    go : (c : Bool) → eqb p.label.0 l.0 ≡ c → (vlan_for ps l ≡ refused n → any_of (eqb l.0) (map label_of ps) ≡ false)
-        → pick c (got p.vlan) (vlan_for ps l) ≡ refused n → either (eqb l.0 (label_of p)) (any_of (eqb l.0) (map label_of ps)) ≡ false
+    go : (c : Bool) → eqb p.label.0 l.0 ≡ c → (vlan_for ps l ≡ Err n → any_of (eqb l.0) (map label_of ps) ≡ false)
+        → pick c (Ok p.vlan) (vlan_for ps l) ≡ Err n → either (eqb l.0 (label_of p)) (any_of (eqb l.0) (map label_of ps)) ≡ false
     go true q later h = refused_got n p.vlan (sym h)
     go false q later h = rw (ne_eqb l.0 (label_of p) (λ z. eqb-false p.label.0 l.0 q (sym z))) (later h)
 
-some_any : (ps : List Pair) (l : CampusLabel) (v : PortVlan) → vlan_for ps l ≡ got v → any_of (eqb l.0) (map label_of ps) ≡ true
+some_any : (ps : List Pair) (l : CampusLabel) (v : PortVlan) → vlan_for ps l ≡ Ok v → any_of (eqb l.0) (map label_of ps) ≡ true
 unfolding vlan_for any_of pick either
-some_any [] l v e = refused_got no_pair v e
+some_any [] l v e = refused_got NoPair v e
 some_any (p ∷ ps) l v e = go (eqb p.label.0 l.0) refl (some_any ps l v) e
   where
     pass : (a : Bool) → any_of (eqb l.0) (map label_of ps) ≡ true → either a (any_of (eqb l.0) (map label_of ps)) ≡ true
     pass true h = refl
     pass false h = h
 
-    go : (c : Bool) → eqb p.label.0 l.0 ≡ c → (vlan_for ps l ≡ got v → any_of (eqb l.0) (map label_of ps) ≡ true)
-        → pick c (got p.vlan) (vlan_for ps l) ≡ got v → either (eqb l.0 (label_of p)) (any_of (eqb l.0) (map label_of ps)) ≡ true
+    go : (c : Bool) → eqb p.label.0 l.0 ≡ c → (vlan_for ps l ≡ Ok v → any_of (eqb l.0) (map label_of ps) ≡ true)
+        → pick c (Ok p.vlan) (vlan_for ps l) ≡ Ok v → either (eqb l.0 (label_of p)) (any_of (eqb l.0) (map label_of ps)) ≡ true
     go true q later h = rw (eq-eqb l.0 (label_of p) (sym (eqb-true p.label.0 l.0 q)))
     go false q later h = pass (eqb l.0 (label_of p)) (later h)
 
-module _ (m : List ℕ) (from : ℕ) (l : CampusLabel) (r : VlanFound) (e : vlan_as r ≡ vlan_for (pairs_in (take (length m - from) (drop from m))) l) where
+module _ (m : List ℕ) (from : ℕ) (l : CampusLabel) (r : Option PortVlan) (e : vlan_as r ≡ vlan_for (pairs_in (take (length m - from) (drop from m))) l) where
   rest : vlan_as r ≡ vlan_for (pairs_in (drop from m)) l
   rest = let d = length-drop from m in rw (take_all (length m - from) (drop from m) (omega arith)) at e
 
-  pub not_again : r ≡ found.Missing → false ≡ any_of (eqb l.0) (labels_in (drop from m))
-  not_again h = sym (none_any (pairs_in (drop from m)) l no_pair (sym (rw h at rest)))
+  not_again : r ≡ None → false ≡ any_of (eqb l.0) (labels_in (drop from m))
+  not_again h = sym (none_any (pairs_in (drop from m)) l NoPair (sym (rw h at rest)))
 
-  pub is_again : (v : PortVlan) → r ≡ found.Vlan v → true ≡ any_of (eqb l.0) (labels_in (drop from m))
+  is_again : (v : PortVlan) → r ≡ Some v → true ≡ any_of (eqb l.0) (labels_in (drop from m))
   is_again v h = sym (some_any (pairs_in (drop from m)) l v (sym (rw h at rest)))
+
+  again_by : (x : Option PortVlan) → r ≡ x → is_some x ≡ any_of (eqb l.0) (labels_in (drop from m))
+  again_by None h = not_again h
+  again_by (Some v) h = is_again v h
+
+  pub again : is_some r ≡ any_of (eqb l.0) (labels_in (drop from m))
+  again = again_by r refl
 
 -- ---- each pair beside those after it, for either number of a pair
 
@@ -274,39 +279,46 @@ module _ (m : List ℕ) (at : ℕ) (x : PortVlan) (here : x ≡ (pair_at m at).v
 
 -- ---- VLANs of short maps
 
-none_vlan : (ps : List Pair) (v : PortVlan) (n : ℕ) → label_for ps v ≡ refused n → any_of (eqb v.0) (map vlan_of ps) ≡ false
+none_vlan : (ps : List Pair) (v : PortVlan) (n : Refusal) → label_for ps v ≡ Err n → any_of (eqb v.0) (map vlan_of ps) ≡ false
 unfolding label_for any_of pick either
 none_vlan [] v n e = refl
 none_vlan (p ∷ ps) v n e = go (eqb p.vlan.0 v.0) refl (none_vlan ps v n) e
   where
-    go : (c : Bool) → eqb p.vlan.0 v.0 ≡ c → (label_for ps v ≡ refused n → any_of (eqb v.0) (map vlan_of ps) ≡ false)
-        → pick c (got p.label) (label_for ps v) ≡ refused n → either (eqb v.0 (vlan_of p)) (any_of (eqb v.0) (map vlan_of ps)) ≡ false
+    go : (c : Bool) → eqb p.vlan.0 v.0 ≡ c → (label_for ps v ≡ Err n → any_of (eqb v.0) (map vlan_of ps) ≡ false)
+        → pick c (Ok p.label) (label_for ps v) ≡ Err n → either (eqb v.0 (vlan_of p)) (any_of (eqb v.0) (map vlan_of ps)) ≡ false
     go true q later h = refused_got n p.label (sym h)
     go false q later h = rw (ne_eqb v.0 (vlan_of p) (λ z. eqb-false p.vlan.0 v.0 q (sym z))) (later h)
 
-some_vlan : (ps : List Pair) (v : PortVlan) (l : CampusLabel) → label_for ps v ≡ got l → any_of (eqb v.0) (map vlan_of ps) ≡ true
+some_vlan : (ps : List Pair) (v : PortVlan) (l : CampusLabel) → label_for ps v ≡ Ok l → any_of (eqb v.0) (map vlan_of ps) ≡ true
 unfolding label_for any_of pick either
-some_vlan [] v l e = refused_got no_pair l e
+some_vlan [] v l e = refused_got NoPair l e
 some_vlan (p ∷ ps) v l e = go (eqb p.vlan.0 v.0) refl (some_vlan ps v l) e
   where
     pass : (a : Bool) → any_of (eqb v.0) (map vlan_of ps) ≡ true → either a (any_of (eqb v.0) (map vlan_of ps)) ≡ true
     pass true h = refl
     pass false h = h
 
-    go : (c : Bool) → eqb p.vlan.0 v.0 ≡ c → (label_for ps v ≡ got l → any_of (eqb v.0) (map vlan_of ps) ≡ true)
-        → pick c (got p.label) (label_for ps v) ≡ got l → either (eqb v.0 (vlan_of p)) (any_of (eqb v.0) (map vlan_of ps)) ≡ true
+    go : (c : Bool) → eqb p.vlan.0 v.0 ≡ c → (label_for ps v ≡ Ok l → any_of (eqb v.0) (map vlan_of ps) ≡ true)
+        → pick c (Ok p.label) (label_for ps v) ≡ Ok l → either (eqb v.0 (vlan_of p)) (any_of (eqb v.0) (map vlan_of ps)) ≡ true
     go true q later h = rw (eq-eqb v.0 (vlan_of p) (sym (eqb-true p.vlan.0 v.0 q)))
     go false q later h = pass (eqb v.0 (vlan_of p)) (later h)
 
-module _ (m : List ℕ) (from : ℕ) (v : PortVlan) (r : LabelFound) (e : label_as r ≡ label_for (pairs_in (take (length m - from) (drop from m))) v) where
+module _ (m : List ℕ) (from : ℕ) (v : PortVlan) (r : Option CampusLabel) (e : label_as r ≡ label_for (pairs_in (take (length m - from) (drop from m))) v) where
   rest_of : label_as r ≡ label_for (pairs_in (drop from m)) v
   rest_of = let d = length-drop from m in rw (take_all (length m - from) (drop from m) (omega arith)) at e
 
-  pub vlan_not_again : r ≡ label.Missing → false ≡ any_of (eqb v.0) (vlans_in (drop from m))
-  vlan_not_again h = sym (none_vlan (pairs_in (drop from m)) v no_pair (sym (rw h at rest_of)))
+  vlan_not_again : r ≡ None → false ≡ any_of (eqb v.0) (vlans_in (drop from m))
+  vlan_not_again h = sym (none_vlan (pairs_in (drop from m)) v NoPair (sym (rw h at rest_of)))
 
-  pub vlan_is_again : (l : CampusLabel) → r ≡ label.Label l → true ≡ any_of (eqb v.0) (vlans_in (drop from m))
+  vlan_is_again : (l : CampusLabel) → r ≡ Some l → true ≡ any_of (eqb v.0) (vlans_in (drop from m))
   vlan_is_again l h = sym (some_vlan (pairs_in (drop from m)) v l (sym (rw h at rest_of)))
+
+  vlan_again_by : (x : Option CampusLabel) → r ≡ x → is_some x ≡ any_of (eqb v.0) (vlans_in (drop from m))
+  vlan_again_by None h = vlan_not_again h
+  vlan_again_by (Some l) h = vlan_is_again l h
+
+  pub vlan_again : is_some r ≡ any_of (eqb v.0) (vlans_in (drop from m))
+  vlan_again = vlan_again_by r refl
 
 -- ---- labels of middling maps
 

@@ -15,7 +15,6 @@ ghost use Rattle.port_map_judge.specs.Apart.{most_keys, Parted, Keyed};
 
 use numbers::LAST_FINE;
 use port_map::{CampusLabel, PAIR_BYTES, PortVlan};
-use port_map_search::{LabelFound, VlanFound};
 
 // Adds a number to a set of bits, as `flush_bits::add_one` does, by one shift.
 fn add_number(s: &mut [u8], x: usize)
@@ -71,10 +70,7 @@ fn vlan_again(map: &[u8], from: usize, v: PortVlan) -> bool
     requires { from ≤ length map.now }
     ensures { result ≡ any_of (eqb v.0) (vlans_in (drop from map.now)) }
 {
-    match port_map_search::label_for(&map[from..], v) {
-        LabelFound::Missing => false,
-        LabelFound::Label(_) => true,
-    }
+    port_map_search::label_for(&map[from..], v).is_some()
 }
 
 // Whether the VLAN of the pair at an offset is good, and stands in none of those after it.
@@ -101,10 +97,7 @@ fn label_again(map: &[u8], from: usize, l: CampusLabel) -> bool
     requires { from ≤ length map.now }
     ensures { result ≡ any_of (eqb l.0) (labels_in (drop from map.now)) }
 {
-    match port_map_search::vlan_for(&map[from..], l) {
-        VlanFound::Missing => false,
-        VlanFound::Vlan(_) => true,
-    }
+    port_map_search::vlan_for(&map[from..], l).is_some()
 }
 
 // Whether the label of the pair at an offset is good, and stands in none of those after it.

@@ -11,22 +11,19 @@ use lib.ListN.{length, take}
 use borrow.Author.Tests.{eqb-true, eq-eqb, ne_eqb}
 use Rattle.numbers.specs.Tests.{pick, both, any_of, between}
 use Rattle.numbers.specs.Ranges.{vlan_good}
-use Rattle.numbers.specs.Result.{refused, got}
 use Rattle.numbers.proofs.Truth.{both_true, false_true}
 use Rattle.numbers.proofs.Answers.{refused_got, got_got}
-use Rattle.port_map.specs.Maps.{no_pair, Pair, good_once, vlan_of, label_of, fine_good, pairs_good, map_good, label_for, vlan_for}
+use Rattle.port_map.specs.Maps.{Pair, good_once, vlan_of, label_of, fine_good, pairs_good, map_good, label_for, vlan_for}
 use Rattle.port_map.specs.declared.PortVlan.{PortVlan}
 use Rattle.port_map.specs.declared.CampusLabel.{CampusLabel}
 use Rattle.port_map.proofs.Searches.{search_inverse}
 use Rattle.port_map_search.specs.Meaning.{label_as, vlan_as}
-use Rattle.port_map_search.specs.declared.LabelFound.{LabelFound}
-use Rattle.port_map_search.specs.declared.LabelFound.TheVariants as label
-use Rattle.port_map_search.specs.declared.VlanFound.{VlanFound}
-use Rattle.port_map_search.specs.declared.VlanFound.TheVariants as vlan
 use Rattle.port_map_pairs.specs.Pairs.{as_pairs, pair_bytes_of, map_bytes_of}
 use Rattle.port_map_pairs.specs.declared.MapPair.{MapPair}
 use Rattle.port_map_pairs.proofs.Bytes.{map-length, map_pairs, map-good}
 use Rattle.port_map_one.specs.One.{other_label, other_vlan, pair_for_label, pair_for_vlan, lent_bytes, one_map, LabelSearched, VlanSearched, LabelAlike, VlanAlike}
+use Rattle.std.specs.Prelude.{Option, Some, None, Ok, Err}
+use Rattle.numbers.specs.declared.refusals.Refusal.TheVariants.{NoPair}
 
 -- ---- a good map's pairs have good numbers
 
@@ -36,10 +33,10 @@ first good x xs h =
     let q = both_true (good x) _ h in
     (q.0, (both_true (not (any_of (eqb x) xs)) _ q.1).1)
 
-vlan_fits : (ps : List Pair) (l : CampusLabel) (v : PortVlan) → good_once vlan_good (map vlan_of ps) ≡ true → good_once fine_good (map label_of ps) ≡ true → vlan_for ps l ≡ got v
+vlan_fits : (ps : List Pair) (l : CampusLabel) (v : PortVlan) → good_once vlan_good (map vlan_of ps) ≡ true → good_once fine_good (map label_of ps) ≡ true → vlan_for ps l ≡ Ok v
     → (vlan_good v.0 ≡ true) × (fine_good l.0 ≡ true)
 unfolding vlan_for pick
-vlan_fits [] l v a b h = refused_got no_pair v h
+vlan_fits [] l v a b h = refused_got NoPair v h
 vlan_fits (p ∷ ps) l v a b h = go (eqb p.label.0 l.0) refl (vlan_fits ps l v x.1 y.1) h
   where
     x : (vlan_good (vlan_of p) ≡ true) × (good_once vlan_good (map vlan_of ps) ≡ true)
@@ -48,11 +45,11 @@ vlan_fits (p ∷ ps) l v a b h = go (eqb p.label.0 l.0) refl (vlan_fits ps l v x
     y : (fine_good (label_of p) ≡ true) × (good_once fine_good (map label_of ps) ≡ true)
     y = first fine_good (label_of p) (map label_of ps) b
 
-    go : (c : Bool) → eqb p.label.0 l.0 ≡ c → (vlan_for ps l ≡ got v → (vlan_good v.0 ≡ true) × (fine_good l.0 ≡ true)) → pick c (got p.vlan) (vlan_for ps l) ≡ got v → (vlan_good v.0 ≡ true) × (fine_good l.0 ≡ true)
+    go : (c : Bool) → eqb p.label.0 l.0 ≡ c → (vlan_for ps l ≡ Ok v → (vlan_good v.0 ≡ true) × (fine_good l.0 ≡ true)) → pick c (Ok p.vlan) (vlan_for ps l) ≡ Ok v → (vlan_good v.0 ≡ true) × (fine_good l.0 ≡ true)
     go true e later k = (ap (λ (w : PortVlan). vlan_good w.0) (sym (got_got p.vlan v k)) ∙ x.0, ap fine_good (sym (eqb-true p.label.0 l.0 e)) ∙ y.0)
     go false e later k = later k
 
-vlan_found_fits : (ps : List Pair) (l : CampusLabel) (v : PortVlan) → pairs_good ps ≡ true → vlan_for ps l ≡ got v → (vlan_good v.0 ≡ true) × (fine_good l.0 ≡ true)
+vlan_found_fits : (ps : List Pair) (l : CampusLabel) (v : PortVlan) → pairs_good ps ≡ true → vlan_for ps l ≡ Ok v → (vlan_good v.0 ≡ true) × (fine_good l.0 ≡ true)
 unfolding pairs_good
 vlan_found_fits ps l v g h = let q = both_true (good_once vlan_good (map vlan_of ps)) (good_once fine_good (map label_of ps)) g in vlan_fits ps l v q.0 q.1 h
 
@@ -62,11 +59,11 @@ one_good : (p : MapPair) → vlan_good p.vlan.0 ≡ true → fine_good p.label.0
 unfolding pairs_good good_once any_of both
 one_good p a b = rw (a, b)
 
-one_vlan : (p : MapPair) (l : CampusLabel) → vlan_for (as_pairs (p ∷ [])) l ≡ pick (eqb p.label.0 l.0) (got p.vlan) (refused no_pair)
+one_vlan : (p : MapPair) (l : CampusLabel) → vlan_for (as_pairs (p ∷ [])) l ≡ pick (eqb p.label.0 l.0) (Ok p.vlan) (Err NoPair)
 unfolding vlan_for
 one_vlan p l = refl
 
-one_label : (p : MapPair) (v : PortVlan) → label_for (as_pairs (p ∷ [])) v ≡ pick (eqb p.vlan.0 v.0) (got p.label) (refused no_pair)
+one_label : (p : MapPair) (v : PortVlan) → label_for (as_pairs (p ∷ [])) v ≡ pick (eqb p.vlan.0 v.0) (Ok p.label) (Err NoPair)
 unfolding label_for
 one_label p v = refl
 
@@ -119,16 +116,16 @@ first_good : vlan_good 1 ≡ true
 unfolding vlan_good between both
 first_good = refl
 
-label_pair_good : (ps : List MapPair) (l : CampusLabel) (r : VlanFound) → pairs_good (as_pairs ps) ≡ true → vlan_as r ≡ vlan_for (as_pairs ps) l → pairs_good (as_pairs (pair_for_label l r ∷ [])) ≡ true
-label_pair_good ps l vlan.Missing g h = one_good (pair_for_label l vlan.Missing) first_good (other_label_good l)
-label_pair_good ps l (vlan.Vlan v) g h = let q = vlan_found_fits (as_pairs ps) l v g (sym h) in one_good (pair_for_label l (vlan.Vlan v)) q.0 q.1
+label_pair_good : (ps : List MapPair) (l : CampusLabel) (r : Option PortVlan) → pairs_good (as_pairs ps) ≡ true → vlan_as r ≡ vlan_for (as_pairs ps) l → pairs_good (as_pairs (pair_for_label l r ∷ [])) ≡ true
+label_pair_good ps l None g h = one_good (pair_for_label l None) first_good (other_label_good l)
+label_pair_good ps l (Some v) g h = let q = vlan_found_fits (as_pairs ps) l v g (sym h) in one_good (pair_for_label l (Some v)) q.0 q.1
 
-label_pair_found : (l : CampusLabel) (r : VlanFound) → vlan_as r ≡ vlan_for (as_pairs (pair_for_label l r ∷ [])) l
+label_pair_found : (l : CampusLabel) (r : Option PortVlan) → vlan_as r ≡ vlan_for (as_pairs (pair_for_label l r ∷ [])) l
 unfolding pick
-label_pair_found l vlan.Missing = sym (one_vlan (pair_for_label l vlan.Missing) l ∙ rw (other_label_not l))
-label_pair_found l (vlan.Vlan v) = sym (one_vlan (pair_for_label l (vlan.Vlan v)) l ∙ rw (eq-eqb l.0 l.0 refl))
+label_pair_found l None = sym (one_vlan (pair_for_label l None) l ∙ rw (other_label_not l))
+label_pair_found l (Some v) = sym (one_vlan (pair_for_label l (Some v)) l ∙ rw (eq-eqb l.0 l.0 refl))
 
-label_alike_by : (ps : List MapPair) (n : ℕ) (good : Bool) (l : CampusLabel) (r : VlanFound) → n ≡ length ps → good ≡ pairs_good (as_pairs ps) → vlan_as r ≡ vlan_for (as_pairs ps) l
+label_alike_by : (ps : List MapPair) (n : ℕ) (good : Bool) (l : CampusLabel) (r : Option PortVlan) → n ≡ length ps → good ≡ pairs_good (as_pairs ps) → vlan_as r ≡ vlan_for (as_pairs ps) l
     → LabelAlike l (map_bytes_of ps) (one_map n good (pair_for_label l r))
 unfolding map_bytes_of
 label_alike_by [] n good l r count judged searched = rw (count, bytes_none good (pair_for_label l r)) (record { good = refl; none = refl; found = λ _. refl })
@@ -146,7 +143,7 @@ label_alike_by (p ∷ ps) n true l r count judged searched =
       found = λ h. ap (λ qs. vlan_for qs l) (map_pairs (p ∷ ps)) ∙ sym searched ∙ label_pair_found l r ∙ ap (λ qs. vlan_for qs l) (sym (map_pairs (one ∷ [])));
     })
 
-pub label_alike : (ps : List MapPair) (n : ℕ) (good : Bool) (l : CampusLabel) (r : VlanFound) → LabelSearched ps n good l r → LabelAlike l (map_bytes_of ps) (one_map n good (pair_for_label l r))
+pub label_alike : (ps : List MapPair) (n : ℕ) (good : Bool) (l : CampusLabel) (r : Option PortVlan) → LabelSearched ps n good l r → LabelAlike l (map_bytes_of ps) (one_map n good (pair_for_label l r))
 label_alike ps n good l r s = label_alike_by ps n good l r s.count s.judged s.searched
 
 -- ---- a search for a VLAN
@@ -167,18 +164,18 @@ other_vlan_good v = go (eqb v.0 1)
     go true = refl
     go false = refl
 
-vlan_pair_good : (ps : List MapPair) (v : PortVlan) (r : LabelFound) → pairs_good (as_pairs ps) ≡ true → label_as r ≡ label_for (as_pairs ps) v → pairs_good (as_pairs (pair_for_vlan v r ∷ [])) ≡ true
-vlan_pair_good ps v label.Missing g h = one_good (pair_for_vlan v label.Missing) (other_vlan_good v) refl
-vlan_pair_good ps v (label.Label l) g h =
+vlan_pair_good : (ps : List MapPair) (v : PortVlan) (r : Option CampusLabel) → pairs_good (as_pairs ps) ≡ true → label_as r ≡ label_for (as_pairs ps) v → pairs_good (as_pairs (pair_for_vlan v r ∷ [])) ≡ true
+vlan_pair_good ps v None g h = one_good (pair_for_vlan v None) (other_vlan_good v) refl
+vlan_pair_good ps v (Some l) g h =
     let q = vlan_found_fits (as_pairs ps) l v g (search_inverse.there (as_pairs ps) v l g (sym h)) in
-    one_good (pair_for_vlan v (label.Label l)) q.0 q.1
+    one_good (pair_for_vlan v (Some l)) q.0 q.1
 
-vlan_pair_found : (v : PortVlan) (r : LabelFound) → label_as r ≡ label_for (as_pairs (pair_for_vlan v r ∷ [])) v
+vlan_pair_found : (v : PortVlan) (r : Option CampusLabel) → label_as r ≡ label_for (as_pairs (pair_for_vlan v r ∷ [])) v
 unfolding pick
-vlan_pair_found v label.Missing = sym (one_label (pair_for_vlan v label.Missing) v ∙ rw (other_vlan_not v))
-vlan_pair_found v (label.Label l) = sym (one_label (pair_for_vlan v (label.Label l)) v ∙ rw (eq-eqb v.0 v.0 refl))
+vlan_pair_found v None = sym (one_label (pair_for_vlan v None) v ∙ rw (other_vlan_not v))
+vlan_pair_found v (Some l) = sym (one_label (pair_for_vlan v (Some l)) v ∙ rw (eq-eqb v.0 v.0 refl))
 
-vlan_alike_by : (ps : List MapPair) (n : ℕ) (good : Bool) (v : PortVlan) (r : LabelFound) → n ≡ length ps → good ≡ pairs_good (as_pairs ps) → label_as r ≡ label_for (as_pairs ps) v
+vlan_alike_by : (ps : List MapPair) (n : ℕ) (good : Bool) (v : PortVlan) (r : Option CampusLabel) → n ≡ length ps → good ≡ pairs_good (as_pairs ps) → label_as r ≡ label_for (as_pairs ps) v
     → VlanAlike v (map_bytes_of ps) (one_map n good (pair_for_vlan v r))
 unfolding map_bytes_of
 vlan_alike_by [] n good v r count judged searched = rw (count, bytes_none good (pair_for_vlan v r)) (record { good = refl; found = λ _. refl })
@@ -194,7 +191,7 @@ vlan_alike_by (p ∷ ps) n true v r count judged searched =
       found = λ h. ap (λ qs. label_for qs v) (map_pairs (p ∷ ps)) ∙ sym searched ∙ vlan_pair_found v r ∙ ap (λ qs. label_for qs v) (sym (map_pairs (one ∷ [])));
     })
 
-pub vlan_alike : (ps : List MapPair) (n : ℕ) (good : Bool) (v : PortVlan) (r : LabelFound) → VlanSearched ps n good v r → VlanAlike v (map_bytes_of ps) (one_map n good (pair_for_vlan v r))
+pub vlan_alike : (ps : List MapPair) (n : ℕ) (good : Bool) (v : PortVlan) (r : Option CampusLabel) → VlanSearched ps n good v r → VlanAlike v (map_bytes_of ps) (one_map n good (pair_for_vlan v r))
 vlan_alike ps n good v r s = vlan_alike_by ps n good v r s.count s.judged s.searched
 
 -- ---- the bytes lent

@@ -1,15 +1,11 @@
 -- A map of at most one pair that stands for a slice of pairs, and what a search of the slice says.
 -- Assumes nothing.
-use Rattle.std.specs.Prelude.{ℕ, Bool, true, List, ◌≡◌, eqb, length, take}
+use Rattle.std.specs.Prelude.{ℕ, Bool, true, List, ◌≡◌, eqb, length, take, Option, Some, None}
 use Rattle.numbers.specs.Tests.{pick}
 use Rattle.port_map.specs.Maps.{port_vlan, campus_label, pair_bytes, pairs_in, pairs_good, map_good, label_for, vlan_for}
 use Rattle.port_map.specs.declared.PortVlan.{PortVlan}
 use Rattle.port_map.specs.declared.CampusLabel.{CampusLabel}
 use Rattle.port_map_search.specs.Meaning.{label_as, vlan_as}
-use Rattle.port_map_search.specs.declared.LabelFound.{LabelFound}
-use Rattle.port_map_search.specs.declared.LabelFound.TheVariants as label
-use Rattle.port_map_search.specs.declared.VlanFound.{VlanFound}
-use Rattle.port_map_search.specs.declared.VlanFound.TheVariants as vlan
 use Rattle.port_map_pairs.specs.Pairs.{as_pairs, pair_bytes_of}
 use Rattle.port_map_pairs.specs.declared.MapPair.{MapPair}
 
@@ -22,14 +18,14 @@ abbrev pub other_vlan : PortVlan → PortVlan
 other_vlan v = port_vlan (pick (eqb v.0 1) 2 1)
 
 -- what was found for a label, or a pair with another label
-abbrev pub pair_for_label : CampusLabel → VlanFound → MapPair
-pair_for_label l vlan.Missing = record { vlan = port_vlan 1; label = other_label l }
-pair_for_label l (vlan.Vlan v) = record { vlan = v; label = l }
+abbrev pub pair_for_label : CampusLabel → Option PortVlan → MapPair
+pair_for_label l None = record { vlan = port_vlan 1; label = other_label l }
+pair_for_label l (Some v) = record { vlan = v; label = l }
 
 -- the same for a VLAN
-abbrev pub pair_for_vlan : PortVlan → LabelFound → MapPair
-pair_for_vlan v label.Missing = record { vlan = other_vlan v; label = campus_label 0 }
-pair_for_vlan v (label.Label l) = record { vlan = v; label = l }
+abbrev pub pair_for_vlan : PortVlan → Option CampusLabel → MapPair
+pair_for_vlan v None = record { vlan = other_vlan v; label = campus_label 0 }
+pair_for_vlan v (Some l) = record { vlan = v; label = l }
 
 -- ---- the map
 
@@ -42,12 +38,12 @@ one_map n good p = take (lent_bytes n good) (pair_bytes_of p)
 
 -- ---- what is known of a slice of pairs
 
-pub record LabelSearched (ps : List MapPair) (n : ℕ) (good : Bool) (l : CampusLabel) (found : VlanFound) : Type 0 where
+pub record LabelSearched (ps : List MapPair) (n : ℕ) (good : Bool) (l : CampusLabel) (found : Option PortVlan) : Type 0 where
   pub count : n ≡ length ps
   pub judged : good ≡ pairs_good (as_pairs ps)
   pub searched : vlan_as found ≡ vlan_for (as_pairs ps) l
 
-pub record VlanSearched (ps : List MapPair) (n : ℕ) (good : Bool) (v : PortVlan) (found : LabelFound) : Type 0 where
+pub record VlanSearched (ps : List MapPair) (n : ℕ) (good : Bool) (v : PortVlan) (found : Option CampusLabel) : Type 0 where
   pub count : n ≡ length ps
   pub judged : good ≡ pairs_good (as_pairs ps)
   pub searched : label_as found ≡ label_for (as_pairs ps) v

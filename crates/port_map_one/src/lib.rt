@@ -8,7 +8,6 @@ ghost use Rattle.port_map_one.specs.One.{other_label, other_vlan, pair_for_label
 
 use port_map::{CampusLabel, PAIR_BYTES, PortVlan};
 use port_map_pairs::MapPair;
-use port_map_search::{LabelFound, VlanFound};
 
 // A label and a VLAN that are not these.
 fn other_label(l: CampusLabel) -> CampusLabel
@@ -30,11 +29,11 @@ fn other_vlan(v: PortVlan) -> PortVlan
 }
 
 // The pair that a search for a label found, or one that it does not find.
-pub fn pair_for_label(l: CampusLabel, found: VlanFound) -> MapPair
+pub fn pair_for_label(l: CampusLabel, found: Option<PortVlan>) -> MapPair
     ensures { result ≡ pair_for_label l found }
 {
     match found {
-        VlanFound::Missing => {
+        None => {
             let other = other_label(l);
             let v = PortVlan(1);
             MapPair {
@@ -42,16 +41,16 @@ pub fn pair_for_label(l: CampusLabel, found: VlanFound) -> MapPair
                 label: other,
             }
         }
-        VlanFound::Vlan(v) => MapPair { vlan: v, label: l },
+        Some(v) => MapPair { vlan: v, label: l },
     }
 }
 
 // The same for a VLAN.
-pub fn pair_for_vlan(v: PortVlan, found: LabelFound) -> MapPair
+pub fn pair_for_vlan(v: PortVlan, found: Option<CampusLabel>) -> MapPair
     ensures { result ≡ pair_for_vlan v found }
 {
     match found {
-        LabelFound::Missing => {
+        None => {
             let other = other_vlan(v);
             let l = CampusLabel(0);
             MapPair {
@@ -59,7 +58,7 @@ pub fn pair_for_vlan(v: PortVlan, found: LabelFound) -> MapPair
                 label: l,
             }
         }
-        LabelFound::Label(l) => MapPair { vlan: v, label: l },
+        Some(l) => MapPair { vlan: v, label: l },
     }
 }
 

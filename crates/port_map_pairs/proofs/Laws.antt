@@ -13,23 +13,24 @@ use Rattle.std.specs.List.{find, list_all, list_any, range_with_len}
 use Rattle.numbers.specs.Tests.{both, either, any_of}
 use Rattle.std.specs.Option.{option_map_or}
 use Rattle.std.specs.declared.option.Option.{Option}
-use Rattle.numbers.specs.Result.{refused, got}
 use Rattle.numbers.specs.Ranges.{vlan_good}
-use Rattle.port_map.specs.Maps.{no_pair, good_once, vlan_of, label_of, fine_good, pairs_good, label_for, vlan_for}
+use Rattle.port_map.specs.Maps.{good_once, vlan_of, label_of, fine_good, pairs_good, label_for, vlan_for}
 use Rattle.port_map.specs.declared.PortVlan.{PortVlan}
 use Rattle.port_map.specs.declared.CampusLabel.{CampusLabel}
 use Rattle.port_map_search.proofs.Pairs.{sought}
 use Rattle.port_map_pairs.specs.declared.MapPair.{MapPair}
 use Rattle.port_map_pairs.specs.Pairs.{as_pairs}
 use Rattle.port_map_pairs.specs.Scan.{blank, are_twins, numbers_good, judged_of, good_at, good_map}
+use Rattle.std.specs.Prelude.{Ok, Err}
+use Rattle.numbers.specs.declared.refusals.Refusal.TheVariants.{NoPair}
 
 -- ---- the searches, by what `find` found
 
-pub vlan_of_first : (w : CampusLabel) (l : List MapPair) (r : Option MapPair) → r ≡ find (λ p. eqb p.label.0 w.0) l → option_map_or (λ p. got p.vlan) r (refused no_pair) ≡ vlan_for (as_pairs l) w
+pub vlan_of_first : (w : CampusLabel) (l : List MapPair) (r : Option MapPair) → r ≡ find (λ p. eqb p.label.0 w.0) l → option_map_or (λ p. Ok p.vlan) r (Err NoPair) ≡ vlan_for (as_pairs l) w
 unfolding vlan_for
 vlan_of_first w l r e = rw e (sought (λ p. p.label.0) w.0 (λ p. p.vlan) (λ ps. vlan_for (as_pairs ps) w) refl (λ p ps. refl) l)
 
-pub label_of_first : (w : PortVlan) (l : List MapPair) (r : Option MapPair) → r ≡ find (λ p. eqb p.vlan.0 w.0) l → option_map_or (λ p. got p.label) r (refused no_pair) ≡ label_for (as_pairs l) w
+pub label_of_first : (w : PortVlan) (l : List MapPair) (r : Option MapPair) → r ≡ find (λ p. eqb p.vlan.0 w.0) l → option_map_or (λ p. Ok p.label) r (Err NoPair) ≡ label_for (as_pairs l) w
 unfolding label_for
 label_of_first w l r e = rw e (sought (λ p. p.vlan.0) w.0 (λ p. p.label) (λ ps. label_for (as_pairs ps) w) refl (λ p ps. refl) l)
 

@@ -9,7 +9,6 @@ ghost use Rattle.port_map_pairs.specs.Scan.{are_twins, numbers_good, good_at};
 
 use numbers::LAST_FINE;
 use port_map::{CampusLabel, PortVlan};
-use port_map_search::{LabelFound, VlanFound};
 
 // A pair of a port's map.
 #[derive(Clone, Copy)]
@@ -48,22 +47,22 @@ fn numbers_good(p: MapPair) -> bool
 // ---- the slice
 
 // The VLAN of a label.
-pub fn vlan_for(map: &[MapPair], l: CampusLabel) -> VlanFound
+pub fn vlan_for(map: &[MapPair], l: CampusLabel) -> Option<PortVlan>
     ensures { vlan_as result ≡ vlan_for (as_pairs map.now) l }
 {
     match map.iter().find(|p| p.label.0 == l.0) {
-        Some(p) => VlanFound::Vlan(p.vlan),
-        None => VlanFound::Missing,
+        Some(p) => Some(p.vlan),
+        None => None,
     }
 }
 
 // The label of a VLAN.
-pub fn label_for(map: &[MapPair], v: PortVlan) -> LabelFound
+pub fn label_for(map: &[MapPair], v: PortVlan) -> Option<CampusLabel>
     ensures { label_as result ≡ label_for (as_pairs map.now) v }
 {
     match map.iter().find(|p| p.vlan.0 == v.0) {
-        Some(p) => LabelFound::Label(p.label),
-        None => LabelFound::Missing,
+        Some(p) => Some(p.label),
+        None => None,
     }
 }
 

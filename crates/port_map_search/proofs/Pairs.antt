@@ -23,12 +23,14 @@ use Rattle.std.proofs.lemmas.Bool.{cases_lt}
 use Rattle.std.proofs.lemmas.Iterator.{YieldsList}
 use Rattle.std.proofs.lemmas.Iterator.Search.{find_from_yields_List}
 use Rattle.numbers.specs.Tests.{pick}
-use Rattle.numbers.specs.Result.{Result, refused, got}
-use Rattle.port_map.specs.Maps.{no_pair, pair_bytes, Pair, pair_of, pairs_in, label_for, vlan_for}
+use Rattle.numbers.specs.Result.{Outcome}
+use Rattle.port_map.specs.Maps.{pair_bytes, Pair, pair_of, pairs_in, label_for, vlan_for}
 use Rattle.port_map.specs.declared.PortVlan.{PortVlan}
 use Rattle.port_map.specs.declared.CampusLabel.{CampusLabel}
 use Rattle.port_map_search.specs.Meaning.{pair_at}
 use Rattle.port_map.proofs.Steps.{pairs_end, pairs_more}
+use Rattle.std.specs.Prelude.{Ok, Err}
+use Rattle.numbers.specs.declared.refusals.Refusal.TheVariants.{NoPair}
 
 -- the pair in one chunk
 abbrev pub pair_read : Bor (List ℕ) → Pair
@@ -58,21 +60,21 @@ pairs_read {s} m e r = record { runs = read (length m) s m e r (omega arith) }
 
 -- ---- the searches: what is found is the first pair with that key, or none
 
-module _ {A V : Type 0} (key : A → ℕ) (k : ℕ) (value : A → V) (seek : List A → Result V) where
-  abbrev pub answered : Option A → Result V
-  answered o = option_map_or (λ p. got (value p)) o (refused no_pair)
+module _ {A V : Type 0} (key : A → ℕ) (k : ℕ) (value : A → V) (seek : List A → Outcome V) where
+  abbrev pub answered : Option A → Outcome V
+  answered o = option_map_or (λ p. Ok (value p)) o (Err NoPair)
 
-  pub sought : seek [] ≡ refused no_pair → ((p : A) (ps : List A) → seek (p ∷ ps) ≡ pick (eqb (key p) k) (got (value p)) (seek ps)) → (ps : List A) → answered (find (λ p. eqb (key p) k) ps) ≡ seek ps
+  pub sought : seek [] ≡ Err NoPair → ((p : A) (ps : List A) → seek (p ∷ ps) ≡ pick (eqb (key p) k) (Ok (value p)) (seek ps)) → (ps : List A) → answered (find (λ p. eqb (key p) k) ps) ≡ seek ps
   unfolding pick
   sought none_left one_more [] = sym none_left
   sought none_left one_more (p ∷ ps) = go (eqb (key p) k) (sought none_left one_more ps) ∙ sym (one_more p ps)
     where
-      go : (c : Bool) → answered (find (λ q. eqb (key q) k) ps) ≡ seek ps → answered (cond c (Some p) (find (λ q. eqb (key q) k) ps)) ≡ pick c (got (value p)) (seek ps)
+      go : (c : Bool) → answered (find (λ q. eqb (key q) k) ps) ≡ seek ps → answered (cond c (Some p) (find (λ q. eqb (key q) k) ps)) ≡ pick c (Ok (value p)) (seek ps)
       go true later = refl
       go false later = later
 
-module _ {V : Type 0} (key : Pair → ℕ) (k : ℕ) (value : Pair → V) (seek : List Pair → Result V) where
-  module _ (none_left : seek [] ≡ refused no_pair) (one_more : (p : Pair) (ps : List Pair) → seek (p ∷ ps) ≡ pick (eqb (key p) k) (got (value p)) (seek ps)) where
+module _ {V : Type 0} (key : Pair → ℕ) (k : ℕ) (value : Pair → V) (seek : List Pair → Outcome V) where
+  module _ (none_left : seek [] ≡ Err NoPair) (one_more : (p : Pair) (ps : List Pair) → seek (p ∷ ps) ≡ pick (eqb (key p) k) (Ok (value p)) (seek ps)) where
     module _ {F : Type 0} {g : Mut F (Bor (Bor (List ℕ)) × Unit {0}) Bool} {s : ChunksExact ℕ} {f : F} (r : Option (Bor (List ℕ))) (u : ChunksExact ℕ) where
       found : (m : List ℕ) → chunks_exact_size s ≡ pair_bytes → chunks_exact_rest s ≡ m → FindsItem chunks_exact_steps g s f r u
           → ((x : Bor (List ℕ)) (b : Bool) (q : F) → CalledAt g f x b q → (q ≡ f) × (b ≡ eqb (key (pair_read x)) k))
@@ -82,12 +84,12 @@ module _ {V : Type 0} (key : Pair → ℕ) (k : ℕ) (value : Pair → V) (seek 
 module _ {F : Type 0} {g : Mut F (Bor (Bor (List ℕ)) × Unit {0}) Bool} {s : ChunksExact ℕ} {f : F} (r : Option (Bor (List ℕ))) (u : ChunksExact ℕ) where
   pub label_found : (m : List ℕ) (v : PortVlan) → chunks_exact_size s ≡ pair_bytes → chunks_exact_rest s ≡ m → FindsItem chunks_exact_steps g s f r u
       → ((x : Bor (List ℕ)) (b : Bool) (q : F) → CalledAt g f x b q → (q ≡ f) × (b ≡ eqb (pair_read x).vlan.0 v.0))
-      → option_map_or (λ p. got p.label) (option_map pair_read r) (refused no_pair) ≡ label_for (pairs_in m) v
+      → option_map_or (λ p. Ok p.label) (option_map pair_read r) (Err NoPair) ≡ label_for (pairs_in m) v
   unfolding label_for
   label_found m v = found (λ p. p.vlan.0) v.0 (λ p. p.label) (λ ps. label_for ps v) refl (λ p ps. refl) r u m
 
   pub vlan_found : (m : List ℕ) (l : CampusLabel) → chunks_exact_size s ≡ pair_bytes → chunks_exact_rest s ≡ m → FindsItem chunks_exact_steps g s f r u
       → ((x : Bor (List ℕ)) (b : Bool) (q : F) → CalledAt g f x b q → (q ≡ f) × (b ≡ eqb (pair_read x).label.0 l.0))
-      → option_map_or (λ p. got p.vlan) (option_map pair_read r) (refused no_pair) ≡ vlan_for (pairs_in m) l
+      → option_map_or (λ p. Ok p.vlan) (option_map pair_read r) (Err NoPair) ≡ vlan_for (pairs_in m) l
   unfolding vlan_for
   vlan_found m l = found (λ p. p.label.0) l.0 (λ p. p.vlan) (λ ps. vlan_for ps l) refl (λ p ps. refl) r u m

@@ -7,19 +7,6 @@ ghost use Rattle.port_map_search.specs.Meaning.{pair_at, label_as, vlan_as};
 
 use port_map::{CampusLabel, LABEL_OFFSET, PAIR_BYTES, PortVlan};
 
-// What a search finds: the label of a VLAN, and the VLAN of a label.
-#[derive(Clone, Copy)]
-pub enum LabelFound {
-    Missing,
-    Label(CampusLabel),
-}
-
-#[derive(Clone, Copy)]
-pub enum VlanFound {
-    Missing,
-    Vlan(PortVlan),
-}
-
 // The VLAN of the pair at an offset, and its label.
 pub fn vlan_at(map: &[u8], at: usize) -> PortVlan
     requires { at + pair_bytes ≤ length map.now }
@@ -36,23 +23,23 @@ pub fn label_at(map: &[u8], at: usize) -> CampusLabel
 }
 
 // The label of a VLAN.
-pub fn label_for(map: &[u8], v: PortVlan) -> LabelFound
+pub fn label_for(map: &[u8], v: PortVlan) -> Option<CampusLabel>
     ensures { label_as result ≡ label_for (pairs_in map.now) v }
 {
     let mut pairs = map.chunks_exact(PAIR_BYTES);
     match pairs.find(|pair| vlan_at(pair, 0).0 == v.0) {
-        Some(pair) => LabelFound::Label(label_at(pair, 0)),
-        None => LabelFound::Missing,
+        Some(pair) => Some(label_at(pair, 0)),
+        None => None,
     }
 }
 
 // The VLAN of a label.
-pub fn vlan_for(map: &[u8], l: CampusLabel) -> VlanFound
+pub fn vlan_for(map: &[u8], l: CampusLabel) -> Option<PortVlan>
     ensures { vlan_as result ≡ vlan_for (pairs_in map.now) l }
 {
     let mut pairs = map.chunks_exact(PAIR_BYTES);
     match pairs.find(|pair| label_at(pair, 0).0 == l.0) {
-        Some(pair) => VlanFound::Vlan(vlan_at(pair, 0)),
-        None => VlanFound::Missing,
+        Some(pair) => Some(vlan_at(pair, 0)),
+        None => None,
     }
 }

@@ -10,8 +10,7 @@ use lib.Dec.{leb, ltb}
 use lib.ListN.{length}
 use borrow.Author.Tests.{ltb-true}
 use Rattle.numbers.specs.Tests.{both}
-use Rattle.numbers.specs.Result.{Result, refused, got, check, and_then, settled}
-use Rattle.numbers.specs.Refusals.{table_length_bad}
+use Rattle.numbers.specs.Result.{Outcome, check, and_then, settled}
 use Rattle.numbers.specs.After.{on_table}
 use Rattle.numbers.proofs.Truth.{both_true}
 use Rattle.table.specs.Record.{unpacked}
@@ -27,22 +26,23 @@ use Rattle.table.proofs.Apart.{Less, freeing_lessens}
 use Rattle.flush.specs.Payload.{every_type, Payload, payload_of}
 use Rattle.flush.specs.Flush.{held_meant, slot_meant, cleared_slot}
 use Rattle.flush.proofs.Flushing.{cleared_keeps, cleared_miss}
-use Rattle.portions.specs.Portion.{portion_bad, portion_steps, portion_by, portion_answered, portioned}
+use Rattle.portions.specs.Portion.{portion_steps, portion_by, portion_answered, portioned}
 use Rattle.portions.specs.Claims.{PortionKeepsApart, PortionLeavesAlone}
-use Rattle.portions.specs.declared.PortionAnswer.TheVariants.{Refused}
 use Rattle.table.proofs.Ranges.{slot-either}
 use Rattle.portions.proofs.Portions.{steps_within}
+use Rattle.std.specs.Prelude.{Ok, Err}
+use Rattle.numbers.specs.declared.refusals.Refusal.TheVariants.{TableLengthBad, PortionBad}
 
 -- what holds of the table as it was, and of the table with some of its slots cleared, holds after the call
 module _ (P : List ℕ → Type 0) (ingress : ℕ) (slot k : ℕ) (t : List ℕ) (here : P t)
     (there : (p : Payload) (m : ℕ) → slot + m ≤ slots_of t → P (on_slots (cleared_slot (slot_meant every_type p ingress)) slot m t)) where
-  outcome : (good fine : Bool) → (fine ≡ true → slot < slots_of t) → (r : Result Payload)
-      → P (settled (λ n. on_table (Refused n) t) (check good table_length_bad (check fine portion_bad (and_then r λ p. got (portion_answered (portion_by (slot_meant every_type p ingress) slot (portion_steps slot k (slots_of t)) t)))))).table
+  outcome : (good fine : Bool) → (fine ≡ true → slot < slots_of t) → (r : Outcome Payload)
+      → P (settled (λ n. on_table (Err n) t) (check good TableLengthBad (check fine PortionBad (and_then r λ p. Ok (portion_answered (portion_by (slot_meant every_type p ingress) slot (portion_steps slot k (slots_of t)) t)))))).table
   unfolding settled check and_then portion_by
   outcome false fine inside r = here
   outcome true false inside r = here
-  outcome true true inside (refused n) = here
-  outcome true true inside (got p) =
+  outcome true true inside (Err n) = here
+  outcome true true inside (Ok p) =
       let h : slot < slots_of t = inside refl in
       there p (portion_steps slot k (slots_of t)) (steps_within slot k (slots_of t) (omega arith))
 

@@ -10,8 +10,7 @@ use lib.Dec.{leb, ltb}
 use lib.ListN.{length}
 use borrow.Author.Tests.{le-leb, lt-leb, lt-ltb, le-ltb}
 use Rattle.numbers.specs.Tests.{both}
-use Rattle.numbers.specs.Result.{refused, got, check, and_then, settled}
-use Rattle.numbers.specs.Refusals.{table_length_bad}
+use Rattle.numbers.specs.Result.{check, and_then, settled, Outcome}
 use Rattle.numbers.specs.After.{OnTable, on_table}
 use Rattle.numbers.proofs.Answers.{got_got, check_got, then_got}
 use Rattle.numbers.proofs.Truth.{both_right, pick_true, pick_false, false_true}
@@ -26,11 +25,13 @@ use Rattle.flush.specs.Payload.{every_type, Payload, payload_of}
 use Rattle.flush.specs.Flush.{held_meant, slot_meant, cleared_slot, cleared_by, clearing, answered, flushed}
 use Rattle.flush.specs.Claims.{SlotFacts}
 use Rattle.flush.proofs.Flushing.{cleared_keeps, cleared_hit, cleared_miss, flush_exact}
-use Rattle.portions.specs.Portion.{portion_bad, portion_steps, portion_by, portion_answered, portioned}
+use Rattle.portions.specs.Portion.{portion_steps, portion_by, portion_answered, portioned}
 use Rattle.portions.specs.Claims.{freed_from, PassedStays, PortionFacts, PortionExact, PortionRefusal}
-use Rattle.portions.specs.declared.PortionAnswer.{PortionAnswer}
-use Rattle.portions.specs.declared.PortionAnswer.TheVariants.{Refused, Portioned}
 use Rattle.table.proofs.Ranges.{take-on_slots}
+use Rattle.std.specs.Prelude.{Ok, Err}
+use Rattle.numbers.specs.declared.refusals.Refusal.TheVariants.{TableLengthBad, PortionBad}
+use Rattle.numbers.specs.declared.refusals.Refusal.{Refusal}
+use Rattle.portions.specs.declared.Portion.{Portion}
 
 -- ---- the steps
 
@@ -56,24 +57,24 @@ steps_within slot k n h = go (dec_lt (n - slot) k)
 -- ---- the call
 
 module _ (ingress : ℕ) (l : List ℕ) (slot k : ℕ) (t : List ℕ) where
-  pub bad_table : table_good t ≡ false → portioned ingress l slot k t ≡ on_table (Refused table_length_bad) t
+  pub bad_table : table_good t ≡ false → portioned ingress l slot k t ≡ on_table (Err TableLengthBad) t
   unfolding portioned settled check
   bad_table bad = rw bad
 
-  pub past : table_good t ≡ true → slots_of t ≤ slot → portioned ingress l slot k t ≡ on_table (Refused portion_bad) t
+  pub past : table_good t ≡ true → slots_of t ≤ slot → portioned ingress l slot k t ≡ on_table (Err PortionBad) t
   unfolding portioned settled check
   past good h = rw (good, both_right (leb 1 k) (ltb slot (slots_of t)) (le-ltb slot (slots_of t) h))
 
-  pub none : table_good t ≡ true → k ≡ 0 → portioned ingress l slot k t ≡ on_table (Refused portion_bad) t
+  pub none : table_good t ≡ true → k ≡ 0 → portioned ingress l slot k t ≡ on_table (Err PortionBad) t
   unfolding portioned settled check both
   none good e = rw (good, e)
 
   module _ (good : table_good t ≡ true) (some : 0 < k) (inside : slot < slots_of t) where
-    pub corrupt : (n : ℕ) → payload_of every_type l ≡ refused n → portioned ingress l slot k t ≡ on_table (Refused n) t
+    pub corrupt : (n : Refusal) → payload_of every_type l ≡ Err n → portioned ingress l slot k t ≡ on_table (Err n) t
     unfolding portioned settled check and_then both
     corrupt n read = rw (good, le-leb 1 k some, lt-ltb slot (slots_of t) inside, read)
 
-    pub ran : (p : Payload) → payload_of every_type l ≡ got p
+    pub ran : (p : Payload) → payload_of every_type l ≡ Ok p
         → portioned ingress l slot k t ≡ portion_answered (portion_by (slot_meant every_type p ingress) slot (portion_steps slot k (slots_of t)) t)
     unfolding portioned settled check and_then both
     ran p read = rw (good, le-leb 1 k some, lt-ltb slot (slots_of t) inside, read)
@@ -100,7 +101,7 @@ module _ (p : Payload) (ingress : ℕ) where
   slot_counted r false h = rw (cleared_miss (slot_meant every_type p ingress) r h) (not_both (unpacked r))
 
   -- the whole flush
-  pub flush_ran : (l t : List ℕ) → table_good t ≡ true → payload_of every_type l ≡ got p → flushed ingress l t ≡ answered (cleared_by (slot_meant every_type p ingress) t)
+  pub flush_ran : (l t : List ℕ) → table_good t ≡ true → payload_of every_type l ≡ Ok p → flushed ingress l t ≡ answered (cleared_by (slot_meant every_type p ingress) t)
   unfolding flushed clearing settled check and_then
   flush_ran l t good read = rw (good, read)
 
@@ -144,7 +145,7 @@ module _ (p : Payload) (ingress : ℕ) (t : List ℕ) (slot m : ℕ) (room : slo
         slot_counted p ingress (slot_at (slot + n) t) (meant (slot_at (slot + n) t)) refl,
       )
 
-  module _ (l : List ℕ) (good : table_good t ≡ true) (read : payload_of every_type l ≡ got p) where
+  module _ (l : List ℕ) (good : table_good t ≡ true) (read : payload_of every_type l ≡ Ok p) where
     as_whole : (j : ℕ) → slot ≤ j → j < slot + m → slot_at j left ≡ slot_at j (flushed ingress l t).table
     unfolding cleared_by
     as_whole j a b = rw (flush_ran p ingress l t good read) (each_left j a b ∙ sym (slot_all_slots (cleared_slot meant) (cleared_keeps meant) t j (omega arith)))
@@ -156,7 +157,7 @@ module _ (p : Payload) (ingress : ℕ) (t : List ℕ) (slot m : ℕ) (room : slo
       passed = passed-stays;
     }
 
-module _ (ingress : ℕ) (l : List ℕ) (slot k : ℕ) (t : List ℕ) (p : Payload) (good : table_good t ≡ true) (some : 0 < k) (inside : slot < slots_of t) (read : payload_of every_type l ≡ got p) where
+module _ (ingress : ℕ) (l : List ℕ) (slot k : ℕ) (t : List ℕ) (p : Payload) (good : table_good t ≡ true) (some : 0 < k) (inside : slot < slots_of t) (read : payload_of every_type l ≡ Ok p) where
   exact_facts : PortionFacts p ingress l slot (portion_steps slot k (slots_of t)) t (portioned ingress l slot k t).table
   unfolding portion_by
   exact_facts =
@@ -164,7 +165,7 @@ module _ (ingress : ℕ) (l : List ℕ) (slot k : ℕ) (t : List ℕ) (p : Paylo
       (portion_facts p ingress t slot (portion_steps slot k (slots_of t)) (steps_within slot k (slots_of t) (omega arith)) l good read)
 
   exact_answer : (portioned ingress l slot k t).answer
-      ≡ Portioned (record {
+      ≡ Ok (record {
         cleared = freed_from slot (portion_steps slot k (slots_of t)) t (portioned ingress l slot k t).table;
         next = slot + portion_steps slot k (slots_of t);
         examined = portion_steps slot k (slots_of t);
@@ -172,7 +173,7 @@ module _ (ingress : ℕ) (l : List ℕ) (slot k : ℕ) (t : List ℕ) (p : Paylo
   unfolding portion_by
   exact_answer =
       rw (ran ingress l slot k t good some inside p read)
-      (ap (λ (c : ℕ). Portioned (record { cleared = c; next = slot + portion_steps slot k (slots_of t); examined = portion_steps slot k (slots_of t) }))
+      (ap (λ (c : ℕ). Ok (record { cleared = c; next = slot + portion_steps slot k (slots_of t); examined = portion_steps slot k (slots_of t) }))
       (count-freed p ingress t slot (portion_steps slot k (slots_of t)) (steps_within slot k (slots_of t) (omega arith)) (portion_steps slot k (slots_of t)) (omega arith)))
 
 pub portion_exact : PortionExact
@@ -190,11 +191,11 @@ portion_exact = record {
 pub portion_refusal : PortionRefusal
 unfolding portioned
 portion_refusal ingress l slot k t n e =
-    refusal_keeps Refused _ t n
+    refusal_keeps Err _ t n
     (λ a q h.
     let c = check_got _ _ _ _ q in
     let d = check_got _ _ _ _ c.1 in
     let (p, r, f) = then_got _ _ _ d.1 in
-    let z : ◌≡◌ {A = ℕ} 0 1 = cc (ap (λ (x : OnTable PortionAnswer). x.answer) (got_got _ _ f)) in
+    let z : ◌≡◌ {A = ℕ} 0 1 = cc (ap (λ (x : OnTable (Outcome Portion)). x.answer) (got_got _ _ f)) in
     omega arith)
     e

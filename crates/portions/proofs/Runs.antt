@@ -9,23 +9,22 @@ use native.Mathlib.Decide.{dec_lt}
 use native.Mathlib.Nat.{div-add-mod, mod-lt, mul-le-mul_left}
 use native.Mathlib.Omega.{arith}
 use lib.ListN.{length, replicate}
-use Rattle.numbers.specs.Result.{got}
 use Rattle.table.specs.Slots.{slot_bytes, table_good, slots_of, on_slots, count_slots}
 use Rattle.table.proofs.Slots.{length-on_slots}
 use Rattle.flush.specs.Payload.{every_type, Payload, payload_of}
 use Rattle.flush.specs.Flush.{slot_meant, cleared_slot, cleared_by}
-use Rattle.flush.specs.declared.FlushAnswer.TheVariants.{Flushed}
 use Rattle.flush.proofs.Flushing.{cleared_keeps}
 use Rattle.portions.specs.Portion.{portion_steps, portion_by, Run, stands, portions_run, total}
 use Rattle.portions.specs.Claims.{WholeFlush, PortionsWhole, Reaches, Positive, PortionsReach, calls, Ends, PortionsEnd}
 use Rattle.table.proofs.Ranges.{on_join, count_join}
 use Rattle.portions.proofs.Portions.{steps_k, steps_left, steps_within, past, none, ran, flush_ran}
+use Rattle.std.specs.Prelude.{Ok}
 
 good_same : (t u : List ℕ) → length u ≡ length t → table_good t ≡ true → table_good u ≡ true
 unfolding table_good
 good_same t u e good = rw e good
 
-module _ (p : Payload) (ingress : ℕ) (l t : List ℕ) (good : table_good t ≡ true) (read : payload_of every_type l ≡ got p) where
+module _ (p : Payload) (ingress : ℕ) (l t : List ℕ) (good : table_good t ≡ true) (read : payload_of every_type l ≡ Ok p) where
   abbrev meant : List ℕ → Bool
   meant = slot_meant every_type p ingress
 
@@ -101,7 +100,7 @@ module _ (p : Payload) (ingress : ℕ) (l t : List ℕ) (good : table_good t ≡
       let n : (portions_run ingress l ks 0 t).cleared ≡ count_slots meant 0 (slots_of t) t = d ∙ ap (λ (x : ℕ). count_slots meant 0 x t) end in
       record {
         table = rw (flush_ran p ingress l t good read) (s.table ∙ ap (λ (x : ℕ). on_slots clear 0 x t) end);
-        count = rw (flush_ran p ingress l t good read) (ap Flushed (sym n));
+        count = rw (flush_ran p ingress l t good read) (ap Ok (sym n));
       }
 
   -- ---- how far a run comes

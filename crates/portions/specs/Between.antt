@@ -1,7 +1,7 @@
 -- "Frames may be learned in between: a passed slot stays, a later one is judged when reached": two worked instances. The sum is then not
 -- the whole flush's; each portion is still exact in the table that it is given (PortionExact).
 -- Assumes nothing.
-use Rattle.std.specs.Prelude.{ℕ, false, List, [], ◌∷◌, ◌++◌, ◌≡◌}
+use Rattle.std.specs.Prelude.{ℕ, false, List, [], ◌∷◌, ◌++◌, ◌≡◌, Ok}
 use Rattle.numbers.specs.After.{OnTable, on_table}
 use Rattle.table.specs.Record.{learned_state, configured_state, packed}
 use Rattle.table.specs.Slots.{freed}
@@ -10,10 +10,9 @@ use Rattle.table.specs.declared.Label.TheVariants.{Vlan}
 use Rattle.table.specs.declared.Entry.{Entry}
 use Rattle.table.specs.declared.Learning.TheVariants as learning
 use Rattle.flush.specs.Flush.{flushed}
-use Rattle.flush.specs.declared.FlushAnswer.TheVariants.{Flushed}
 use Rattle.portions.specs.Portion.{portioned}
-use Rattle.portions.specs.declared.PortionAnswer.{PortionAnswer}
-use Rattle.portions.specs.declared.PortionAnswer.TheVariants.{Portioned}
+use Rattle.numbers.specs.Result.{Outcome}
+use Rattle.portions.specs.declared.Portion.{Portion}
 
 -- what is known of a station; learned, it is a record that the message means
 abbrev pub station : ℕ → Entry
@@ -33,22 +32,22 @@ abbrev pub message : List ℕ
 message = 0x00 ∷ 0x01 ∷ 0x00 ∷ 0x0A ∷ 0x00 ∷ 0x0A ∷ []
 
 -- one slot from the slot on
-abbrev pub one : ℕ → List ℕ → OnTable PortionAnswer
+abbrev pub one : ℕ → List ℕ → OnTable (Outcome Portion)
 one slot t = portioned 0x1234 message slot 1 t
 
-abbrev pub does : ℕ → ℕ → List ℕ → OnTable PortionAnswer
-does cleared next t = on_table (Portioned (record { cleared = cleared; next = next; examined = 1 })) t
+abbrev pub does : ℕ → ℕ → List ℕ → OnTable (Outcome Portion)
+does cleared next t = on_table (Ok (record { cleared = cleared; next = next; examined = 1 })) t
 
 -- learned into a slot that is still to come: cleared there. Sum 1, the whole flush at the start 0.
 pub record Later : Type 0 where
   pub first : one 0 (fixed ++ freed) ≡ does 0 1 (fixed ++ freed)
   pub learns : learnt entry (fixed ++ freed) ≡ on_table learning.Learned (fixed ++ fresh)
   pub second : one 1 (fixed ++ fresh) ≡ does 1 2 (fixed ++ freed)
-  pub whole : flushed 0x1234 message (fixed ++ freed) ≡ on_table (Flushed 0) (fixed ++ freed)
+  pub whole : flushed 0x1234 message (fixed ++ freed) ≡ on_table (Ok 0) (fixed ++ freed)
 
 -- learned into a slot that is passed: it stays. Sum 0, the whole flush at the end 1.
 pub record Passed : Type 0 where
   pub first : one 0 (freed ++ fixed) ≡ does 0 1 (freed ++ fixed)
   pub learns : learnt entry (freed ++ fixed) ≡ on_table learning.Learned (fresh ++ fixed)
   pub second : one 1 (fresh ++ fixed) ≡ does 0 2 (fresh ++ fixed)
-  pub whole : flushed 0x1234 message (fresh ++ fixed) ≡ on_table (Flushed 1) (freed ++ fixed)
+  pub whole : flushed 0x1234 message (fresh ++ fixed) ≡ on_table (Ok 1) (freed ++ fixed)

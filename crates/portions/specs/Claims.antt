@@ -1,10 +1,8 @@
 -- What holds of a flush in portions.
 -- Assumes nothing.
-use Rattle.std.specs.Prelude.{ℕ, zero, suc, ◌+◌, ◌-◌, ◌*◌, ◌/◌, ◌<◌, ◌≤◌, true, false, ◌≡◌, length, take, drop, replicate}
+use Rattle.std.specs.Prelude.{ℕ, zero, suc, ◌+◌, ◌-◌, ◌*◌, ◌/◌, ◌<◌, ◌≤◌, true, false, ◌≡◌, length, take, drop, replicate, Ok, Err}
 use mathlib.Core.List.{List, Memᴰ}
 use Rattle.numbers.specs.Tests.{pick, both}
-use Rattle.numbers.specs.Result.{refused, got}
-use Rattle.numbers.specs.Refusals.{table_length_bad}
 use Rattle.numbers.specs.After.{on_table}
 use Rattle.table.specs.Record.{unpacked, is_free, is_learned}
 use Rattle.table.specs.Slots.{slot_bytes, table_good, slots_of, slot_at}
@@ -12,9 +10,9 @@ use Rattle.table.specs.Claims.{Apart, LeavesAlone}
 use Rattle.flush.specs.Payload.{every_type, Payload, payload_of}
 use Rattle.flush.specs.Flush.{flushed}
 use Rattle.flush.specs.Claims.{SlotFacts}
-use Rattle.flush.specs.declared.FlushAnswer.TheVariants.{Flushed}
-use Rattle.portions.specs.Portion.{portion_bad, portion_steps, portioned, portions_run, total}
-use Rattle.portions.specs.declared.PortionAnswer.TheVariants.{Refused, Portioned}
+use Rattle.portions.specs.Portion.{portion_steps, portioned, portions_run, total}
+use Rattle.numbers.specs.declared.refusals.Refusal.TheVariants.{TableLengthBad, PortionBad}
+use Rattle.numbers.specs.declared.refusals.Refusal.{Refusal}
 
 -- how many of m slots from the slot on are learned in t and free in u
 unfoldable pub freed_from : ℕ → ℕ → List ℕ → List ℕ → ℕ
@@ -40,34 +38,34 @@ pub record PortionExact : Type 0 where
   -- the smaller of k and the slots left
   pub steps_k : (slot k n : ℕ) → k ≤ n - slot → portion_steps slot k n ≡ k
   pub steps_left : (slot k n : ℕ) → n - slot ≤ k → portion_steps slot k n ≡ n - slot
-  pub facts : (ingress : ℕ) (l : List ℕ) (slot k : ℕ) (t : List ℕ) (p : Payload) → table_good t ≡ true → 0 < k → slot < slots_of t → payload_of every_type l ≡ got p
+  pub facts : (ingress : ℕ) (l : List ℕ) (slot k : ℕ) (t : List ℕ) (p : Payload) → table_good t ≡ true → 0 < k → slot < slots_of t → payload_of every_type l ≡ Ok p
       → PortionFacts p ingress l slot (portion_steps slot k (slots_of t)) t (portioned ingress l slot k t).table
-  pub answer : (ingress : ℕ) (l : List ℕ) (slot k : ℕ) (t : List ℕ) (p : Payload) → table_good t ≡ true → 0 < k → slot < slots_of t → payload_of every_type l ≡ got p
+  pub answer : (ingress : ℕ) (l : List ℕ) (slot k : ℕ) (t : List ℕ) (p : Payload) → table_good t ≡ true → 0 < k → slot < slots_of t → payload_of every_type l ≡ Ok p
       → (portioned ingress l slot k t).answer
-      ≡ Portioned (record {
+      ≡ Ok (record {
         cleared = freed_from slot (portion_steps slot k (slots_of t)) t (portioned ingress l slot k t).table;
         next = slot + portion_steps slot k (slots_of t);
         examined = portion_steps slot k (slots_of t);
       })
   -- 2, then 24, then 15
-  pub bad_table : (ingress : ℕ) (l : List ℕ) (slot k : ℕ) (t : List ℕ) → table_good t ≡ false → portioned ingress l slot k t ≡ on_table (Refused table_length_bad) t
-  pub none : (ingress : ℕ) (l : List ℕ) (slot : ℕ) (t : List ℕ) → table_good t ≡ true → portioned ingress l slot 0 t ≡ on_table (Refused portion_bad) t
-  pub past : (ingress : ℕ) (l : List ℕ) (slot k : ℕ) (t : List ℕ) → table_good t ≡ true → slots_of t ≤ slot → portioned ingress l slot k t ≡ on_table (Refused portion_bad) t
-  pub corrupt : (ingress : ℕ) (l : List ℕ) (slot k : ℕ) (t : List ℕ) (n : ℕ) → table_good t ≡ true → 0 < k → slot < slots_of t → payload_of every_type l ≡ refused n
-      → portioned ingress l slot k t ≡ on_table (Refused n) t
+  pub bad_table : (ingress : ℕ) (l : List ℕ) (slot k : ℕ) (t : List ℕ) → table_good t ≡ false → portioned ingress l slot k t ≡ on_table (Err TableLengthBad) t
+  pub none : (ingress : ℕ) (l : List ℕ) (slot : ℕ) (t : List ℕ) → table_good t ≡ true → portioned ingress l slot 0 t ≡ on_table (Err PortionBad) t
+  pub past : (ingress : ℕ) (l : List ℕ) (slot k : ℕ) (t : List ℕ) → table_good t ≡ true → slots_of t ≤ slot → portioned ingress l slot k t ≡ on_table (Err PortionBad) t
+  pub corrupt : (ingress : ℕ) (l : List ℕ) (slot k : ℕ) (t : List ℕ) (n : Refusal) → table_good t ≡ true → 0 < k → slot < slots_of t → payload_of every_type l ≡ Err n
+      → portioned ingress l slot k t ≡ on_table (Err n) t
 
 -- demand 1, for the call: a refusal changes nothing
 abbrev pub PortionRefusal : Type 0
-PortionRefusal = (ingress : ℕ) (l : List ℕ) (slot k : ℕ) (t : List ℕ) (n : ℕ) → (portioned ingress l slot k t).answer ≡ Refused n → (portioned ingress l slot k t).table ≡ t
+PortionRefusal = (ingress : ℕ) (l : List ℕ) (slot k : ℕ) (t : List ℕ) (n : Refusal) → (portioned ingress l slot k t).answer ≡ Err n → (portioned ingress l slot k t).table ≡ t
 
 -- "the end and the summed cleared counts are those of the whole flush", for every list of k that reaches the end
 pub record WholeFlush (ingress : ℕ) (l ks t : List ℕ) : Type 0 where
   pub table : (portions_run ingress l ks 0 t).table ≡ (flushed ingress l t).table
-  pub count : (flushed ingress l t).answer ≡ Flushed (portions_run ingress l ks 0 t).cleared
+  pub count : (flushed ingress l t).answer ≡ Ok (portions_run ingress l ks 0 t).cleared
 
 abbrev pub PortionsWhole : Type 0
 PortionsWhole =
-    (ingress : ℕ) (l ks t : List ℕ) (p : Payload) → table_good t ≡ true → payload_of every_type l ≡ got p → (portions_run ingress l ks 0 t).next ≡ slots_of t → WholeFlush ingress l ks t
+    (ingress : ℕ) (l ks t : List ℕ) (p : Payload) → table_good t ≡ true → payload_of every_type l ≡ Ok p → (portions_run ingress l ks 0 t).next ≡ slots_of t → WholeFlush ingress l ks t
 
 -- positive ks reach the end exactly if their sum does; before, the run stands at their sum
 pub record Reaches (ingress : ℕ) (l ks t : List ℕ) : Type 0 where
@@ -78,7 +76,7 @@ abbrev pub Positive : List ℕ → Type 0
 Positive ks = (k : ℕ) → Memᴰ k ks → 0 < k
 
 abbrev pub PortionsReach : Type 0
-PortionsReach = (ingress : ℕ) (l ks t : List ℕ) (p : Payload) → table_good t ≡ true → payload_of every_type l ≡ got p → Positive ks → Reaches ingress l ks t
+PortionsReach = (ingress : ℕ) (l ks t : List ℕ) (p : Payload) → table_good t ≡ true → payload_of every_type l ≡ Ok p → Positive ks → Reaches ingress l ks t
 
 -- n divided by k, rounded up
 abbrev pub calls : ℕ → ℕ → ℕ
@@ -90,7 +88,7 @@ pub record Ends (ingress : ℕ) (l : List ℕ) (k : ℕ) (t : List ℕ) : Type 0
   pub not_before : (c : ℕ) → c < calls (slots_of t) k → (portions_run ingress l (replicate c k) 0 t).next < slots_of t
 
 abbrev pub PortionsEnd : Type 0
-PortionsEnd = (ingress : ℕ) (l : List ℕ) (k : ℕ) (t : List ℕ) (p : Payload) → table_good t ≡ true → payload_of every_type l ≡ got p → 0 < k → Ends ingress l k t
+PortionsEnd = (ingress : ℕ) (l : List ℕ) (k : ℕ) (t : List ℕ) (p : Payload) → table_good t ≡ true → payload_of every_type l ≡ Ok p → 0 < k → Ends ingress l k t
 
 -- "A table with .. no two equal (label, MAC, nickname) triples, and no unmarked learned record beside another .. stays so" (2026-12), under a
 -- portion

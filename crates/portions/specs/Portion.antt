@@ -1,20 +1,14 @@
 -- One portion of a flush: at most k slots from a slot on; and several portions one after another.
 -- Assumes nothing.
-use Rattle.std.specs.Prelude.{ℕ, ◌+◌, ◌-◌, Bool, List, [], ◌∷◌, leb, ltb}
+use Rattle.std.specs.Prelude.{ℕ, ◌+◌, ◌-◌, Bool, List, [], ◌∷◌, leb, ltb, Ok, Err}
 use Rattle.numbers.specs.Tests.{pick, both}
-use Rattle.numbers.specs.Result.{check, and_then, got, settled}
-use Rattle.numbers.specs.Refusals.{table_length_bad}
+use Rattle.numbers.specs.Result.{check, and_then, settled, Outcome}
 use Rattle.numbers.specs.After.{OnTable, on_table}
 use Rattle.table.specs.Slots.{table_good, slots_of, on_slots, count_slots}
 use Rattle.flush.specs.Payload.{every_type, payload_of}
 use Rattle.flush.specs.Flush.{slot_meant, cleared_slot}
 use Rattle.portions.specs.declared.Portion.{Portion}
-use Rattle.portions.specs.declared.PortionAnswer.{PortionAnswer}
-use Rattle.portions.specs.declared.PortionAnswer.TheVariants.{Refused, Portioned}
-
--- refusal 24: "k is 0 or the slot number is n or more"
-abbrev pub portion_bad : ℕ
-portion_bad = 24
+use Rattle.numbers.specs.declared.refusals.Refusal.TheVariants.{TableLengthBad, PortionBad}
 
 -- "the smaller of k and the slots left": the steps of a portion of a table of n slots
 unfoldable pub portion_steps : ℕ → ℕ → ℕ → ℕ
@@ -27,17 +21,17 @@ portion_by meant slot m t =
     (record { cleared = count_slots meant slot m t; next = slot + m; examined = m })
     (on_slots (cleared_slot meant) slot m t)
 
-abbrev pub portion_answered : OnTable Portion → OnTable PortionAnswer
-portion_answered c = on_table (Portioned c.answer) c.table
+abbrev pub portion_answered : OnTable Portion → OnTable (Outcome Portion)
+portion_answered c = on_table (Ok c.answer) c.table
 
 -- the call: 2, then 24, then 15 for the whole payload
-unfoldable pub portioned : ℕ → List ℕ → ℕ → ℕ → List ℕ → OnTable PortionAnswer
+unfoldable pub portioned : ℕ → List ℕ → ℕ → ℕ → List ℕ → OnTable (Outcome Portion)
 portioned ingress l slot k t =
-    settled (λ n. on_table (Refused n) t)
-    (check (table_good t) table_length_bad
-    (check (both (leb 1 k) (ltb slot (slots_of t))) portion_bad
+    settled (λ n. on_table (Err n) t)
+    (check (table_good t) TableLengthBad
+    (check (both (leb 1 k) (ltb slot (slots_of t))) PortionBad
     (and_then (payload_of every_type l) λ p.
-    got (portion_answered (portion_by (slot_meant every_type p ingress) slot (portion_steps slot k (slots_of t)) t)))))
+    Ok (portion_answered (portion_by (slot_meant every_type p ingress) slot (portion_steps slot k (slots_of t)) t)))))
 
 -- ---- portions one after another, with the same message and nothing else touching the table
 
@@ -51,9 +45,9 @@ abbrev pub stands : ℕ → ℕ → List ℕ → Run
 stands c n t = record { cleared = c; next = n; table = t }
 
 -- a refused portion ends the run where it stands; otherwise the run goes on from the next slot, and the counts are summed
-abbrev pub goes_on : PortionAnswer → (ℕ → Run) → Run → Run
-goes_on (Refused n) further here = here
-goes_on (Portioned p) further here = stands (p.cleared + (further p.next).cleared) (further p.next).next (further p.next).table
+abbrev pub goes_on : Outcome Portion → (ℕ → Run) → Run → Run
+goes_on (Err n) further here = here
+goes_on (Ok p) further here = stands (p.cleared + (further p.next).cleared) (further p.next).next (further p.next).table
 
 -- one call for each k of the list, k may differ from call to call
 unfoldable pub portions_run : ℕ → List ℕ → List ℕ → ℕ → List ℕ → Run

@@ -7,47 +7,38 @@ use mathlib.Core.Path.{◌≡◌, refl, sym, ap, ◌∙◌}
 use native.Mathlib.Omega.{arith}
 use lib.Dec.{eqb, leb}
 use borrow.Author.Tests.{eqb-true, eqb-false, leb-true, leb-false}
-use Rattle.numbers.specs.Result.{Result, refused, got, and_then}
-use Rattle.numbers.specs.Refusals.{table_length_bad}
+use Rattle.numbers.specs.Result.{Outcome}
 use Rattle.numbers.specs.After.{OnTable, on_table}
 use Rattle.numbers.proofs.Truth.{or_either, either_neither, false_true}
 use Rattle.numbers.proofs.Answers.{got_got, then_got}
 use Rattle.table.specs.Slots.{most_slots, table_good, slots_of, on_slots, count_slots}
 use Rattle.flush.specs.Payload.{every_type, Payload, payload_of}
 use Rattle.flush.specs.Flush.{slot_meant, cleared_slot}
-use Rattle.flush_marks.specs.Marks.{cleared_in}
+use Rattle.flush_marks.specs.Marks.{cleared_in, swept_in}
 use Rattle.flush_marks.specs.Filters.{Within}
 use Rattle.flush_marks.specs.declared.Sweep.{Sweep}
-use Rattle.flush_call.specs.Clearing.{clearing_in, swept_on}
-use Rattle.flush_call.specs.declared.Swept.{Swept}
-use Rattle.flush_call.specs.declared.Swept.TheVariants.{Refused, Done}
-use Rattle.flush_call.proofs.Calls.{swept_refused, swept_done}
+use Rattle.flush_call.specs.Clearing.{sweeping_in, cleared_on}
+use Rattle.flush_call.proofs.Calls.{ran_refused, ran_count, read_refused}
 use Rattle.table.proofs.Slots.{count_few, good_slots}
-use Rattle.portions.specs.Portion.{portion_bad, portion_steps, portion_by, portioned}
-use Rattle.portions.specs.declared.PortionAnswer.TheVariants as answer
+use Rattle.portions.specs.Portion.{portion_steps, portion_by, portioned}
 use Rattle.portions.proofs.Portions.{steps_within, bad_table, past, none, corrupt, ran}
-
--- ---- the payload
-
--- only the payload is refused there
-read_refused : (ingress : ℕ) (slot m : ℕ) (t : List ℕ) (x : Result Payload) (n : ℕ) → and_then x (λ p. got (cleared_in (slot_meant every_type p ingress) slot m t)) ≡ refused n → x ≡ refused n
-unfolding and_then
-read_refused ingress slot m t (refused q) n e = let same : q ≡ n = cc in ap refused same
-read_refused ingress slot m t (got p) n e = let z : ◌≡◌ {A = ℕ} 0 1 = cc in absurd (omega arith)
+use Rattle.std.specs.Prelude.{Ok, Err}
+use Rattle.numbers.specs.declared.refusals.Refusal.TheVariants.{TableLengthBad, PortionBad}
+use Rattle.numbers.specs.declared.refusals.Refusal.{Refusal}
 
 -- ---- the call
 
 module _ (ingress : ℕ) (l : List ℕ) (slot k : ℕ) (t : List ℕ) (g : Bool) (good : g ≡ table_good t) where
-  pub portion_table : g ≡ false → on_table (answer.Refused table_length_bad) t ≡ portioned ingress l slot k t
+  pub portion_table : g ≡ false → on_table (Err TableLengthBad) t ≡ portioned ingress l slot k t
   portion_table h = sym (bad_table ingress l slot k t (sym good ∙ h))
 
   module _ (ok : g ≡ true) where
-    by_tests : (a b : Bool) → eqb k 0 ≡ a → leb (slots_of t) slot ≡ b → a || b ≡ true → on_table (answer.Refused portion_bad) t ≡ portioned ingress l slot k t
+    by_tests : (a b : Bool) → eqb k 0 ≡ a → leb (slots_of t) slot ≡ b → a || b ≡ true → on_table (Err PortionBad) t ≡ portioned ingress l slot k t
     by_tests true b e f h = sym (none ingress l slot k t (sym good ∙ ok) (eqb-true k 0 e))
     by_tests false true e f h = sym (past ingress l slot k t (sym good ∙ ok) (leb-true (slots_of t) slot f))
     by_tests false false e f h = false_true h
 
-    pub portion_refused : eqb k 0 || leb (slots_of t) slot ≡ true → on_table (answer.Refused portion_bad) t ≡ portioned ingress l slot k t
+    pub portion_refused : eqb k 0 || leb (slots_of t) slot ≡ true → on_table (Err PortionBad) t ≡ portioned ingress l slot k t
     portion_refused h = by_tests (eqb k 0) (leb (slots_of t) slot) refl refl h
 
     module _ (neither : eqb k 0 || leb (slots_of t) slot ≡ false) where
@@ -76,37 +67,40 @@ module _ (ingress : ℕ) (l : List ℕ) (slot k : ℕ) (t : List ℕ) (g : Bool)
             let room = within.room in
             omega arith
 
-        module _ (r : Swept) (u : List ℕ) (cleared : on_table r u ≡ swept_on t m (clearing_in every_type ingress l slot m t)) where
-          pub portion_corrupt : (n : ℕ) → r ≡ Refused n → on_table (answer.Refused n) u ≡ portioned ingress l slot k t
-          unfolding clearing_in
+        module _ (r : Outcome Sweep) (u : List ℕ) (cleared : on_table r u ≡ cleared_on t (sweeping_in every_type ingress l slot m t)) where
+          pub portion_corrupt : (n : Refusal) → r ≡ Err n → on_table (Err n) u ≡ portioned ingress l slot k t
+          unfolding sweeping_in
           portion_corrupt n e =
-              let a = swept_refused t u m r (clearing_in every_type ingress l slot m t) cleared n e in
-              rw a.1 (sym (corrupt ingress l slot k t (sym good ∙ ok) some inside n (read_refused ingress slot m t (payload_of every_type l) n a.0)))
+              let a = ran_refused t u r (sweeping_in every_type ingress l slot m t) cleared n e in
+              rw a.1 (sym (corrupt ingress l slot k t (sym good ∙ ok) some inside n (read_refused (payload_of every_type l) _ n a.0)))
 
-          module _ (s : Sweep) (e : r ≡ Done s) where
-            ended : (p : Payload) × (payload_of every_type l ≡ got p) × (cleared_in (slot_meant every_type p ingress) slot m t ≡ on_table s.cleared u)
-            unfolding clearing_in
+          module _ (s : Sweep) (e : r ≡ Ok s) where
+            ended : (p : Payload) × (payload_of every_type l ≡ Ok p) × (swept_in (slot_meant every_type p ingress) slot m t ≡ on_table s u)
+            unfolding sweeping_in
             ended =
-                let (p, read, c) = then_got _ _ _ (swept_done t u m r (clearing_in every_type ingress l slot m t) cleared s e).0 in
+                let (p, read, c) = then_got _ _ _ (ran_count t u r (sweeping_in every_type ingress l slot m t) cleared s e) in
                 (p, read, got_got _ _ c)
 
             -- the slots examined are the definition's steps
             pub examined_steps : s.examined ≡ m
-            examined_steps = (swept_done t u m r (clearing_in every_type ingress l slot m t) cleared s e).1
+            unfolding swept_in
+            examined_steps =
+                let (p, read, c) = ended in
+                sym (ap (λ (x : OnTable Sweep). x.answer.examined) c)
 
-            pub portion_done : on_table (answer.Portioned (record { cleared = s.cleared; next = slot + s.examined; examined = s.examined })) u ≡ portioned ingress l slot k t
-            unfolding portion_by cleared_in
+            pub portion_done : on_table (Ok (record { cleared = s.cleared; next = slot + s.examined; examined = s.examined })) u ≡ portioned ingress l slot k t
+            unfolding portion_by swept_in cleared_in
             portion_done =
                 let (p, read, c) = ended in
-                let count : count_slots (slot_meant every_type p ingress) slot m t ≡ s.cleared = ap (λ (x : OnTable ℕ). x.answer) c in
-                let left : on_slots (cleared_slot (slot_meant every_type p ingress)) slot m t ≡ u = ap (λ (x : OnTable ℕ). x.table) c in
+                let count : count_slots (slot_meant every_type p ingress) slot m t ≡ s.cleared = ap (λ (x : OnTable Sweep). x.answer.cleared) c in
+                let left : on_slots (cleared_slot (slot_meant every_type p ingress)) slot m t ≡ u = ap (λ (x : OnTable Sweep). x.table) c in
                 rw (examined_steps, ran ingress l slot k t (sym good ∙ ok) some inside p read, ← steps, count, left)
 
             pub count_fits : s.cleared ≤ most_slots
-            unfolding cleared_in
+            unfolding swept_in cleared_in
             count_fits =
                 let (p, read, c) = ended in
-                let count : count_slots (slot_meant every_type p ingress) slot m t ≡ s.cleared = ap (λ (x : OnTable ℕ). x.answer) c in
+                let count : count_slots (slot_meant every_type p ingress) slot m t ≡ s.cleared = ap (λ (x : OnTable Sweep). x.answer.cleared) c in
                 let few = count_few (slot_meant every_type p ingress) t slot m in
                 let fits = next_fits in
                 omega arith

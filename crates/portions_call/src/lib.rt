@@ -5,9 +5,8 @@ ghost use Rattle.std.specs.Prelude.{◌≤◌, ◌≡◌};
 ghost use Rattle.numbers.specs.After.{on_table};
 ghost use Rattle.portions.specs.Portion.{portion_steps, portioned};
 
-use flush_call::Swept;
-use numbers::refusals::TABLE_LENGTH_BAD;
-use portions::{PORTION_BAD, Portion, PortionAnswer};
+use numbers::refusals::Refusal;
+use portions::Portion;
 use table::SLOT_BYTES;
 
 // The smaller of k and the slots left. The slots left are computed first, so that no k is too large.
@@ -15,7 +14,11 @@ fn steps(slot: usize, k: usize, n: usize) -> usize
     requires { slot ≤ n }
     ensures { result ≡ portion_steps slot k n }
 {
-    k.min(n - slot)
+    let left = n - slot;
+    if k <= left {
+        return k;
+    }
+    left
 }
 
 // One portion of a flush: 2, then 24, then 15 for the whole payload.
@@ -25,27 +28,23 @@ pub fn portion(
     slot: usize,
     k: usize,
     table: &mut [u8],
-) -> PortionAnswer
+) -> Result<Portion, Refusal>
     ensures { on_table result table.new ≡ portioned ingress payload.now slot k table.old }
 {
     if !table_records::table_good(table) {
-        return PortionAnswer::Refused(TABLE_LENGTH_BAD);
+        return Err(Refusal::TableLengthBad);
     }
     let n = table.len() / SLOT_BYTES;
     if (k == 0) | (n <= slot) {
-        return PortionAnswer::Refused(PORTION_BAD);
+        return Err(Refusal::PortionBad);
     }
     let m = steps(slot, k, n);
-    match flush_call::clear_portion(ingress, payload, slot, m, table) {
-        Swept::Refused(r) => PortionAnswer::Refused(r),
-        Swept::Done(s) => {
-            let cleared = s.cleared;
-            let examined = s.examined;
-            PortionAnswer::Portioned(Portion {
-                cleared: cleared as u16,
-                next: (slot + examined) as u16,
-                examined: examined as u16,
-            })
-        }
-    }
+    let s = flush_call::clear_portion(ingress, payload, slot, m, table)?;
+    let cleared = s.cleared;
+    let examined = s.examined;
+    Ok(Portion {
+        cleared: cleared as u16,
+        next: (slot + examined) as u16,
+        examined: examined as u16,
+    })
 }

@@ -7,7 +7,7 @@ use mathlib.Core.List.{List, [], ◌∷◌}
 use mathlib.Core.Path.{◌≡◌, refl, ap}
 use lib.ListN.{length, length-replicate}
 use Rattle.numbers.specs.Tests.{pick, both, either, any_of, between}
-use Rattle.numbers.specs.Result.{got, check, and_then, settled}
+use Rattle.numbers.specs.Result.{check, and_then, settled}
 use Rattle.numbers.specs.Bytes.{num, bytes_of, starts_with, laid, parts, parts_from}
 use Rattle.numbers.specs.Ranges.{individual, nickname_good, vlan_good}
 use Rattle.table.specs.Record.{marked_slot, label_from, entry_of, entry_good, held, slot_of, unpacked, record_number, packed, entry_matches}
@@ -30,16 +30,17 @@ use Rattle.receive.specs.Receive.{learned_entry, taught, delivery, acted, readin
 use Rattle.promises.specs.Cases.{far_port, p10_compact}
 use Rattle.promises.specs.Interchange.{Call, read, age, lookup, spoilt, portion, called_with, run_with, run, working_area, frame_or, compacted_call, compacted_where}
 use Rattle.promises.specs.Example.{p10_frame, out_before, later, general_calls, compact_calls, seen, InterchangeExample}
+use Rattle.std.specs.Prelude.{Ok}
 
 area-length : length working_area ≡ 9204
 unfolding working_area
 area-length = length-replicate {A = ℕ} 9204 0
 
-p10-compacting : compacting far_port p10_frame ≡ got p10_compact
+p10-compacting : compacting far_port p10_frame ≡ Ok p10_compact
 unfolding pick both either between check and_then num starts_with individual nickname_good vlan_good addresses_good seconds_good numbers_good later_good settings_good trill_group control_address reserved_group front_refused front_of header_length label_length outer_length general_after general frame_length_good compact_bytes stays_general general_only general_fields compacting
 p10-compacting = refl
 
-p10-converted : converted (compacted far_port p10_frame working_area) ≡ got p10_compact
+p10-converted : converted (compacted far_port p10_frame working_area) ≡ Ok p10_compact
 unfolding compacted
 p10-converted = writes (compacting far_port p10_frame) working_area p10_compact p10-compacting (omega (arith, area-length))
 

@@ -7,16 +7,16 @@ use mathlib.Core.Path.{◌≡◌, refl}
 use native.Mathlib.Omega.{arith}
 use lib.Dec.{leb}
 use lib.ListN.{length}
-use Rattle.numbers.specs.Result.{check, got, settled}
+use Rattle.numbers.specs.Result.{check, settled, Outcome}
 use Rattle.numbers.specs.After.{OnArea, on_area}
 use Rattle.report.specs.Report.{reported, written, reported_to}
-use Rattle.report.specs.declared.ReportAnswer.{ReportAnswer}
-use Rattle.report.specs.declared.ReportAnswer.TheVariants as report
 use Rattle.promises.specs.Claims.{ReportRefusal}
+use Rattle.std.specs.Prelude.{Ok, Err}
+use Rattle.numbers.specs.declared.refusals.Refusal.{Refusal}
 
-refusal_leaves : (b : Bool) (x n : ℕ) (area : List ℕ) (w : OnArea ReportAnswer) → ((k : ℕ) → w.answer ≡ report.Refused k → ⊥)
-    → (settled (λ k. on_area (report.Refused k) area) (check b x (got w))).answer ≡ report.Refused n
-    → (settled (λ k. on_area (report.Refused k) area) (check b x (got w))).area ≡ area
+refusal_leaves : (b : Bool) (x n : Refusal) (area : List ℕ) (w : OnArea (Outcome ℕ)) → ((k : Refusal) → w.answer ≡ Err k → ⊥)
+    → (settled (λ k. on_area (Err k) area) (check b x (Ok w))).answer ≡ Err n
+    → (settled (λ k. on_area (Err k) area) (check b x (Ok w))).area ≡ area
 unfolding settled check
 refusal_leaves false x n area w done h = refl
 refusal_leaves true x n area w done h = absurd (done n h)

@@ -1,8 +1,7 @@
 -- The cases P1 to P11 of document 01, "Cases to prove, as a single table under a single statement".
 -- Assumes nothing.
-use Rattle.std.specs.Prelude.{ℕ, Bool, false, List, [], ◌∷◌, ◌++◌, ◌≡◌}
+use Rattle.std.specs.Prelude.{ℕ, Bool, false, List, [], ◌∷◌, ◌++◌, ◌≡◌, Ok, Err}
 use Rattle.numbers.specs.Tests.{between}
-use Rattle.numbers.specs.Refusals.{payload_corrupt, not_compactable}
 use Rattle.numbers.specs.After.{OnTable, on_table, OnArea, on_area}
 use Rattle.table.specs.Record.{learned_state, unpacked, packed}
 use Rattle.table.specs.Slots.{freed}
@@ -13,23 +12,21 @@ use Rattle.table.specs.declared.Slot.TheVariants.{Learned}
 use Rattle.flush.specs.Payload.{every_type, Piece, tlv, block}
 use Rattle.flush.specs.Meaning.{brings_label}
 use Rattle.flush.specs.Flush.{flushed}
-use Rattle.flush.specs.declared.FlushAnswer.{FlushAnswer}
-use Rattle.flush.specs.declared.FlushAnswer.TheVariants as flush
 use Rattle.frame.specs.declared.Settings.{Settings}
 use Rattle.convert.specs.Compaction.{compacted}
-use Rattle.convert.specs.declared.ConvertAnswer.{ConvertAnswer}
-use Rattle.convert.specs.declared.ConvertAnswer.TheVariants as convert
+use Rattle.numbers.specs.Result.{Outcome}
+use Rattle.numbers.specs.declared.refusals.Refusal.TheVariants.{PayloadCorrupt, NotCompactable}
 
 -- a row of the table
 pub data Case : Type 0 where
   -- these bytes are this learned entry, both ways
   records : List ℕ → Entry → Case
   -- a flush with this ingress nickname and payload, on this table, has this outcome
-  flushes : ℕ → List ℕ → List ℕ → OnTable FlushAnswer → Case
+  flushes : ℕ → List ℕ → List ℕ → OnTable (Outcome ℕ) → Case
   -- a piece of a payload means exactly these labels
   means : Piece → (Label → Bool) → Case
   -- compacting this frame for the port 02-00-00-00-00-A1 into this area has this outcome
-  compacts : List ℕ → List ℕ → OnArea ConvertAnswer → Case
+  compacts : List ℕ → List ℕ → OnArea (Outcome ℕ) → Case
 
 abbrev pub far_port : Settings
 far_port = record {
@@ -72,11 +69,11 @@ p1 = 0x40 ∷ 0x00 ∷ 0x01 ∷ 0x40 ∷ 0x40 ∷ 0x00 ∷ 0x00 ∷ 0x00 ∷ 0x0
 abbrev pub p1_entry : Entry
 p1_entry = record { label = Vlan 10; mac = 0x0200_0000_0001; nickname = 0x1234; confidence = 20; seconds = 300; multihomed = false }
 
-abbrev pub flushed_to : ℕ → List ℕ → OnTable FlushAnswer
-flushed_to count t = on_table (flush.Flushed count) t
+abbrev pub flushed_to : ℕ → List ℕ → OnTable (Outcome ℕ)
+flushed_to count t = on_table (Ok count) t
 
-abbrev pub corrupt_on : List ℕ → OnTable FlushAnswer
-corrupt_on t = on_table (flush.Refused payload_corrupt) t
+abbrev pub corrupt_on : List ℕ → OnTable (Outcome ℕ)
+corrupt_on t = on_table (Err PayloadCorrupt) t
 
 -- P2, P3, P7 to P9; the last row shows that P9's record would match if a label was gathered
 abbrev pub flush_cases : List Case
@@ -124,8 +121,8 @@ p10_compact =
 -- P10, P11
 abbrev pub compaction_cases : List Case
 compaction_cases =
-    compacts (p10 (0x02 ∷ 0x00 ∷ 0x00 ∷ 0x00 ∷ 0x00 ∷ 0x0D ∷ [])) (area blank) (on_area (convert.Written 28) (area p10_compact))
-    ∷ compacts (p10 (0x01 ∷ 0x80 ∷ 0xC2 ∷ 0x00 ∷ 0x00 ∷ 0x42 ∷ [])) (area blank) (on_area (convert.Refused not_compactable) (area blank))
+    compacts (p10 (0x02 ∷ 0x00 ∷ 0x00 ∷ 0x00 ∷ 0x00 ∷ 0x0D ∷ [])) (area blank) (on_area (Ok 28) (area p10_compact))
+    ∷ compacts (p10 (0x01 ∷ 0x80 ∷ 0xC2 ∷ 0x00 ∷ 0x00 ∷ 0x42 ∷ [])) (area blank) (on_area (Err NotCompactable) (area blank))
     ∷ []
 
 -- the single statement
@@ -139,12 +136,12 @@ abbrev pub group : ℕ → List ℕ
 group last = 0x01 ∷ 0x80 ∷ 0xC2 ∷ 0x00 ∷ 0x00 ∷ last ∷ []
 
 abbrev pub stays : ℕ → Case
-stays last = compacts (p10 (group last)) (area blank) (on_area (convert.Refused not_compactable) (area blank))
+stays last = compacts (p10 (group last)) (area blank) (on_area (Err NotCompactable) (area blank))
 
 abbrev pub goes : ℕ → Case
 goes last =
     compacts (p10 (group last)) (area blank)
-    (on_area (convert.Written 28)
+    (on_area (Ok 28)
     (area
     (group last
     ++ (0x02 ∷ 0x00 ∷ 0x00 ∷ 0x00 ∷ 0x00 ∷ 0x01 ∷ 0x81 ∷ 0x00 ∷ 0x00 ∷ 0x0A ∷ 0x22 ∷ 0xF3

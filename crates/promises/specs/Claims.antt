@@ -1,6 +1,6 @@
 -- The demands that are about all calls together.
 -- Assumes nothing.
-use Rattle.std.specs.Prelude.{ℕ, List, ◌≡◌}
+use Rattle.std.specs.Prelude.{ℕ, List, ◌≡◌, Err}
 use Rattle.table.specs.Table.{aged}
 use Rattle.table.specs.Claims.{AgeingRefusal, WideningRefusal, AgeingKeepsApart, Stays, IsSpoilt, IsConfigured}
 use Rattle.table.specs.declared.Slot.{Slot}
@@ -14,11 +14,11 @@ use Rattle.convert.specs.Claims.{ConvertRefusals}
 use Rattle.receive.specs.Claims.{ReadRefusal, ReadingKeepsApart}
 use Rattle.ingress.specs.Claims.{IngressRefusal}
 use Rattle.report.specs.Report.{reported_to}
-use Rattle.report.specs.declared.ReportAnswer.TheVariants as report
+use Rattle.numbers.specs.declared.refusals.Refusal.{Refusal}
 
 -- a report that is refused
 abbrev pub ReportRefusal : Type 0
-ReportRefusal = (t area : List ℕ) (n : ℕ) → (reported_to t area).answer ≡ report.Refused n → (reported_to t area).area ≡ area
+ReportRefusal = (t area : List ℕ) (n : Refusal) → (reported_to t area).answer ≡ Err n → (reported_to t area).area ≡ area
 
 -- Demand 1: "A refusal returns its number and changes nothing: every lent area keeps its bytes." For every public call that is lent
 -- an area to change: reading (with every map), flushing, whole or a portion, ageing, widening, compacting, expanding, sending, ingress, the report. Lookup and the naming of the lowest spoilt slot are

@@ -1,6 +1,6 @@
 -- Two homes through reading (2026-12): which frames are marked, and that with the setting none learning goes on as document 01 says.
 -- Assumes nothing.
-use Rattle.std.specs.Prelude.{ℕ, List, [], ◌∷◌, ◌≡◌}
+use Rattle.std.specs.Prelude.{ℕ, List, [], ◌∷◌, ◌≡◌, Err}
 use Rattle.table.specs.Slots.{freed}
 use Rattle.table.specs.Learning.{learnt}
 use Rattle.table.specs.Before.{learnt_before}
@@ -8,9 +8,9 @@ use Rattle.table.specs.Claims.{Unique}
 use Rattle.frame.specs.Fields.{Fields}
 use Rattle.frame.specs.declared.Settings.{Settings}
 use Rattle.receive.specs.Receive.{learned_entry, received}
-use Rattle.receive.specs.declared.ReadAnswer.TheVariants as reads
 use Rattle.promises.specs.Cases.{far_port, p1}
 use Rattle.promises.specs.Example.{out_before}
+use Rattle.numbers.specs.declared.refusals.Refusal.TheVariants.{SettingsBad}
 
 -- with the setting none, where no pair stands twice, a frame is learned as document 01 says: answer and bytes
 abbrev pub NoneAsBefore : Type 0
@@ -50,4 +50,4 @@ pub record MarkedRead : Type 0 where
   pub not_first : learned_of 1 0x10 ≡ p1
   pub not_second : learned_of 2 0x20 ≡ p1
   pub none : learned_of 0 0x30 ≡ p1
-  pub beyond : (received (port_with 3) (frame_with 0x20) freed out_before).answer ≡ reads.Refused 1
+  pub beyond : (received (port_with 3) (frame_with 0x20) freed out_before).answer ≡ Err SettingsBad

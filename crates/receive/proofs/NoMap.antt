@@ -10,16 +10,19 @@ use lib.Dec.{eqb}
 use lib.ListN.{length}
 use Rattle.numbers.specs.Tests.{pick, both}
 use Rattle.numbers.specs.Bytes.{parts, parts_from}
-use Rattle.numbers.specs.Result.{Result, refused, got, check, and_then}
+use Rattle.numbers.specs.Result.{Outcome, check, and_then}
 use Rattle.numbers.proofs.Truth.{either_second}
 use Rattle.frame.specs.Fields.{Fields, native_bytes}
 use Rattle.frame.specs.Labels.{is_tag}
-use Rattle.port_map.specs.Maps.{Pair, no_pair, pairs_in, good_once, pairs_good, map_good, vlan_for}
+use Rattle.port_map.specs.Maps.{Pair, pairs_in, good_once, pairs_good, map_good, vlan_for}
 use Rattle.port_map.specs.declared.PortVlan.{PortVlan}
 use Rattle.port_map.specs.declared.CampusLabel.{CampusLabel}
 use Rattle.receive.specs.Delivering.{fine_in, tag_word, tagged_bytes, stays, native_out}
 use Rattle.receive.specs.Receive.{acted, reading, received_with, port_received, received}
 use Rattle.receive.specs.Claims.{NoMapNoChange}
+use Rattle.std.specs.Prelude.{Ok, Err}
+use Rattle.numbers.specs.declared.refusals.Refusal.TheVariants.{NoPair}
+use Rattle.numbers.specs.declared.refusals.Refusal.{Refusal}
 
 pub empty_good : map_good [] ≡ true
 unfolding map_good both pairs_good good_once pairs_in parts parts_from
@@ -27,35 +30,35 @@ empty_good = refl
 
 -- ---- 22
 
-got_never : {A : Type 0} (a : A) (n : ℕ) → ◌≡◌ {A = Result A} (got a) (refused n) → n ≡ no_pair
+got_never : {A : Type 0} (a : A) (n : Refusal) → ◌≡◌ {A = Outcome A} (Ok a) (Err n) → n ≡ NoPair
 got_never a n e = let z : ◌≡◌ {A = ℕ} 0 1 = cc in absurd (omega arith)
 
-vlan_missing : (ps : List Pair) (l : CampusLabel) (n : ℕ) → vlan_for ps l ≡ refused n → n ≡ no_pair
+vlan_missing : (ps : List Pair) (l : CampusLabel) (n : Refusal) → vlan_for ps l ≡ Err n → n ≡ NoPair
 unfolding vlan_for pick
 vlan_missing [] l n e = cc
 vlan_missing (p ∷ ps) l n e = go (eqb p.label.0 l.0) (vlan_missing ps l n) e
   where
-    go : (c : Bool) → (vlan_for ps l ≡ refused n → n ≡ no_pair) → pick c (got p.vlan) (vlan_for ps l) ≡ refused n → n ≡ no_pair
+    go : (c : Bool) → (vlan_for ps l ≡ Err n → n ≡ NoPair) → pick c (Ok p.vlan) (vlan_for ps l) ≡ Err n → n ≡ NoPair
     go true later h = got_never p.vlan n h
     go false later h = later h
 
-pub native_missing : (m : List ℕ) (p : Fields) (n : ℕ) → native_out m p ≡ refused n → n ≡ no_pair
+pub native_missing : (m : List ℕ) (p : Fields) (n : Refusal) → native_out m p ≡ Err n → n ≡ NoPair
 unfolding native_out pick and_then
 native_missing m p n e = go (stays m p) (vlan_for (pairs_in m) (fine_in p.label)) (vlan_missing (pairs_in m) (fine_in p.label) n) e
   where
-    go : (c : Bool) (r : Result PortVlan) → (r ≡ refused n → n ≡ no_pair)
-        → pick c (got (native_bytes p)) (and_then r λ v. got (tagged_bytes p (tag_word p.label v))) ≡ refused n → n ≡ no_pair
+    go : (c : Bool) (r : Outcome PortVlan) → (r ≡ Err n → n ≡ NoPair)
+        → pick c (Ok (native_bytes p)) (and_then r λ v. Ok (tagged_bytes p (tag_word p.label v))) ≡ Err n → n ≡ NoPair
     go true r only h = got_never _ n h
-    go false (refused k) only h = only (ap refused (let z : k ≡ n = cc in z))
-    go false (got v) only h = got_never _ n h
+    go false (Err k) only h = only (ap Err (let z : k ≡ n = cc in z))
+    go false (Ok v) only h = got_never _ n h
 
 -- ---- delivery stays
 
-pub native_stays : (m : List ℕ) (p : Fields) → stays m p ≡ true → native_out m p ≡ got (native_bytes p)
+pub native_stays : (m : List ℕ) (p : Fields) → stays m p ≡ true → native_out m p ≡ Ok (native_bytes p)
 unfolding native_out pick
 native_stays m p h = rw h
 
-pub tag_stays : (m : List ℕ) (p : Fields) → is_tag p.label ≡ true → native_out m p ≡ got (native_bytes p)
+pub tag_stays : (m : List ℕ) (p : Fields) → is_tag p.label ≡ true → native_out m p ≡ Ok (native_bytes p)
 unfolding stays
 tag_stays m p h = native_stays m p (either_second (eqb (length m) 0) (is_tag p.label) h)
 

@@ -12,7 +12,7 @@ use lib.ListN.{length}
 use lib.Seq.{take-append_seam}
 use borrow.Author.Tests.{leb-true}
 use Rattle.numbers.specs.Tests.{pick, either}
-use Rattle.numbers.specs.Result.{Result, refused, got, check, and_then, settled}
+use Rattle.numbers.specs.Result.{Outcome, check, and_then, settled}
 use Rattle.numbers.specs.After.{OnTable, on_table, OnBoth, on_both}
 use Rattle.numbers.specs.Bytes.{num}
 use Rattle.numbers.specs.Ranges.{individual, nickname_good}
@@ -29,7 +29,6 @@ use Rattle.table.proofs.Apart.{learning_apart}
 use Rattle.table.proofs.Stays.{learning_leaves_alone}
 use Rattle.flush.specs.Payload.{every_type}
 use Rattle.flush.specs.Flush.{clearing, flushed}
-use Rattle.flush.specs.declared.FlushAnswer.TheVariants as flush
 use Rattle.flush.proofs.Flushing.{flush_exact, clearing-apart}
 use Rattle.flush.proofs.Stays.{clearing_leaves_alone}
 use Rattle.frame.specs.Settings.{addresses_good, seconds_good, numbers_good, later_good, settings_good, life_of, default_life, compact_on}
@@ -47,7 +46,9 @@ use Rattle.receive.specs.Receive.{learned_entry, taught, delivered_with, deliver
 use Rattle.receive.specs.Words.{LabelFits}
 use Rattle.receive.specs.Claims.{ReadRefusal, ReadingKeepsApart, ReadsParsed, ReadingLeavesAlone, FlushRead, ReadFlushExact}
 use Rattle.receive.specs.declared.ReadAnswer.{ReadAnswer}
-use Rattle.receive.specs.declared.ReadAnswer.TheVariants.{Refused, Onward, OtherChannel, Flushed}
+use Rattle.receive.specs.declared.ReadAnswer.TheVariants.{Onward, OtherChannel, Flushed}
+use Rattle.std.specs.Prelude.{Ok, Err}
+use Rattle.numbers.specs.declared.refusals.Refusal.{Refusal}
 
 pub reads_parsed : ReadsParsed
 unfolding port_received received_with
@@ -56,14 +57,14 @@ reads_parsed s m f g t o e = rw e
 -- ---- what an accepted reading left
 
 -- a property of outcomes that holds of each that is not refused
-pub record Holds (m : List ℕ) (life : ℕ) (s : Settings) (p : Fields) (t o : List ℕ) (P : OnBoth ReadAnswer → Type 0) : Type 0 where
-  pub onward : P (on_both Onward t o)
-  pub other : P (on_both OtherChannel t o)
-  pub flushes : is_channel p.content ≡ true → (c : OnTable ℕ) → clearing every_type (ingress_of p.header) (channel_payload p.content) t ≡ got c → P (flushed_with o c)
-  pub delivers : nicknames_good s p.header ≡ true → individual (num p.src) ≡ true → (b : List ℕ) → native_out m p ≡ got b → P (delivered_with p b o (taught life s p t))
+pub record Holds (m : List ℕ) (life : ℕ) (s : Settings) (p : Fields) (t o : List ℕ) (P : OnBoth (Outcome ReadAnswer) → Type 0) : Type 0 where
+  pub onward : P (on_both (Ok Onward) t o)
+  pub other : P (on_both (Ok OtherChannel) t o)
+  pub flushes : is_channel p.content ≡ true → (c : OnTable ℕ) → clearing every_type (ingress_of p.header) (channel_payload p.content) t ≡ Ok c → P (flushed_with o c)
+  pub delivers : nicknames_good s p.header ≡ true → individual (num p.src) ≡ true → (b : List ℕ) → native_out m p ≡ Ok b → P (delivered_with p b o (taught life s p t))
 
-module _ (m : List ℕ) (life : ℕ) (s : Settings) (p : Fields) (t o : List ℕ) (P : OnBoth ReadAnswer → Type 0) (h : Holds m life s p t o P) where
-  channel_left : is_channel p.content ≡ true → (a : OnBoth ReadAnswer) → channel s p t o ≡ got a → P a
+module _ (m : List ℕ) (life : ℕ) (s : Settings) (p : Fields) (t o : List ℕ) (P : OnBoth (Outcome ReadAnswer) → Type 0) (h : Holds m life s p t o P) where
+  channel_left : is_channel p.content ≡ true → (a : OnBoth (Outcome ReadAnswer)) → channel s p t o ≡ Ok a → P a
   unfolding channel
   channel_left is a q =
       let c = check_got _ _ _ _ q in
@@ -73,7 +74,7 @@ module _ (m : List ℕ) (life : ℕ) (s : Settings) (p : Fields) (t o : List ℕ
       (λ v. subst P (got_got _ _ v.1) h.other)
       (pick_got _ _ _ _ g.1)
 
-  delivery_left : nicknames_good s p.header ≡ true → individual (num p.src) ≡ true → (a : OnBoth ReadAnswer) → delivery (native_out m p) life s p t o ≡ got a → P a
+  delivery_left : nicknames_good s p.header ≡ true → individual (num p.src) ≡ true → (a : OnBoth (Outcome ReadAnswer)) → delivery (native_out m p) life s p t o ≡ Ok a → P a
   unfolding delivery
   delivery_left n i a q =
       let c = check_got _ _ _ _ q in
@@ -81,7 +82,7 @@ module _ (m : List ℕ) (life : ℕ) (s : Settings) (p : Fields) (t o : List ℕ
       let r = check_got _ _ _ _ k in
       subst P (got_got _ _ r.1) (h.delivers n i b made)
 
-  acted_left : (a : OnBoth ReadAnswer) → acted m life s p t o ≡ got a → P a
+  acted_left : (a : OnBoth (Outcome ReadAnswer)) → acted m life s p t o ≡ Ok a → P a
   unfolding acted
   acted_left a q =
       let c = check_got _ _ _ _ q in
@@ -97,9 +98,9 @@ module _ (m : List ℕ) (life : ℕ) (s : Settings) (p : Fields) (t o : List ℕ
       (pick_got _ _ _ _ i.1)
 
 -- the outcome of the call: refused, or one of those
-module _ (m : List ℕ) (life : ℕ) (s : Settings) (fields : Result Fields) (t o : List ℕ) (P : OnBoth ReadAnswer → Type 0)
-    (h : (p : Fields) → settings_good s ≡ true → table_good t ≡ true → fields ≡ got p → Holds m life s p t o P) where
-  pub reading_left : (a : OnBoth ReadAnswer) → reading m life s fields t o ≡ got a → P a
+module _ (m : List ℕ) (life : ℕ) (s : Settings) (fields : Outcome Fields) (t o : List ℕ) (P : OnBoth (Outcome ReadAnswer) → Type 0)
+    (h : (p : Fields) → settings_good s ≡ true → table_good t ≡ true → fields ≡ Ok p → Holds m life s p t o P) where
+  pub reading_left : (a : OnBoth (Outcome ReadAnswer)) → reading m life s fields t o ≡ Ok a → P a
   unfolding reading
   reading_left a q =
       let c = check_got _ _ _ _ q in
@@ -108,10 +109,10 @@ module _ (m : List ℕ) (life : ℕ) (s : Settings) (fields : Result Fields) (t 
       let (p, r, k) = then_got _ _ _ g.1 in
       acted_left m life s p t o P (h p c.0 d.0 r) a k
 
-pub settled_left : {A : Type 0} (P : A → Type 0) (leave : ℕ → A) (r : Result A) → ((n : ℕ) → P (leave n)) → ((a : A) → r ≡ got a → P a) → P (settled leave r)
+pub settled_left : {A : Type 0} (P : A → Type 0) (leave : Refusal → A) (r : Outcome A) → ((n : Refusal) → P (leave n)) → ((a : A) → r ≡ Ok a → P a) → P (settled leave r)
 unfolding settled
-settled_left P leave (refused n) f g = f n
-settled_left P leave (got a) f g = g a refl
+settled_left P leave (Err n) f g = f n
+settled_left P leave (Ok a) f g = g a refl
 
 -- a frame with our own ingress nickname teaches nothing, another its source
 module _ (life : ℕ) (s : Settings) (p : Fields) (t : List ℕ) where
@@ -135,15 +136,15 @@ module _ (life : ℕ) (s : Settings) (p : Fields) (t : List ℕ) where
 pub apart : {C : Type 0} → ◌≡◌ {A = ℕ} 0 1 → C
 apart e = absurd (omega arith)
 
-count_same : (a b : ℕ) → Flushed a ≡ Flushed b → a ≡ b
+count_same : (a b : ℕ) → ◌≡◌ {A = Outcome ReadAnswer} (Ok (Flushed a)) (Ok (Flushed b)) → a ≡ b
 count_same a b e = cc
 
-flushed_same : (a b : ℕ) → flush.Flushed a ≡ flush.Flushed b → a ≡ b
+flushed_same : (a b : ℕ) → ◌≡◌ {A = Outcome ℕ} (Ok a) (Ok b) → a ≡ b
 flushed_same a b e = cc
 
 -- ---- refusals
 
-not_refused : (m : List ℕ) (life : ℕ) (s : Settings) (p : Fields) (t o : List ℕ) (n : ℕ) → Holds m life s p t o (λ a. a.answer ≡ Refused n → (a.table ≡ t) × (a.out ≡ o))
+not_refused : (m : List ℕ) (life : ℕ) (s : Settings) (p : Fields) (t o : List ℕ) (n : Refusal) → Holds m life s p t o (λ a. a.answer ≡ Err n → (a.table ≡ t) × (a.out ≡ o))
 not_refused m life s p t o n = record {
   onward = λ e. (refl, refl);
   other = λ e. (refl, refl);
@@ -154,7 +155,7 @@ not_refused m life s p t o n = record {
 pub read_refusal : ReadRefusal
 unfolding port_received received_with
 read_refusal s m f t o n =
-    settled_left (λ (a : OnBoth ReadAnswer). a.answer ≡ Refused n → (a.table ≡ t) × (a.out ≡ o)) (λ k. on_both (Refused k) t o) (reading m default_life s (parsed s f) t o)
+    settled_left (λ (a : OnBoth (Outcome ReadAnswer)). a.answer ≡ Err n → (a.table ≡ t) × (a.out ≡ o)) (λ k. on_both (Err k) t o) (reading m default_life s (parsed s f) t o)
     (λ k e. (refl, refl))
     (reading_left m default_life s (parsed s f) t o _ (λ p g d q. not_refused m default_life s p t o n))
 
@@ -165,7 +166,7 @@ parts_label : (p : Fields) → Good p → label_good (label_read p.label) ≡ tr
 parts_label p g =
     rw (take-append_seam p.label []) at (labels_good (p.label ++ []) (length p.label) (g.label []))
 
-fronts_good : (on : Bool) (d : Front) (f : List ℕ) (p : Fields) → by_front on d f ≡ got p → Good p
+fronts_good : (on : Bool) (d : Front) (f : List ℕ) (p : Fields) → by_front on d f ≡ Ok p → Good p
 unfolding by_front
 fronts_good on unicast f p q = (general_is unicast f p q).good
 fronts_good on multicast f p q = (general_is multicast f p q).good
@@ -176,7 +177,7 @@ fronts_good on inner f p q =
     (λ v. refused_got _ p v.1)
     (pick_got _ _ _ _ q)
 
-parsed_good : (s : Settings) (f : List ℕ) (p : Fields) → parsed s f ≡ got p → Good p
+parsed_good : (s : Settings) (f : List ℕ) (p : Fields) → parsed s f ≡ Ok p → Good p
 unfolding parsed
 parsed_good s f p q = fronts_good (compact_on s) (front_of s (address_in f)) f p (check_got _ _ _ _ q).1
 
@@ -225,7 +226,7 @@ keeps_apart m life s p t o small set g u = record {
 pub reading-apart : ReadingKeepsApart
 unfolding port_received received_with
 reading-apart s m f t o u =
-    settled_left (λ (a : OnBoth ReadAnswer). Apart a.table) (λ k. on_both (Refused k) t o) (reading m default_life s (parsed s f) t o)
+    settled_left (λ (a : OnBoth (Outcome ReadAnswer)). Apart a.table) (λ k. on_both (Err k) t o) (reading m default_life s (parsed s f) t o)
     (λ k. u)
     (reading_left m default_life s (parsed s f) t o _ (λ p set d q. keeps_apart m default_life s p t o (omega arith) set (parsed_good s f p q) u))
 
@@ -234,7 +235,7 @@ reading-apart s m f t o u =
 pub reading_leaves_alone : ReadingLeavesAlone
 unfolding port_received received_with
 reading_leaves_alone s m f t o =
-    settled_left (λ (a : OnBoth ReadAnswer). LeavesAlone t a.table) (λ k. on_both (Refused k) t o) (reading m default_life s (parsed s f) t o)
+    settled_left (λ (a : OnBoth (Outcome ReadAnswer)). LeavesAlone t a.table) (λ k. on_both (Err k) t o) (reading m default_life s (parsed s f) t o)
     (λ k. same)
     (reading_left m default_life s (parsed s f) t o _ (λ p set d q.
     record {
@@ -249,12 +250,12 @@ reading_leaves_alone s m f t o =
 
 -- ---- a flush in a frame
 
-module _ (ingress : ℕ) (l t : List ℕ) (c : OnTable ℕ) (good : table_good t ≡ true) (q : clearing every_type ingress l t ≡ got c) where
-  flush_called : flushed ingress l t ≡ on_table (flush.Flushed c.answer) c.table
+module _ (ingress : ℕ) (l t : List ℕ) (c : OnTable ℕ) (good : table_good t ≡ true) (q : clearing every_type ingress l t ≡ Ok c) where
+  flush_called : flushed ingress l t ≡ on_table (Ok c.answer) c.table
   unfolding flushed settled check and_then
   flush_called = rw (good, q)
 
-flush_read : (s : Settings) (f t : List ℕ) (p : Fields) (c : OnTable ℕ) → parsed s f ≡ got p → table_good t ≡ true → clearing every_type (ingress_of p.header) (channel_payload p.content) t ≡ got c
+flush_read : (s : Settings) (f t : List ℕ) (p : Fields) (c : OnTable ℕ) → parsed s f ≡ Ok p → table_good t ≡ true → clearing every_type (ingress_of p.header) (channel_payload p.content) t ≡ Ok c
     → FlushRead s f t c.table c.answer
 unfolding clearing
 flush_read s f t p c read good q =
@@ -275,7 +276,7 @@ flush_read s f t p c read good q =
 pub read_flush_exact : ReadFlushExact
 unfolding port_received received_with
 read_flush_exact s m f t o n =
-    settled_left (λ (a : OnBoth ReadAnswer). a.answer ≡ Flushed n → FlushRead s f t a.table n × (a.out ≡ o)) (λ k. on_both (Refused k) t o) (reading m default_life s (parsed s f) t o)
+    settled_left (λ (a : OnBoth (Outcome ReadAnswer)). a.answer ≡ (Ok (Flushed n)) → FlushRead s f t a.table n × (a.out ≡ o)) (λ k. on_both (Err k) t o) (reading m default_life s (parsed s f) t o)
     (λ k e. apart cc)
     (reading_left m default_life s (parsed s f) t o _ (λ p set d q.
     record {
@@ -290,7 +291,7 @@ read_flush_exact s m f t o n =
 pub read_fits : (s : Settings) (m f t o : List ℕ) → LabelFits (port_received s m f t o).answer
 unfolding port_received received_with
 read_fits s m f t o =
-    settled_left (λ (a : OnBoth ReadAnswer). LabelFits a.answer) (λ k. on_both (Refused k) t o) (reading m default_life s (parsed s f) t o)
+    settled_left (λ (a : OnBoth (Outcome ReadAnswer)). LabelFits a.answer) (λ k. on_both (Err k) t o) (reading m default_life s (parsed s f) t o)
     (λ k. tt)
     (reading_left m default_life s (parsed s f) t o _ (λ p set d q.
     record {

@@ -11,7 +11,7 @@ use lib.ListN.{length, take, drop, length-append, length-drop, length-replicate}
 use lib.Seq.{take-append-le, drop-append-le}
 use borrow.Author.Tests.{leb-true, le-leb}
 use Rattle.numbers.specs.Tests.{pick}
-use Rattle.numbers.specs.Result.{got, and_then, settled}
+use Rattle.numbers.specs.Result.{and_then, settled, Outcome}
 use Rattle.numbers.specs.After.{OnBoth, on_both}
 use Rattle.numbers.specs.Bytes.{num}
 use Rattle.numbers.proofs.Answers.{check_got, check_pass, then_got}
@@ -31,8 +31,10 @@ use Rattle.receive.specs.Deciding.{channel_bytes, channel_payload, channel_good}
 use Rattle.receive.specs.Receive.{channel, acted, reading, received_with, port_received}
 use Rattle.receive.specs.Claims.{PaddedRead}
 use Rattle.receive.specs.declared.ReadAnswer.{ReadAnswer}
-use Rattle.receive.specs.declared.ReadAnswer.TheVariants.{Refused, Flushed}
+use Rattle.receive.specs.declared.ReadAnswer.TheVariants.{Flushed}
 use Rattle.receive.proofs.Outcomes.{reading_left, settled_left, apart}
+use Rattle.std.specs.Prelude.{Ok, Err}
+use Rattle.numbers.specs.declared.refusals.Refusal.{Refusal}
 
 -- ---- a longer content
 
@@ -51,7 +53,7 @@ module _ (c z : List ℕ) (long : channel_bytes ≤ length c) where
 -- ---- on the fields read
 
 module _ (s : Settings) (p : Fields) (t o : List ℕ) (x : Payload) (n : ℕ) (is : is_channel p.content ≡ true) (long : channel_bytes ≤ length p.content)
-    (valid : payload_of every_type (channel_payload p.content) ≡ got x) where
+    (valid : payload_of every_type (channel_payload p.content) ≡ Ok x) where
   channel_same : channel s (longer p (zeros n)) t o ≡ channel s p t o
   unfolding channel channel_good
   channel_same =
@@ -69,7 +71,7 @@ module _ (s : Settings) (p : Fields) (t o : List ℕ) (x : Payload) (n : ℕ) (i
   unfolding acted pick
   acted_same m life = rw (same_channel p.content (zeros n) long, is, channel_same)
 
-  reading_same : (m : List ℕ) (life : ℕ) → reading m life s (got (longer p (zeros n))) t o ≡ reading m life s (got p) t o
+  reading_same : (m : List ℕ) (life : ℕ) → reading m life s (Ok (longer p (zeros n))) t o ≡ reading m life s (Ok p) t o
   unfolding reading and_then
   reading_same m life = rw (acted_same m life)
 
@@ -78,15 +80,15 @@ module _ (s : Settings) (p : Fields) (t o : List ℕ) (x : Payload) (n : ℕ) (i
 -- what a reading that answers a count read
 record Carried (s : Settings) (f : List ℕ) : Type 0 where
   fields : Fields
-  read : parsed s f ≡ got fields
+  read : parsed s f ≡ Ok fields
   is : is_channel fields.content ≡ true
   payload : Payload
-  valid : payload_of every_type (channel_payload fields.content) ≡ got payload
+  valid : payload_of every_type (channel_payload fields.content) ≡ Ok payload
 
-carried : (s : Settings) (m f t o : List ℕ) (k : ℕ) → (port_received s m f t o).answer ≡ Flushed k → Carried s f
+carried : (s : Settings) (m f t o : List ℕ) (k : ℕ) → (port_received s m f t o).answer ≡ (Ok (Flushed k)) → Carried s f
 unfolding port_received received_with clearing
 carried s m f t o k =
-    settled_left (λ (a : OnBoth ReadAnswer). a.answer ≡ Flushed k → Carried s f) (λ n. on_both (Refused n) t o) (reading m default_life s (parsed s f) t o)
+    settled_left (λ (a : OnBoth (Outcome ReadAnswer)). a.answer ≡ (Ok (Flushed k)) → Carried s f) (λ n. on_both (Err n) t o) (reading m default_life s (parsed s f) t o)
     (λ n e. apart cc)
     (reading_left m default_life s (parsed s f) t o _ (λ p set d q.
     record {
@@ -97,7 +99,7 @@ carried s m f t o k =
     }))
 
 -- the payload has bytes, so the channel header is whole
-channel_long : (c : List ℕ) (x : Payload) → payload_of every_type (channel_payload c) ≡ got x → channel_bytes ≤ length c
+channel_long : (c : List ℕ) (x : Payload) → payload_of every_type (channel_payload c) ≡ Ok x → channel_bytes ≤ length c
 unfolding payload_of
 channel_long c x h =
     let a = check_got (leb 1 (length (channel_payload c))) _ _ x h in
@@ -110,5 +112,5 @@ unfolding port_received received_with zeros
 padded_read s m f t o k n h room =
     let c = carried s m f t o k h in
     let l : length (zeros n) ≡ n = length-replicate n 0 in
-    let q : parsed s (padded n f) ≡ got (longer c.fields (zeros n)) = parsed_longer (zeros n) s f c.fields (omega arith) c.read in
-    rw (q, c.read) (ap (settled (λ (r : ℕ). on_both (Refused r) t o)) (reading_same s c.fields t o c.payload n c.is (channel_long c.fields.content c.payload c.valid) c.valid m default_life))
+    let q : parsed s (padded n f) ≡ Ok (longer c.fields (zeros n)) = parsed_longer (zeros n) s f c.fields (omega arith) c.read in
+    rw (q, c.read) (ap (settled (λ (r : Refusal). on_both (Err r) t o)) (reading_same s c.fields t o c.payload n c.is (channel_long c.fields.content c.payload c.valid) c.valid m default_life))

@@ -1,8 +1,8 @@
 -- The native frame that is delivered: as it is, or with the VLAN of a port's map as its tag (2026-01, "Outbound").
 -- Assumes nothing.
-use Rattle.std.specs.Prelude.{ℕ, ◌+◌, ◌*◌, ◌/◌, ◌^◌, Bool, List, ◌++◌, eqb, length}
+use Rattle.std.specs.Prelude.{ℕ, ◌+◌, ◌*◌, ◌/◌, ◌^◌, Bool, List, ◌++◌, eqb, length, Ok}
 use Rattle.numbers.specs.Tests.{pick, either}
-use Rattle.numbers.specs.Result.{Result, got, and_then}
+use Rattle.numbers.specs.Result.{Outcome, and_then}
 use Rattle.numbers.specs.Bytes.{bytes_of}
 use Rattle.frame.specs.Header.{word_at}
 use Rattle.frame.specs.Labels.{tag_type, is_tag, low12}
@@ -32,8 +32,8 @@ unfoldable pub stays : List ℕ → Fields → Bool
 stays m p = either (eqb (length m) 0) (is_tag p.label)
 
 -- the bytes that are delivered with the map m, or 22
-unfoldable pub native_out : List ℕ → Fields → Result (List ℕ)
+unfoldable pub native_out : List ℕ → Fields → Outcome (List ℕ)
 native_out m p =
     pick (stays m p)
-    (got (native_bytes p))
-    (and_then (vlan_for (pairs_in m) (fine_in p.label)) λ v. got (tagged_bytes p (tag_word p.label v)))
+    (Ok (native_bytes p))
+    (and_then (vlan_for (pairs_in m) (fine_in p.label)) λ v. Ok (tagged_bytes p (tag_word p.label v)))

@@ -1,10 +1,9 @@
 -- The order of reading's refusals and answers on one page (document 01, "Numbers a caller can get"): rows from top to bottom, of which
 -- the first that applies decides. `ReadsExactly` says that the reading call is this.
 -- Assumes nothing.
-use Rattle.std.specs.Prelude.{ℕ, ◌+◌, Bool, true, not, List, [], ◌∷◌, ◌++◌, ◌≡◌, leb, eqb, length, take, drop}
+use Rattle.std.specs.Prelude.{ℕ, ◌+◌, Bool, true, not, List, [], ◌∷◌, ◌++◌, ◌≡◌, leb, eqb, length, take, drop, Result, Ok, Err}
 use Rattle.numbers.specs.Tests.{pick}
-use Rattle.numbers.specs.Result.{Result, refused, got, settled}
-use Rattle.numbers.specs.Refusals.{settings_bad, table_length_bad, frame_length_bad, not_trill, not_for_port, cut_short, version_bad, hops_spent, nickname_bad, label_bad, source_group, multicast_disagrees, not_channel, channel_bad, payload_corrupt, area_short}
+use Rattle.numbers.specs.Result.{settled}
 use Rattle.numbers.specs.After.{OnBoth, on_both}
 use Rattle.numbers.specs.Bytes.{num}
 use Rattle.numbers.specs.Ranges.{individual, vlan_good}
@@ -18,12 +17,14 @@ use Rattle.frame.specs.Labels.{ethertype_bytes, tag_bytes, fine_bytes, is_trill,
 use Rattle.frame.specs.Fields.{Fields, least_content}
 use Rattle.frame.specs.Formats.{tagged_addresses, untagged_outer, tagged_outer, frame_length_good}
 use Rattle.frame.specs.declared.Settings.{Settings}
-use Rattle.port_map.specs.Maps.{map_bad, no_pair, map_good}
+use Rattle.port_map.specs.Maps.{map_good}
 use Rattle.receive.specs.Deciding.{nicknames_good, is_onward, channel_bytes, channel_protocol, channel_payload, flush_protocol, channel_good}
 use Rattle.receive.specs.Delivering.{native_out}
 use Rattle.receive.specs.Receive.{taught, delivered_with, flushed_with, port_received}
 use Rattle.receive.specs.declared.ReadAnswer.{ReadAnswer}
-use Rattle.receive.specs.declared.ReadAnswer.TheVariants.{Refused, Onward, OtherChannel}
+use Rattle.receive.specs.declared.ReadAnswer.TheVariants.{Onward, OtherChannel}
+use Rattle.numbers.specs.declared.refusals.Refusal.TheVariants.{SettingsBad, TableLengthBad, FrameLengthBad, NotTrill, NotForPort, CutShort, VersionBad, HopsSpent, NicknameBad, LabelBad, SourceGroup, MulticastDisagrees, NotChannel, ChannelBad, PayloadCorrupt, AreaShort, MapBad, NoPair}
+use Rattle.numbers.specs.declared.refusals.Refusal.{Refusal}
 
 -- ---- rows
 
@@ -39,7 +40,7 @@ first_of (unless b x ∷ rows) last = pick b (first_of rows last) x
 first_of (when b x ∷ rows) last = pick b x (first_of rows last)
 
 abbrev pub Outcome : Type 0
-Outcome = Result (OnBoth ReadAnswer)
+Outcome = Result (OnBoth (Result ReadAnswer Refusal)) Refusal
 
 -- l is what is left of the frame: its next n bytes are there
 abbrev pub there : ℕ → List ℕ → Bool
@@ -50,10 +51,10 @@ there n l = leb n (length l)
 -- outer addresses, the optional tag, 22F3: a tag's Ethertype and its other two bytes are two fields
 abbrev pub outer_rows : List ℕ → List (Row Outcome)
 outer_rows f =
-    unless (there untagged_outer f) (refused cut_short)
+    unless (there untagged_outer f) (Err CutShort)
     ∷ pick (is_tag (drop addresses_bytes f))
-    (unless (there tagged_addresses f) (refused cut_short) ∷ unless (there tagged_outer f) (refused cut_short) ∷ unless (is_trill (drop tagged_addresses f)) (refused not_trill) ∷ [])
-    (unless (is_trill (drop addresses_bytes f)) (refused not_trill) ∷ [])
+    (unless (there tagged_addresses f) (Err CutShort) ∷ unless (there tagged_outer f) (Err CutShort) ∷ unless (is_trill (drop tagged_addresses f)) (Err NotTrill) ∷ [])
+    (unless (is_trill (drop addresses_bytes f)) (Err NotTrill) ∷ [])
 
 abbrev pub outer_end : List ℕ → ℕ
 outer_end f = pick (is_tag (drop addresses_bytes f)) tagged_outer untagged_outer
@@ -61,29 +62,29 @@ outer_end f = pick (is_tag (drop addresses_bytes f)) tagged_outer untagged_outer
 -- "7 before 12, once all six header bytes are there"; then the options
 abbrev pub header_rows : Front → List ℕ → List (Row Outcome)
 header_rows d h =
-    unless (there fixed_bytes h) (refused cut_short)
-    ∷ unless (eqb (version_of h) 0) (refused version_bad)
-    ∷ unless (agrees d (multicast_of h)) (refused multicast_disagrees)
-    ∷ unless (there (header_bytes h) h) (refused cut_short)
+    unless (there fixed_bytes h) (Err CutShort)
+    ∷ unless (eqb (version_of h) 0) (Err VersionBad)
+    ∷ unless (agrees d (multicast_of h)) (Err MulticastDisagrees)
+    ∷ unless (there (header_bytes h) h) (Err CutShort)
     ∷ []
 
 abbrev pub address_rows : List ℕ → List (Row Outcome)
 address_rows a =
-    unless (there address_bytes a) (refused cut_short)
-    ∷ unless (there address_bytes (drop address_bytes a)) (refused cut_short)
+    unless (there address_bytes a) (Err CutShort)
+    ∷ unless (there address_bytes (drop address_bytes a)) (Err CutShort)
     ∷ []
 
 -- a VLAN label, or a fine-grained one
 abbrev pub label_rows : List ℕ → List (Row Outcome)
 label_rows l =
-    unless (there ethertype_bytes l) (refused cut_short)
+    unless (there ethertype_bytes l) (Err CutShort)
     ∷ pick (is_tag l)
-    (unless (there tag_bytes l) (refused cut_short) ∷ unless (vlan_good (low12 2 l)) (refused label_bad) ∷ [])
-    (unless (is_fine l) (refused label_bad)
-    ∷ unless (there tag_bytes l) (refused cut_short)
-    ∷ unless (there (tag_bytes + ethertype_bytes) l) (refused cut_short)
-    ∷ unless (is_fine (drop tag_bytes l)) (refused label_bad)
-    ∷ unless (there fine_bytes l) (refused cut_short)
+    (unless (there tag_bytes l) (Err CutShort) ∷ unless (vlan_good (low12 2 l)) (Err LabelBad) ∷ [])
+    (unless (is_fine l) (Err LabelBad)
+    ∷ unless (there tag_bytes l) (Err CutShort)
+    ∷ unless (there (tag_bytes + ethertype_bytes) l) (Err CutShort)
+    ∷ unless (is_fine (drop tag_bytes l)) (Err LabelBad)
+    ∷ unless (there fine_bytes l) (Err CutShort)
     ∷ [])
 
 abbrev pub label_end : List ℕ → ℕ
@@ -91,12 +92,12 @@ label_end l = pick (is_tag l) tag_bytes fine_bytes
 
 abbrev pub trill_rows : List ℕ → List (Row Outcome)
 trill_rows l =
-    unless (there ethertype_bytes l) (refused cut_short)
-    ∷ unless (is_trill l) (refused not_trill)
+    unless (there ethertype_bytes l) (Err CutShort)
+    ∷ unless (is_trill l) (Err NotTrill)
     ∷ []
 
 abbrev pub content_rows : List ℕ → List (Row Outcome)
-content_rows c = unless (there least_content c) (refused cut_short) ∷ []
+content_rows c = unless (there least_content c) (Err CutShort) ∷ []
 
 -- ---- the two formats
 
@@ -156,8 +157,8 @@ module _ (f : List ℕ) where
 abbrev pub front_rows : Bool → Front → List ℕ → List (Row Outcome)
 front_rows on unicast f = general_rows f unicast
 front_rows on multicast f = general_rows f multicast
-front_rows on refused_front f = when true (refused not_for_port) ∷ []
-front_rows on inner f = unless on (refused not_for_port) ∷ compact_rows f
+front_rows on refused_front f = when true (Err NotForPort) ∷ []
+front_rows on inner f = unless on (Err NotForPort) ∷ compact_rows f
 
 abbrev pub front_parts : Front → List ℕ → Fields
 front_parts unicast f = general_parts f
@@ -167,9 +168,9 @@ front_parts inner f = compact_parts f
 
 -- ---- on the fields read, alike for both formats
 
-abbrev pub is_got : {A : Type 0} → Result A → Bool
-is_got (refused n) = not true
-is_got (got a) = true
+abbrev pub is_got : {A : Type 0} → Result A Refusal → Bool
+is_got (Err n) = not true
+is_got (Ok a) = true
 
 -- the bytes of a native frame that has some
 abbrev pub native_written : List ℕ → Fields → List ℕ
@@ -178,34 +179,34 @@ native_written m p = settled (λ n. []) (native_out m p)
 module _ (m : List ℕ) (s : Settings) (p : Fields) (t o : List ℕ) where
   abbrev pub decision_rows : List (Row Outcome)
   decision_rows =
-      when (eqb (hop_count p.header) 0) (refused hops_spent)
-      ∷ unless (nicknames_good s p.header) (refused nickname_bad)
-      ∷ unless (individual (num p.src)) (refused source_group)
-      ∷ when (is_onward s p.header) (got (on_both Onward t o))
+      when (eqb (hop_count p.header) 0) (Err HopsSpent)
+      ∷ unless (nicknames_good s p.header) (Err NicknameBad)
+      ∷ unless (individual (num p.src)) (Err SourceGroup)
+      ∷ when (is_onward s p.header) (Ok (on_both (Ok Onward) t o))
       ∷ []
 
   -- content 8946: a channel frame
   abbrev pub channel_rows : List (Row Outcome)
   channel_rows =
-      unless (there channel_bytes p.content) (refused cut_short)
-      ∷ unless (channel_good s p) (refused channel_bad)
-      ∷ unless (eqb (channel_protocol p.content) flush_protocol) (got (on_both OtherChannel t o))
-      ∷ unless (is_got (payload_of every_type (channel_payload p.content))) (refused payload_corrupt)
+      unless (there channel_bytes p.content) (Err CutShort)
+      ∷ unless (channel_good s p) (Err ChannelBad)
+      ∷ unless (eqb (channel_protocol p.content) flush_protocol) (Ok (on_both (Ok OtherChannel) t o))
+      ∷ unless (is_got (payload_of every_type (channel_payload p.content))) (Err PayloadCorrupt)
       ∷ []
 
   abbrev pub flushes_all : Outcome
-  flushes_all = got (flushed_with o (cleared_by (slot_meant every_type (made (channel_payload p.content)) (ingress_of p.header)) t))
+  flushes_all = Ok (flushed_with o (cleared_by (slot_meant every_type (made (channel_payload p.content)) (ingress_of p.header)) t))
 
   -- any other content: a native frame
   abbrev pub native_rows : List (Row Outcome)
   native_rows =
-      when (trill_group (num p.dst)) (refused not_channel)
-      ∷ unless (is_got (native_out m p)) (refused no_pair)
-      ∷ unless (leb (length (native_written m p)) (length o)) (refused area_short)
+      when (trill_group (num p.dst)) (Err NotChannel)
+      ∷ unless (is_got (native_out m p)) (Err NoPair)
+      ∷ unless (leb (length (native_written m p)) (length o)) (Err AreaShort)
       ∷ []
 
   abbrev pub delivers : Outcome
-  delivers = got (delivered_with p (native_written m p) o (taught default_life s p t))
+  delivers = Ok (delivered_with p (native_written m p) o (taught default_life s p t))
 
   abbrev pub acted_on : Outcome
   acted_on =
@@ -219,12 +220,12 @@ module _ (m : List ℕ) (s : Settings) (p : Fields) (t o : List ℕ) where
 abbrev pub read_in_order : Settings → List ℕ → List ℕ → List ℕ → List ℕ → Outcome
 read_in_order s m f t o =
     first_of
-    (unless (settings_good s) (refused settings_bad)
-    ∷ unless (table_good t) (refused table_length_bad)
-    ∷ unless (map_good m) (refused map_bad)
-    ∷ unless (frame_length_good (length f)) (refused frame_length_bad)
+    (unless (settings_good s) (Err SettingsBad)
+    ∷ unless (table_good t) (Err TableLengthBad)
+    ∷ unless (map_good m) (Err MapBad)
+    ∷ unless (frame_length_good (length f)) (Err FrameLengthBad)
     ∷ front_rows (compact_on s) (front_of s (address_in f)) f)
     (acted_on m s (front_parts (front_of s (address_in f)) f) t o)
 
 abbrev pub ReadsExactly : Type 0
-ReadsExactly = (s : Settings) (m f t o : List ℕ) → port_received s m f t o ≡ settled (λ n. on_both (Refused n) t o) (read_in_order s m f t o)
+ReadsExactly = (s : Settings) (m f t o : List ℕ) → port_received s m f t o ≡ settled (λ n. on_both (Err n) t o) (read_in_order s m f t o)

@@ -10,7 +10,6 @@ use table::{Label, Learning};
 // so that they lie where a refusal's number and a count do: the compiler then keeps the answer in registers.
 #[derive(Clone, Copy)]
 pub enum ReadAnswer {
-    Refused(u8),
     Onward,
     Delivered {
         learning: Learning,

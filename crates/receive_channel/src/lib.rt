@@ -1,21 +1,19 @@
 // A channel frame for this switch: 6, 14, another protocol, 15, or the flush that it carries.
 #![tactic(auto)]
 
-ghost use Rattle.std.specs.Prelude.{ℕ, ◌≤◌, true, List, ◌≡◌, length};
+ghost use Rattle.std.specs.Prelude.{ℕ, ◌≤◌, true, List, ◌≡◌, length, Err};
 ghost use Rattle.numbers.specs.Result.{settled};
 ghost use Rattle.numbers.specs.After.{on_both};
 ghost use Rattle.table.specs.Slots.{table_good};
 ghost use Rattle.receive.specs.Deciding.{channel_bytes, channel_version, channel_protocol, channel_error};
 ghost use Rattle.receive.specs.Receive.{channel};
-ghost use Rattle.receive.specs.declared.ReadAnswer.TheVariants as answer;
 ghost use Rattle.frame_parse.specs.Meaning.{fields_in, PartsOf};
 ghost use Rattle.receive_decide.specs.Meaning.{ValuesOf};
 ghost use Rattle.receive_channel.specs.Meaning.{channel_of};
 
-use flush_call::Cleared;
 use frame::{ALL_EGRESS_RBRIDGES, Settings};
 use frame_parse::Parts;
-use numbers::refusals::{CHANNEL_BAD, CUT_SHORT};
+use numbers::refusals::Refusal;
 use receive::{
     CHANNEL_BYTES, CHANNEL_ERROR_OFFSET, CHANNEL_ERROR_VALUES, CHANNEL_PROTOCOL_OFFSET,
     CHANNEL_PROTOCOL_VALUES, CHANNEL_VERSION_BIT, CHANNEL_VERSION_VALUES, FLUSH_PROTOCOL,
@@ -55,23 +53,27 @@ fn channel_good(inner: u64, c: &[u8], dst: u64) -> bool
 }
 
 // Handles a channel frame. No output area is lent: channel frames write no native frame.
-pub fn handle(s: Settings, v: FieldValues, f: &[u8], p: Parts, table: &mut [u8]) -> ReadAnswer
+pub fn handle(
+    s: Settings,
+    v: FieldValues,
+    f: &[u8],
+    p: Parts,
+    table: &mut [u8],
+) -> Result<ReadAnswer, Refusal>
     requires { PartsOf f.now p × (ValuesOf (fields_in f.now p) v × (table_good table.old ≡ true)) }
-    ensures { (o : List ℕ) → on_both result table.new o ≡ settled (λ n. on_both (answer.Refused n) table.old o) (channel s (fields_in f.now p) table.old o) }
+    ensures { (o : List ℕ) → on_both result table.new o ≡ settled (λ n. on_both (Err n) table.old o) (channel s (fields_in f.now p) table.old o) }
 {
     let c = frame_fields::after(f, p.content_offset);
     if c.len() < CHANNEL_BYTES {
-        return ReadAnswer::Refused(CUT_SHORT);
+        return Err(Refusal::CutShort);
     }
     if !channel_good(s.inner, c, v.dst) {
-        return ReadAnswer::Refused(CHANNEL_BAD);
+        return Err(Refusal::ChannelBad);
     }
     if channel_protocol(c) != FLUSH_PROTOCOL {
-        return ReadAnswer::OtherChannel;
+        return Ok(ReadAnswer::OtherChannel);
     }
     let payload = frame_fields::after(c, CHANNEL_BYTES);
-    match flush_call::clear_meant(v.ingress as u32, payload, table) {
-        Cleared::Refused(n) => ReadAnswer::Refused(n),
-        Cleared::Count(n) => ReadAnswer::Flushed(n as u16),
-    }
+    let n = flush_call::clear_meant(v.ingress as u32, payload, table)?;
+    Ok(ReadAnswer::Flushed(n as u16))
 }

@@ -1,9 +1,8 @@
 -- The decision on the fields of a frame, with what follows it left open; and the values that the code reads.
 -- Assumes nothing.
-use Rattle.std.specs.Prelude.{ℕ, ◌^◌, ◌<◌, Bool, not, ◌≡◌, eqb}
+use Rattle.std.specs.Prelude.{ℕ, ◌^◌, ◌<◌, Bool, not, ◌≡◌, eqb, Ok, Err}
 use Rattle.numbers.specs.Tests.{pick, both, either}
-use Rattle.numbers.specs.Result.{Result, refused, check}
-use Rattle.numbers.specs.Refusals.{hops_spent, nickname_bad, source_group}
+use Rattle.numbers.specs.Result.{Outcome, check}
 use Rattle.numbers.specs.Bytes.{num}
 use Rattle.numbers.specs.Ranges.{individual, nickname_good}
 use Rattle.frame.specs.Header.{multicast_of, hop_count, egress_of, ingress_of}
@@ -14,6 +13,7 @@ use Rattle.receive.specs.Deciding.{nicknames_good, is_onward}
 use Rattle.receive_decide.specs.declared.Step.{Step}
 use Rattle.receive_decide.specs.declared.Step.TheVariants as step
 use Rattle.receive_decide.specs.declared.FieldValues.{FieldValues}
+use Rattle.numbers.specs.declared.refusals.Refusal.TheVariants.{HopsSpent, NicknameBad, SourceGroup}
 
 -- v are the values of a frame's fields
 pub record ValuesOf (p : Fields) (v : FieldValues) : Type 0 where
@@ -34,17 +34,17 @@ unfoldable pub onward_of : ℕ → ℕ → ℕ → Bool
 onward_of own multicast egress = both (eqb multicast 0) (not (eqb egress own))
 
 -- 8, 9, 11; onward; a channel frame or another
-unfoldable pub deciding : {A : Type 0} → Settings → Fields → Result A → Result A → Result A → Result A
+unfoldable pub deciding : {A : Type 0} → Settings → Fields → Outcome A → Outcome A → Outcome A → Outcome A
 deciding s p onward channel native =
-    check (not (eqb (hop_count p.header) 0)) hops_spent
-    (check (nicknames_good s p.header) nickname_bad
-    (check (individual (num p.src)) source_group
+    check (not (eqb (hop_count p.header) 0)) HopsSpent
+    (check (nicknames_good s p.header) NicknameBad
+    (check (individual (num p.src)) SourceGroup
     (pick (is_onward s p.header)
     onward
     (pick (is_channel p.content) channel native))))
 
-abbrev pub step_as : {A : Type 0} → Step → Result A → Result A → Result A → Result A
-step_as (step.Refused n) onward channel native = refused n
-step_as step.Onward onward channel native = onward
-step_as step.Channel onward channel native = channel
-step_as step.Native onward channel native = native
+abbrev pub step_as : {A : Type 0} → Outcome Step → Outcome A → Outcome A → Outcome A → Outcome A
+step_as (Err n) onward channel native = Err n
+step_as (Ok step.Onward) onward channel native = onward
+step_as (Ok step.Channel) onward channel native = channel
+step_as (Ok step.Native) onward channel native = native

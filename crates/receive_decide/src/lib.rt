@@ -2,7 +2,7 @@
 #![tactic(auto)]
 
 ghost use Rattle.std.specs.Prelude.{◌≡◌};
-ghost use Rattle.numbers.specs.Result.{Result};
+ghost use Rattle.numbers.specs.Result.{Outcome};
 ghost use Rattle.numbers.specs.After.{OnBoth};
 ghost use Rattle.frame.specs.Fields.{Fields};
 ghost use Rattle.frame.specs.Labels.{is_channel};
@@ -12,7 +12,7 @@ ghost use Rattle.receive_decide.specs.Meaning.{ValuesOf, deciding, step_as, nick
 
 use frame::{ADDRESS_BYTES, SMART_ON, Settings};
 use frame_parse::Parts;
-use numbers::refusals::{HOPS_SPENT, NICKNAME_BAD, SOURCE_GROUP};
+use numbers::refusals::Refusal;
 
 // The values of a frame's fields, each read once: of the header M, hop count and nicknames, and the inner addresses.
 #[derive(Clone, Copy)]
@@ -27,7 +27,6 @@ pub struct FieldValues {
 
 #[derive(Clone, Copy)]
 pub enum Step {
-    Refused(u8),
     Onward,
     Channel,
     Native,
@@ -66,23 +65,23 @@ fn is_onward(nickname: u32, multicast: u64, egress: u64) -> bool
 }
 
 // The decision, `channel` being whether the content starts 8946.
-pub fn decide(s: Settings, v: FieldValues, channel: bool) -> Step
-    ensures { (p : Fields) → ValuesOf p v → channel ≡ is_channel p.content → (a b c : Result (OnBoth ReadAnswer)) → step_as result a b c ≡ deciding s p a b c }
+pub fn decide(s: Settings, v: FieldValues, channel: bool) -> Result<Step, Refusal>
+    ensures { (p : Fields) → ValuesOf p v → channel ≡ is_channel p.content → (a b c : Outcome (OnBoth (Outcome ReadAnswer))) → step_as result a b c ≡ deciding s p a b c }
 {
     if v.hops == 0 {
-        return Step::Refused(HOPS_SPENT);
+        return Err(Refusal::HopsSpent);
     }
     if !nicknames_good(s.smart, s.nickname, v.egress, v.ingress) {
-        return Step::Refused(NICKNAME_BAD);
+        return Err(Refusal::NicknameBad);
     }
     if !numbers::is_individual(v.src) {
-        return Step::Refused(SOURCE_GROUP);
+        return Err(Refusal::SourceGroup);
     }
     if is_onward(s.nickname, v.multicast, v.egress) {
-        return Step::Onward;
+        return Ok(Step::Onward);
     }
     if channel {
-        return Step::Channel;
+        return Ok(Step::Channel);
     }
-    Step::Native
+    Ok(Step::Native)
 }

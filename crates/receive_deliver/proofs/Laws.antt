@@ -9,7 +9,7 @@ use lib.ListN.{length, take, drop, length-drop, length-append, take-append-drop}
 use lib.Seq.{drop-drop, take-add, take-take, length-take-le}
 use borrow.Author.Tests.{le-leb, lt-leb}
 use Rattle.numbers.specs.Tests.{pick}
-use Rattle.numbers.specs.Result.{refused, got, check, and_then, settled}
+use Rattle.numbers.specs.Result.{check, and_then, settled, Outcome}
 use Rattle.numbers.specs.After.{OnBoth, on_both, on_table}
 use Rattle.numbers.specs.Bytes.{num, bytes_of, laid}
 use Rattle.numbers.proofs.Lists.{part_prefix, starts_same}
@@ -25,11 +25,11 @@ use Rattle.frame.specs.Labels.{tag_bytes, fine_bytes, is_tag, low12, label_read}
 use Rattle.frame.specs.Settings.{default_life}
 use Rattle.frame.specs.declared.Settings.{Settings}
 use Rattle.receive.specs.Deciding.{is_marked}
-use Rattle.port_map.specs.Maps.{no_pair, campus_label}
+use Rattle.port_map.specs.Maps.{campus_label}
 use Rattle.receive.specs.Delivering.{tagged_bytes}
 use Rattle.receive.specs.Receive.{learned_entry, taught, delivery}
 use Rattle.receive.specs.declared.ReadAnswer.{ReadAnswer}
-use Rattle.receive.specs.declared.ReadAnswer.TheVariants.{Refused, Delivered}
+use Rattle.receive.specs.declared.ReadAnswer.TheVariants.{Delivered}
 use Rattle.receive.proofs.Outcomes.{apart}
 use Rattle.frame_parse.specs.Meaning.{fields_in, PartsOf}
 use Rattle.frame_parse.specs.declared.Parts.{Parts}
@@ -43,6 +43,8 @@ use Rattle.receive_deliver.specs.Meaning.{Asks, tag_of, tag_length, is_missing, 
 use Rattle.receive_deliver.specs.declared.Tag.{Tag}
 use Rattle.receive_deliver.specs.declared.Tag.TheVariants as tag
 use Rattle.receive_deliver.specs.declared.Wanted.TheVariants as wanted
+use Rattle.std.specs.Prelude.{Ok, Err}
+use Rattle.numbers.specs.declared.refusals.Refusal.TheVariants.{NotChannel, AreaShort, NoPair}
 
 -- ---- the label
 
@@ -84,12 +86,12 @@ tag_length_lem tag.Untagged = refl
 tag_length_lem (tag.Number w) = refl
 tag_length_lem tag.Missing = refl
 
-missing_as : (g : Tag) (p : Fields) → is_missing g ≡ true → native_as g p ≡ refused no_pair
+missing_as : (g : Tag) (p : Fields) → is_missing g ≡ true → native_as g p ≡ Err NoPair
 missing_as tag.Untagged p h = apart cc
 missing_as (tag.Number w) p h = apart cc
 missing_as tag.Missing p h = refl
 
-written_as : (g : Tag) (p : Fields) → is_missing g ≡ false → native_as g p ≡ got (written_with g p)
+written_as : (g : Tag) (p : Fields) → is_missing g ≡ false → native_as g p ≡ Ok (written_with g p)
 unfolding written_with native_bytes tagged_bytes
 written_as tag.Untagged p h = refl
 written_as (tag.Number w) p h = refl
@@ -180,16 +182,16 @@ module _ (f : List ℕ) (p : Parts) (i : PartsOf f p) where
   -- ---- the outcomes
 
   module _ (s : Settings) (v : FieldValues) (w : ValuesOf (fields_in f p) v) (t o : List ℕ) where
-    abbrev delivered : Tag → OnBoth ReadAnswer
-    delivered tag = settled (λ n. on_both (Refused n) t o) (delivery (native_as tag (fields_in f p)) default_life s (fields_in f p) t o)
+    abbrev delivered : Tag → OnBoth (Outcome ReadAnswer)
+    delivered tag = settled (λ n. on_both (Err n) t o) (delivery (native_as tag (fields_in f p)) default_life s (fields_in f p) t o)
 
     module _ (tag : Tag) (g : Bool) (group : g ≡ trill_group v.dst) where
-      pub group_out : g ≡ true → on_both (Refused 13) t o ≡ delivered tag
+      pub group_out : g ≡ true → on_both (Err NotChannel) t o ≡ delivered tag
       unfolding delivery settled check
       group_out h = rw (← w.dst, ← group, h)
 
       module _ (h : g ≡ false) (m : Bool) (em : m ≡ is_missing tag) where
-        pub missing_out : m ≡ true → on_both (Refused 22) t o ≡ delivered tag
+        pub missing_out : m ≡ true → on_both (Err NoPair) t o ≡ delivered tag
         unfolding delivery settled check and_then
         missing_out y = rw (← w.dst, ← group, h, missing_as tag (fields_in f p) (sym em ∙ y))
 
@@ -200,7 +202,7 @@ module _ (f : List ℕ) (p : Parts) (i : PartsOf f p) where
           its_length : length (written_with tag (fields_in f p)) ≡ long
           its_length = native_length_lem tag ∙ rw ek
 
-          pub short_out : length o < long → on_both (Refused 16) t o ≡ delivered tag
+          pub short_out : length o < long → on_both (Err AreaShort) t o ≡ delivered tag
           unfolding delivery settled check and_then
           short_out l = rw (← w.dst, ← group, h, written_as tag (fields_in f p) (sym em ∙ some), its_length, lt-leb long (length o) l)
 
@@ -210,7 +212,7 @@ module _ (f : List ℕ) (p : Parts) (i : PartsOf f p) where
               → (e : Entry) → e ≡ learned_of s label v.src v.ingress mark
               → (how : Learning) (u : List ℕ) → on_table how u ≡ taught_of s.nickname e t
               → (z : List ℕ) → z ≡ laid (written_with tag (fields_in f p)) o
-              → on_both (Delivered how long label) u z ≡ delivered tag
+              → on_both (Ok (Delivered how long label)) u z ≡ delivered tag
           unfolding delivery taught settled check and_then learned_entry taught_of
           done l label le mark ma e ee how u lu z lz =
               let eo : e.nickname ≡ v.ingress = rw ee in

@@ -2,7 +2,7 @@
 // of it comes as a tag: nothing here takes a map.
 #![tactic(auto)]
 
-ghost use Rattle.std.specs.Prelude.{◌+◌, ◌^◌, ◌<◌, ◌≤◌, true, ◌≡◌, length};
+ghost use Rattle.std.specs.Prelude.{◌+◌, ◌^◌, ◌<◌, ◌≤◌, true, ◌≡◌, length, Err};
 ghost use Rattle.numbers.specs.Result.{settled};
 ghost use Rattle.numbers.specs.After.{on_both};
 ghost use Rattle.numbers.specs.Bytes.{laid};
@@ -11,7 +11,6 @@ ghost use Rattle.frame.specs.Front.{addresses_bytes};
 ghost use Rattle.frame.specs.Labels.{label_read};
 ghost use Rattle.frame.specs.Settings.{settings_good, default_life};
 ghost use Rattle.receive.specs.Receive.{delivery};
-ghost use Rattle.receive.specs.declared.ReadAnswer.TheVariants as answer;
 ghost use Rattle.frame_parse.specs.Meaning.{fields_in, PartsOf};
 ghost use Rattle.receive_decide.specs.Meaning.{ValuesOf};
 ghost use Rattle.frame_copy.specs.Areas.{pasted};
@@ -19,8 +18,8 @@ ghost use Rattle.receive_deliver.specs.Meaning.{Asks, tag_of, tag_length, is_mis
 
 use frame::{ADDRESSES_BYTES, ETHERTYPE_BYTES, LABEL_PART, Settings, TAG_BYTES, TAG_ETHERTYPE};
 use frame_parse::Parts;
-use numbers::refusals::{AREA_SHORT, NOT_CHANNEL};
-use port_map::{CampusLabel, NO_PAIR};
+use numbers::refusals::Refusal;
+use port_map::CampusLabel;
 use receive::ReadAnswer;
 use receive_decide::FieldValues;
 use table::Label;
@@ -136,29 +135,29 @@ pub fn deliver(
     tag: Tag,
     table: &mut [u8],
     out: &mut [u8],
-) -> ReadAnswer
+) -> Result<ReadAnswer, Refusal>
     requires { (settings_good s ≡ true) × (PartsOf f.now p × ValuesOf (fields_in f.now p) v) }
-    ensures { on_both result table.new out.new ≡ settled (λ n. on_both (answer.Refused n) table.old out.old) (delivery (native_as tag (fields_in f.now p)) default_life s (fields_in f.now p) table.old out.old) }
+    ensures { on_both result table.new out.new ≡ settled (λ n. on_both (Err n) table.old out.old) (delivery (native_as tag (fields_in f.now p)) default_life s (fields_in f.now p) table.old out.old) }
 {
     if frame_settings::is_trill_group(v.dst) {
-        return ReadAnswer::Refused(NOT_CHANNEL);
+        return Err(Refusal::NotChannel);
     }
     if tag_missing(tag) {
-        return ReadAnswer::Refused(NO_PAIR);
+        return Err(Refusal::NoPair);
     }
     let k = tag_bytes(tag);
     let n = ADDRESSES_BYTES + k + (f.len() - p.content_offset);
     if out.len() < n {
-        return ReadAnswer::Refused(AREA_SHORT);
+        return Err(Refusal::AreaShort);
     }
     let label = label_of(f, p);
     write_native(f, p, tag, out);
     let mark = receive_teach::is_marked(s, f, p);
     let entry = receive_teach::learned_entry(s, label, v.src, v.ingress, mark);
     let how = receive_teach::teach(s.nickname, entry, table);
-    ReadAnswer::Delivered {
+    Ok(ReadAnswer::Delivered {
         learning: how,
         length: n as u16,
         label: label,
-    }
+    })
 }

@@ -1,7 +1,6 @@
 -- The label that a frame asks of a map.
 -- Assumes nothing.
-use Rattle.std.specs.Prelude.{ℕ, false, List, ◌≡◌}
-use Rattle.numbers.specs.Result.{got}
+use Rattle.std.specs.Prelude.{ℕ, false, List, ◌≡◌, Ok}
 use Rattle.frame.specs.Fields.{Fields}
 use Rattle.frame.specs.Formats.{parsed}
 use Rattle.frame.specs.Labels.{is_tag}
@@ -11,4 +10,4 @@ use Rattle.receive.specs.Delivering.{fine_in}
 
 -- l is the fine-grained label of the frame f, where it has one
 abbrev pub LabelAsked : Settings → List ℕ → CampusLabel → Type 0
-LabelAsked s f l = (p : Fields) → parsed s f ≡ got p → is_tag p.label ≡ false → l ≡ fine_in p.label
+LabelAsked s f l = (p : Fields) → parsed s f ≡ Ok p → is_tag p.label ≡ false → l ≡ fine_in p.label

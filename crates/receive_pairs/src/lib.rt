@@ -11,10 +11,9 @@ ghost use Rattle.port_map_one.specs.One.{LabelSearched};
 ghost use Rattle.receive_pairs.specs.Meaning.{LabelAsked};
 
 use frame::Settings;
-use frame_parse::Parsed;
-use port_map::CampusLabel;
+use numbers::refusals::Refusal;
+use port_map::{CampusLabel, PortVlan};
 use port_map_pairs::MapPair;
-use port_map_search::VlanFound;
 use receive::ReadAnswer;
 use receive_deliver::Wanted;
 
@@ -23,8 +22,8 @@ pub fn label_asked(s: Settings, f: &[u8]) -> CampusLabel
     ensures { LabelAsked s f.now result }
 {
     match frame_parse::parse(s, f) {
-        Parsed::Refused(_) => CampusLabel(0),
-        Parsed::Fields(p) => match receive_deliver::label_asks(f, p) {
+        Err(_) => CampusLabel(0),
+        Ok(p) => match receive_deliver::label_asks(f, p) {
             Wanted::Nothing => CampusLabel(0),
             Wanted::Vlan { label, second } => label,
         },
@@ -37,11 +36,11 @@ pub fn receive_found(
     n: usize,
     good: bool,
     l: CampusLabel,
-    found: VlanFound,
+    found: Option<PortVlan>,
     f: &[u8],
     table: &mut [u8],
     out: &mut [u8],
-) -> ReadAnswer
+) -> Result<ReadAnswer, Refusal>
     ensures { (ps : List Pair) → LabelSearched ps n good l found → LabelAsked s f.now l → on_both result table.new out.new ≡ port_received s (map_bytes_of ps) f.now table.old out.old }
 {
     let p = port_map_one::pair_for_label(l, found);
@@ -57,7 +56,7 @@ pub fn receive_mapped(
     f: &[u8],
     table: &mut [u8],
     out: &mut [u8],
-) -> ReadAnswer
+) -> Result<ReadAnswer, Refusal>
     ensures { on_both result table.new out.new ≡ port_received s (map_bytes_of map.now) f.now table.old out.old }
 {
     let good = port_map_pairs::map_good(map);

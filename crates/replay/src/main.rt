@@ -278,7 +278,7 @@ fn send_frame(to: &mut impl Write, b: &[u8], table: &[u8], work: &mut [u8]) -> i
     let s = settings_in(b);
     let frame = &b[34..];
     let answer = convert_send::send(s, frame, work);
-    print_areas(to, shinglebar::send_word(answer), table, work)?;
+    print_areas(to, shinglebar::found_word(answer), table, work)?;
     print_bytes(to, convert_send::choose(answer, work, frame))?;
     to.write_all(&[b'\n'])
 }
@@ -539,7 +539,7 @@ fn take_in(to: &mut impl Write, b: &[u8], e: usize, table: &[u8], out: &mut [u8]
     let u = given_in(b);
     let pairs = replay_pairs::pairs_in(map);
     let a = replay_pairs::take_pairs(s, pairs, map.len() / PAIR_BYTES, u, &b[e..], out);
-    print_call(to, shinglebar::convert_word(a), table, out)
+    print_call(to, shinglebar::written_word(a), table, out)
 }
 
 fn replay_ingress(

@@ -7,9 +7,9 @@ ghost use Rattle.port_map_pairs.specs.Pairs.{map_bytes_of};
 ghost use Rattle.receive.specs.Receive.{port_received};
 ghost use Rattle.ingress.specs.Ingress.{ingressed};
 
-use convert::ConvertAnswer;
 use frame::Settings;
 use ingress::Given;
+use numbers::refusals::Refusal;
 use port_map::{CampusLabel, PAIR_BYTES, PortVlan};
 use port_map_pairs::MapPair;
 use receive::ReadAnswer;
@@ -45,7 +45,7 @@ pub fn read_pairs(
     f: &[u8],
     table: &mut [u8],
     out: &mut [u8],
-) -> ReadAnswer
+) -> Result<ReadAnswer, Refusal>
     requires { n ≤ 164 }
     ensures { on_both result table.new out.new ≡ port_received s (map_bytes_of (take n pairs)) f.now table.old out.old }
 {
@@ -60,7 +60,7 @@ pub fn take_pairs(
     u: Given,
     f: &[u8],
     out: &mut [u8],
-) -> ConvertAnswer
+) -> Result<u16, Refusal>
     requires { n ≤ 164 }
     ensures { on_area result out.new ≡ ingressed s (map_bytes_of (take n pairs)) u f.now out.old }
 {

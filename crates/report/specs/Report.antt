@@ -1,9 +1,8 @@
 -- The morning report of a table (document 02, 2026-14).
 -- Assumes nothing.
-use Rattle.std.specs.Prelude.{ℕ, zero, suc, ◌+◌, ◌*◌, ◌^◌, Bool, List, [], ◌∷◌, ◌++◌, eqb, leb, length}
+use Rattle.std.specs.Prelude.{ℕ, zero, suc, ◌+◌, ◌*◌, ◌^◌, Bool, List, [], ◌∷◌, ◌++◌, eqb, leb, length, Ok, Err}
 use Rattle.numbers.specs.Tests.{pick}
-use Rattle.numbers.specs.Result.{check, got, settled}
-use Rattle.numbers.specs.Refusals.{area_short}
+use Rattle.numbers.specs.Result.{check, settled, Outcome}
 use Rattle.numbers.specs.After.{OnArea, on_area}
 use Rattle.numbers.specs.Bytes.{laid}
 use Rattle.table.specs.Record.{unpacked, learned_that, configured_that}
@@ -11,8 +10,8 @@ use Rattle.table.specs.Slots.{table_good, slots_of, count_slots}
 use Rattle.table.specs.Learning.{free_slot}
 use Rattle.table.specs.Table.{spoilt_slot}
 use Rattle.report.specs.Text.{line_text, free_text, spoilt_text, refused_text}
-use Rattle.report.specs.declared.ReportAnswer.{ReportAnswer}
-use Rattle.report.specs.declared.ReportAnswer.TheVariants as report
+use Rattle.numbers.specs.Refusals.{number_of}
+use Rattle.numbers.specs.declared.refusals.Refusal.TheVariants.{AreaShort}
 
 -- a learned record with the nickname x; a configured one
 unfoldable pub learned_with : ℕ → List ℕ → Bool
@@ -71,17 +70,17 @@ unfoldable pub reported : List ℕ → List ℕ
 reported t = pick (table_good t) (counts_text (counts_of t)) refused_text
 
 -- a text written from the start of an area, or 16
-unfoldable pub written : List ℕ → List ℕ → OnArea ReportAnswer
+unfoldable pub written : List ℕ → List ℕ → OnArea (Outcome ℕ)
 written text area =
-    settled (λ n. on_area (report.Refused n) area)
-    (check (leb (length text) (length area)) area_short
-    (got (on_area (report.Written (length text)) (laid text area))))
+    settled (λ n. on_area (Err n) area)
+    (check (leb (length text) (length area)) AreaShort
+    (Ok (on_area (Ok (length text)) (laid text area))))
 
 -- the call: 16 is its only refusal; at a bad length that line is written
-unfoldable pub reported_to : List ℕ → List ℕ → OnArea ReportAnswer
+unfoldable pub reported_to : List ℕ → List ℕ → OnArea (Outcome ℕ)
 reported_to t area = written (reported t) area
 
 -- 64 written, bits 8..23 the length
-abbrev pub report_word : ReportAnswer → ℕ
-report_word (report.Refused n) = n
-report_word (report.Written n) = 64 + n * 2 ^ 8
+abbrev pub report_word : Outcome ℕ → ℕ
+report_word (Err r) = number_of r
+report_word (Ok n) = 64 + n * 2 ^ 8

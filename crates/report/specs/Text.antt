@@ -3,7 +3,8 @@
 use Rattle.std.specs.Prelude.{ℕ, zero, suc, ◌+◌, ◌/◌, ◌%◌, ◌^◌, List, [], ◌∷◌, ◌++◌, leb}
 use Rattle.numbers.specs.Tests.{pick}
 use Rattle.numbers.specs.Bytes.{bytes_of}
-use Rattle.numbers.specs.Refusals.{table_length_bad}
+use Rattle.numbers.specs.Refusals.{number_of}
+use Rattle.numbers.specs.declared.refusals.Refusal.TheVariants.{TableLengthBad}
 
 -- the space and the line feed of ASCII
 abbrev pub space : ℕ
@@ -46,4 +47,4 @@ spoilt_text n = bytes_of 7 0x73_70_6F_69_6C_74_20 ++ (decimal n ++ line_feed ∷
 
 -- "A bad length gives the single line "refused 2""
 unfoldable pub refused_text : List ℕ
-refused_text = bytes_of 8 0x72_65_66_75_73_65_64_20 ++ (decimal table_length_bad ++ line_feed ∷ [])
+refused_text = bytes_of 8 0x72_65_66_75_73_65_64_20 ++ (decimal (number_of TableLengthBad) ++ line_feed ∷ [])

@@ -23,7 +23,6 @@ use Rattle.table.specs.declared.Slot.TheVariants.{Free, Spoilt, Learned, Configu
 use Rattle.flush_sort.specs.Sorting.{Sorted}
 use Rattle.report.specs.Text.{width_of, line_text, refused_text}
 use Rattle.report.specs.Report.{learned_with, configured_with, count_of, Line, line_of, line_if, lines_below, nickname_end, lines_of, text_of, counts_of, counts_text, reported, written, reported_to}
-use Rattle.report.specs.declared.ReportAnswer.{ReportAnswer}
 use Rattle.report.proofs.Digits.{length_line}
 use Rattle.report.proofs.Lines.{SmallNickname, small_unpacked}
 use Rattle.report_keys.specs.Keys.{free_key, spoilt_key, key_of, keys_to, times_in}
@@ -32,6 +31,7 @@ use Rattle.report_tally.specs.Tallies.{tallied, Tallies, SameTallies}
 use Rattle.report_gather.proofs.Laws.{length_keys}
 use Rattle.report_rows.specs.Rows.{row_text, lines_text}
 use Rattle.report_text.specs.Whole.{whole_text}
+use Rattle.numbers.specs.Result.{Outcome}
 
 -- ---- counts
 
@@ -221,10 +221,10 @@ module _ (t area : List ℕ) (g : Bool) (good : g ≡ table_good t) where
 pub take_few : (n : ℕ) (l : List ℕ) (m : ℕ) → n ≤ m → n ≤ length l → length (take n l) ≤ m
 take_few n l m h g = let e = length-take-le n l g in omega arith
 
-pub tallies_written : (w : OnArea ReportAnswer) (v : List ℕ) (f s : ℕ) (o : List ℕ) → w ≡ written (whole_text v f s) o → f ≡ tallied free_key v → s ≡ tallied spoilt_key v → w ≡ written (whole_text v (tallied free_key v) (tallied spoilt_key v)) o
+pub tallies_written : (w : OnArea (Outcome ℕ)) (v : List ℕ) (f s : ℕ) (o : List ℕ) → w ≡ written (whole_text v f s) o → f ≡ tallied free_key v → s ≡ tallied spoilt_key v → w ≡ written (whole_text v (tallied free_key v) (tallied spoilt_key v)) o
 tallies_written w v f s o e ef es = e ∙ rw (ef, es)
 
-pub table_written : (t v o : List ℕ) (w : OnArea ReportAnswer) → Tallies (keys_to (slots_of t) t) v → w ≡ written (whole_text v (tallied free_key v) (tallied spoilt_key v)) o → w ≡ written (counts_text (counts_of t)) o
+pub table_written : (t v o : List ℕ) (w : OnArea (Outcome ℕ)) → Tallies (keys_to (slots_of t) t) v → w ≡ written (whole_text v (tallied free_key v) (tallied spoilt_key v)) o → w ≡ written (counts_text (counts_of t)) o
 table_written t v o w tallies is = is ∙ ap (λ (x : List ℕ). written x o) (whole_counts t v tallies)
 
 -- tallies sorted in their own place

@@ -11,12 +11,12 @@ ghost use Rattle.report_tally.specs.Tallies.{tallied, Tallies};
 ghost use Rattle.report_rows.specs.Rows.{lines_text};
 ghost use Rattle.report_text.specs.Whole.{whole_text};
 
-use report::ReportAnswer;
+use numbers::refusals::Refusal;
 use report_keys::{FREE_KEY, SPOILT_KEY};
 use table::MOST_SLOTS;
 
 // The report of sorted tallies.
-fn write_tallies(v: &[u32], out: &mut [u8]) -> ReportAnswer
+fn write_tallies(v: &[u32], out: &mut [u8]) -> Result<u16, Refusal>
     requires { (Sorted v.now × (length v.now ≤ most_slots)) × (length (lines_text nickname_end v.now) + 9 * (tallied free_key v.now + tallied spoilt_key v.now) ≤ 9 * most_slots) }
     ensures { on_area result out.new ≡ written (whole_text v.now (tallied free_key v.now) (tallied spoilt_key v.now)) out.old }
 {
@@ -39,7 +39,7 @@ fn tally(table: &[u8], tallies: &mut [u32]) -> usize
 }
 
 // The report of a table of a good length.
-fn write_table(table: &[u8], tallies: &mut [u32], out: &mut [u8]) -> ReportAnswer
+fn write_table(table: &[u8], tallies: &mut [u32], out: &mut [u8]) -> Result<u16, Refusal>
     requires { (table_good table.now ≡ true) × (length tallies.old ≡ most_slots) }
     ensures { on_area result out.new ≡ written (counts_text (counts_of table.now)) out.old }
 {
@@ -48,7 +48,7 @@ fn write_table(table: &[u8], tallies: &mut [u32], out: &mut [u8]) -> ReportAnswe
 }
 
 // The report of any bytes.
-pub fn write_report(table: &[u8], out: &mut [u8]) -> ReportAnswer
+pub fn write_report(table: &[u8], out: &mut [u8]) -> Result<u16, Refusal>
     ensures { on_area result out.new ≡ reported_to table.now out.old }
 {
     if !table_records::table_good(table) {

@@ -16,7 +16,6 @@ use Rattle.frame_copy.specs.Areas.{pasted}
 use Rattle.frame_copy.proofs.Copying.{paste_laid}
 use Rattle.report.specs.Text.{line_feed, width_of, decimal, digits_of, free_text, spoilt_text, refused_text}
 use Rattle.report.specs.Report.{nickname_end, written}
-use Rattle.report.specs.declared.ReportAnswer.TheVariants as report
 use Rattle.report.proofs.Digits.{length-decimal, length_free, length-spoilt}
 use Rattle.report_digits.proofs.Laws.{then-pasted}
 use Rattle.flush_sort.specs.Sorting.{Sorted}
@@ -26,6 +25,8 @@ use Rattle.report_rows.proofs.Laws.{all_map}
 use Rattle.report_rows.proofs.Lines.{lines_rest, lines_end, done_none, none_done, row_left, done_next, row_lines, lines_more}
 use Rattle.report_lines.proofs.Laws.{pasted_none}
 use Rattle.report_text.specs.Whole.{whole_text}
+use Rattle.std.specs.Prelude.{Ok, Err}
+use Rattle.numbers.specs.declared.refusals.Refusal.TheVariants.{AreaShort}
 
 -- ---- all lines
 
@@ -155,10 +156,10 @@ whole_pasted o o₁ o₂ v f s at first ea second =
     then-pasted o o₁ o₂ (lines_text nickname_end v) (free_text f ++ spoilt_text s) (lines_text nickname_end v ++ (free_text f ++ spoilt_text s)) 0 at first second (omega arith) (zero-add (length (lines_text nickname_end v)) ∙ sym ea) refl
 
 module _ (text o : List ℕ) (n : ℕ) (e : n ≡ length text) where
-  pub written_short : length o < n → on_area (report.Refused 16) o ≡ written text o
+  pub written_short : length o < n → on_area (Err AreaShort) o ≡ written text o
   unfolding written settled check
   written_short h = rw (lt-leb (length text) (length o) (omega arith))
 
-  pub written_done : n ≤ length o → (u : List ℕ) → u ≡ pasted o 0 text → on_area (report.Written n) u ≡ written text o
+  pub written_done : n ≤ length o → (u : List ℕ) → u ≡ pasted o 0 text → on_area (Ok n) u ≡ written text o
   unfolding written settled check
   written_done h u is = rw (le-leb (length text) (length o) (omega arith), e, is, paste_laid o text)

@@ -12,8 +12,7 @@ ghost use Rattle.flush_sort.specs.Sorting.{Sorted};
 ghost use Rattle.report_rows.specs.Rows.{lines_text};
 ghost use Rattle.report_text.specs.Whole.{whole_text, longest};
 
-use numbers::refusals::{AREA_SHORT, TABLE_LENGTH_BAD};
-use report::ReportAnswer;
+use numbers::refusals::Refusal;
 use table::MOST_SLOTS;
 
 const LINE_FEED: u8 = 0x0a;
@@ -120,25 +119,31 @@ fn is_short(v: &[u32], free: u64, spoilt: u64, room: usize) -> bool
 }
 
 // Writes a report; 16 where the area is shorter.
-pub fn write(v: &[u32], free: u64, spoilt: u64, out: &mut [u8]) -> ReportAnswer
+pub fn write(v: &[u32], free: u64, spoilt: u64, out: &mut [u8]) -> Result<u16, Refusal>
     requires { (Sorted v.now × (length v.now ≤ most_slots)) × (length (whole_text v.now free spoilt) ≤ longest) }
     ensures { on_area result out.new ≡ written (whole_text v.now free spoilt) out.old }
 {
     if is_short(v, free, spoilt, out.len()) {
-        return ReportAnswer::Refused(AREA_SHORT);
+        return Err(Refusal::AreaShort);
     }
     let at = put_lines(v, out);
     let e = put_end(free, spoilt, out, at);
-    ReportAnswer::Written(e as u16)
+    Ok(e as u16)
 }
 
 // The line for a table of a bad length.
-pub fn write_refused(out: &mut [u8]) -> ReportAnswer
+pub fn write_refused(out: &mut [u8]) -> Result<u16, Refusal>
     ensures { on_area result out.new ≡ written refused_text out.old }
 {
     if out.len() < REFUSED_BYTES + 2 {
-        return ReportAnswer::Refused(AREA_SHORT);
+        return Err(Refusal::AreaShort);
     }
-    put_last(REFUSED_WORD, REFUSED_BYTES, TABLE_LENGTH_BAD as u64, out, 0);
-    ReportAnswer::Written((REFUSED_BYTES + 2) as u16)
+    put_last(
+        REFUSED_WORD,
+        REFUSED_BYTES,
+        Refusal::TableLengthBad as u64,
+        out,
+        0,
+    );
+    Ok((REFUSED_BYTES + 2) as u16)
 }

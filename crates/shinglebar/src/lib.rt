@@ -2,7 +2,7 @@
 // alone; otherwise the low byte is the kind, and the other bits are the values.
 #![tactic(auto)]
 
-ghost use Rattle.std.specs.Prelude.{◌^◌, ◌<◌, ◌≤◌, ◌≡◌};
+ghost use Rattle.std.specs.Prelude.{◌^◌, ◌<◌, ◌≤◌, ◌≡◌, Ok};
 ghost use Rattle.numbers.specs.After.{on_table, table_as, on_area, area_as, on_both, both_as};
 ghost use Rattle.table.specs.FreeSlot.{free_answered};
 ghost use Rattle.table.specs.Record.{label_number};
@@ -31,27 +31,39 @@ ghost use Rattle.ingress.specs.Ingress.{ingressed};
 ghost use Rattle.convert.specs.Words.{convert_word, send_word};
 ghost use Rattle.shinglebar.specs.Arguments.{port_settings_of, settings_of, outer_of, given_of};
 
-use convert::{ConvertAnswer, SendAnswer};
 use convert_expand::Outer;
-use flush::FlushAnswer;
-use flush_write::WriteAnswer;
 use frame::Settings;
-use hello::HelloAnswer;
 use ingress::Given;
-use portions::PortionAnswer;
+use numbers::refusals::Refusal;
+use portions::Portion;
 use receive::ReadAnswer;
-use report::ReportAnswer;
-use table::{AgeAnswer, FreeAnswer, Label, Learning, LookupAnswer, SpoiltAnswer, WidenAnswer};
+use table::{FreeAnswer, Label, Learning};
 
 pub mod watched;
 
-fn lookup_word(a: LookupAnswer) -> u64
-    ensures { result ≡ lookup_word a }
+// The word of an answer that gives a number or none.
+pub fn found_word(a: Result<Option<u16>, Refusal>) -> u64
+    ensures lookup { result ≡ lookup_word a }
+    ensures spoilt { result ≡ spoilt_word a }
+    ensures send { result ≡ send_word a }
 {
     match a {
-        LookupAnswer::Refused(n) => n as u64,
-        LookupAnswer::Found(x) => 64 + x as u64 * 0x100,
-        LookupAnswer::Unknown => 65,
+        Err(r) => u64::from(r),
+        Ok(Some(k)) => 64 + k as u64 * 0x100,
+        Ok(None) => 65,
+    }
+}
+
+// The word of an answer that gives the length of what was written.
+pub fn written_word(a: Result<u16, Refusal>) -> u64
+    ensures widen { result ≡ widen_word a }
+    ensures report { result ≡ report_word a }
+    ensures convert { result ≡ convert_word a }
+    ensures write { result ≡ write_word a }
+{
+    match a {
+        Err(r) => u64::from(r),
+        Ok(k) => 64 + k as u64 * 0x100,
     }
 }
 
@@ -59,15 +71,15 @@ fn lookup_word(a: LookupAnswer) -> u64
 pub extern "C" fn shinglebar_lookup(kind: u32, label: u32, mac: u64, table: &[u8]) -> u64
     ensures { result ≡ lookup_word (looked_up kind label mac table.now) }
 {
-    lookup_word(table_search::lookup(kind, label, mac, table))
+    found_word(table_search::lookup(kind, label, mac, table))
 }
 
-fn age_word(a: AgeAnswer) -> u64
+fn age_word(a: Result<(), Refusal>) -> u64
     ensures { result ≡ age_word a }
 {
     match a {
-        AgeAnswer::Refused(n) => n as u64,
-        AgeAnswer::Done => 64,
+        Err(r) => u64::from(r),
+        Ok(()) => 64,
     }
 }
 
@@ -78,32 +90,22 @@ pub extern "C" fn shinglebar_age(seconds: u16, table: &mut [u8]) -> u64
     age_word(table_ageing::age(seconds, table))
 }
 
-fn spoilt_word(a: SpoiltAnswer) -> u64
-    ensures { result ≡ spoilt_word a }
-{
-    match a {
-        SpoiltAnswer::Refused(n) => n as u64,
-        SpoiltAnswer::Lowest(k) => 64 + k as u64 * 0x100,
-        SpoiltAnswer::Clean => 65,
-    }
-}
-
 #[unsafe(no_mangle)]
 pub extern "C" fn shinglebar_spoilt(table: &[u8]) -> u64
     ensures { result ≡ spoilt_word (lowest_spoilt table.now) }
 {
-    spoilt_word(table_search::lowest_spoilt(table))
+    found_word(table_search::lowest_spoilt(table))
 }
 
-fn free_word(a: FreeAnswer) -> u64
+fn free_word(a: Result<FreeAnswer, Refusal>) -> u64
     ensures { result ≡ free_word a }
 {
     match a {
-        FreeAnswer::Refused(n) => n as u64,
-        FreeAnswer::Lowest { slot, unpacked } => 64
+        Err(r) => u64::from(r),
+        Ok(FreeAnswer::Lowest { slot, unpacked }) => 64
             + slot as u64 * 0x100
             + unpacked as u64 * 0x1_0000_0000,
-        FreeAnswer::Full(unpacked) => 65 + unpacked as u64 * 0x1_0000_0000,
+        Ok(FreeAnswer::Full(unpacked)) => 65 + unpacked as u64 * 0x1_0000_0000,
     }
 }
 
@@ -114,44 +116,26 @@ pub extern "C" fn shinglebar_free_slot(table: &[u8]) -> u64
     free_word(table_free::free_slot(table))
 }
 
-fn widen_word(a: WidenAnswer) -> u64
-    ensures { result ≡ widen_word a }
-{
-    match a {
-        WidenAnswer::Refused(n) => n as u64,
-        WidenAnswer::Written(k) => 64 + k as u64 * 0x100,
-    }
-}
-
 #[unsafe(no_mangle)]
 pub extern "C" fn shinglebar_widen(old: &[u8], out: &mut [u8]) -> u64
     ensures { on_area result out.new ≡ area_as widen_word (widened old.now out.old) }
 {
-    widen_word(table_widening::widen(old, out))
-}
-
-fn report_word(a: ReportAnswer) -> u64
-    ensures { result ≡ report_word a }
-{
-    match a {
-        ReportAnswer::Refused(n) => n as u64,
-        ReportAnswer::Written(k) => 64 + k as u64 * 0x100,
-    }
+    written_word(table_widening::widen(old, out))
 }
 
 #[unsafe(no_mangle)]
 pub extern "C" fn shinglebar_report(table: &[u8], out: &mut [u8]) -> u64
     ensures { on_area result out.new ≡ area_as report_word (reported_to table.now out.old) }
 {
-    report_word(report_call::write_report(table, out))
+    written_word(report_call::write_report(table, out))
 }
 
-fn flush_word(a: FlushAnswer) -> u64
+fn flush_word(a: Result<u16, Refusal>) -> u64
     ensures { result ≡ flush_word a }
 {
     match a {
-        FlushAnswer::Refused(n) => n as u64,
-        FlushAnswer::Flushed(k) => 67 + k as u64 * 0x100,
+        Err(r) => u64::from(r),
+        Ok(k) => 67 + k as u64 * 0x100,
     }
 }
 
@@ -169,12 +153,12 @@ pub extern "C" fn shinglebar_flush_vlan_only(ingress: u32, payload: &[u8], table
     flush_word(models_call::flush_vlan_only(ingress, payload, table))
 }
 
-fn portion_word(a: PortionAnswer) -> u64
+fn portion_word(a: Result<Portion, Refusal>) -> u64
     ensures { result ≡ portion_word a }
 {
     match a {
-        PortionAnswer::Refused(n) => n as u64,
-        PortionAnswer::Portioned(p) => {
+        Err(r) => u64::from(r),
+        Ok(p) => {
             64 + p.cleared as u64 * 0x100
                 + p.next as u64 * 0x100_0000
                 + p.examined as u64 * 0x100_0000_0000
@@ -268,7 +252,7 @@ fn learning_number(l: Learning) -> u64
 
 fn delivered_word(learning: Learning, length: u16, label: Label) -> u64
     requires { label_number label < 2 ^ 24 }
-    ensures { result ≡ read_word (Delivered learning length label) }
+    ensures { result ≡ read_word (Ok (Delivered learning length label)) }
 {
     let values = 65 + length as u64 * 0x100 + learning_number(learning) * 0x100_0000;
     values
@@ -276,20 +260,22 @@ fn delivered_word(learning: Learning, length: u16, label: Label) -> u64
         + table_records::label_number(label) * 0x100_0000_0000
 }
 
-pub fn read_word(a: ReadAnswer) -> u64
+pub fn read_word(a: Result<ReadAnswer, Refusal>) -> u64
     requires { LabelFits a }
     ensures { result ≡ read_word a }
 {
     match a {
-        ReadAnswer::Refused(n) => n as u64,
-        ReadAnswer::Onward => 64,
-        ReadAnswer::Delivered {
-            learning,
-            length,
-            label,
-        } => delivered_word(learning, length, label),
-        ReadAnswer::OtherChannel => 66,
-        ReadAnswer::Flushed(k) => 67 + k as u64 * 0x100,
+        Err(r) => u64::from(r),
+        Ok(ReadAnswer::Onward) => 64,
+        Ok(
+            ReadAnswer::Delivered {
+                learning,
+                length,
+                label,
+            },
+        ) => delivered_word(learning, length, label),
+        Ok(ReadAnswer::OtherChannel) => 66,
+        Ok(ReadAnswer::Flushed(k)) => 67 + k as u64 * 0x100,
     }
 }
 
@@ -335,15 +321,6 @@ pub extern "C" fn shinglebar_receive_port(
     read_word(receive_call::receive_port(s, map, frame, table, out))
 }
 
-pub fn convert_word(a: ConvertAnswer) -> u64
-    ensures { result ≡ convert_word a }
-{
-    match a {
-        ConvertAnswer::Refused(n) => n as u64,
-        ConvertAnswer::Written(k) => 64 + k as u64 * 0x100,
-    }
-}
-
 #[unsafe(no_mangle)]
 pub extern "C" fn shinglebar_compact(
     port: u64,
@@ -358,7 +335,7 @@ pub extern "C" fn shinglebar_compact(
     ensures { on_area result out.new ≡ area_as convert_word (compacted (settings_of port inner nickname compact confidence seconds) frame.now out.old) }
 {
     let s = settings(port, inner, nickname, compact, confidence, seconds);
-    convert_word(convert_compact::compact(s, frame, out))
+    written_word(convert_compact::compact(s, frame, out))
 }
 
 #[unsafe(no_mangle)]
@@ -383,7 +360,7 @@ pub extern "C" fn shinglebar_expand(
         tagged: tagged,
         tag: tag,
     };
-    convert_word(convert_expand::expand(s, u, frame, out))
+    written_word(convert_expand::expand(s, u, frame, out))
 }
 
 // A native frame through a port's map.
@@ -416,17 +393,7 @@ pub extern "C" fn shinglebar_ingress(
         egress: egress,
         ingress: ingress,
     };
-    convert_word(ingress_call::ingress(s, map, u, frame, out))
-}
-
-pub fn send_word(a: SendAnswer) -> u64
-    ensures { result ≡ send_word a }
-{
-    match a {
-        SendAnswer::Refused(n) => n as u64,
-        SendAnswer::Compacted(k) => 64 + k as u64 * 0x100,
-        SendAnswer::Itself => 65,
-    }
+    written_word(ingress_call::ingress(s, map, u, frame, out))
 }
 
 #[unsafe(no_mangle)]
@@ -443,16 +410,7 @@ pub extern "C" fn shinglebar_send(
     ensures { on_area result work.new ≡ area_as send_word (sent (settings_of port inner nickname compact confidence seconds) frame.now work.old) }
 {
     let s = settings(port, inner, nickname, compact, confidence, seconds);
-    send_word(convert_send::send(s, frame, work))
-}
-
-fn write_word(a: WriteAnswer) -> u64
-    ensures { result ≡ write_word a }
-{
-    match a {
-        WriteAnswer::Refused(n) => n as u64,
-        WriteAnswer::Written(k) => 64 + k as u64 * 0x100,
-    }
+    found_word(convert_send::send(s, frame, work))
 }
 
 #[unsafe(no_mangle)]
@@ -465,16 +423,16 @@ pub extern "C" fn shinglebar_write_flush(
 ) -> u64
     ensures { on_area result out.new ≡ area_as write_word (flush_written nicknames.now vlans.now fine.now macs.now out.old) }
 {
-    write_word(flush_write_call::write_flush(nicknames, vlans, fine, macs, out))
+    written_word(flush_write_call::write_flush(nicknames, vlans, fine, macs, out))
 }
 
 // The length of a Smart-Hello, or of its contents, has 56 bits in the word.
-fn hello_word(a: HelloAnswer) -> u64
+fn hello_word(a: Result<usize, Refusal>) -> u64
     ensures { result ≡ hello_word a }
 {
     match a {
-        HelloAnswer::Refused(n) => n as u64,
-        HelloAnswer::Written(k) => 64 + k as u64 % 0x100_0000_0000_0000 * 0x100,
+        Err(r) => u64::from(r),
+        Ok(k) => 64 + k as u64 % 0x100_0000_0000_0000 * 0x100,
     }
 }
 

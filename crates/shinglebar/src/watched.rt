@@ -1,15 +1,15 @@
 // The calls on a watch that the port lends (2026-06). A watch is changed where it lies: each export takes its two numbers out, makes one call
 // on numbers, and puts the two numbers of the result back.
-ghost use Rattle.std.specs.Prelude.{◌≡◌};
+ghost use Rattle.std.specs.Prelude.{◌≡◌, Ok};
 ghost use Rattle.watch.specs.Time.{watch_of};
 ghost use Rattle.watch.specs.Events.{on_watch, watch_as, reset_to, ticked_to, evented};
 ghost use Rattle.watch.specs.Sending.{on_watched, watched_as, sent_watched};
 ghost use Rattle.watch.specs.Words.{watch_word};
-ghost use Rattle.watch.specs.declared.WatchAnswer.TheVariants.{Left};
 ghost use Rattle.convert.specs.Words.{send_word};
 ghost use Rattle.shinglebar.specs.Arguments.{settings_of};
 
-use watch::{Watch, WatchAnswer};
+use numbers::refusals::Refusal;
+use watch::Watch;
 
 // The word of an answer, with the watch after the call.
 #[derive(Clone, Copy)]
@@ -19,21 +19,21 @@ pub struct Held {
     pub reading: u32,
 }
 
-fn watch_word(a: WatchAnswer) -> u64
+fn watch_word(a: Result<u32, Refusal>) -> u64
     ensures { result ≡ watch_word a }
 {
     match a {
-        WatchAnswer::Refused(n) => n as u64,
-        WatchAnswer::Left(seconds) => 64 + seconds as u64 * 0x100,
+        Err(r) => u64::from(r),
+        Ok(seconds) => 64 + seconds as u64 * 0x100,
     }
 }
 
 // A watch with the seconds that it has left.
 fn shown(left: u32, reading: u32) -> Held
-    ensures { on_watch result.word (watch_of result.left result.reading) ≡ on_watch (watch_word (Left left)) (watch_of left reading) }
+    ensures { on_watch result.word (watch_of result.left result.reading) ≡ on_watch (watch_word (Ok left)) (watch_of left reading) }
 {
     Held {
-        word: watch_word(WatchAnswer::Left(left)),
+        word: watch_word(Ok(left)),
         left: left,
         reading: reading,
     }
@@ -113,7 +113,7 @@ pub fn send(
     let k = watch_send::send(s, left, reading, clock, frame, work);
     let answer = k.answer;
     Held {
-        word: crate::send_word(answer),
+        word: crate::found_word(answer),
         left: k.left,
         reading: k.reading,
     }

@@ -10,7 +10,7 @@ use lib.ListN.{length, drop, length-append, length-drop}
 use lib.Seq.{take_at, get_or-drop}
 use borrow.Author.Tests.{leb-false}
 use Rattle.numbers.specs.Tests.{pick}
-use Rattle.numbers.specs.Result.{got, check, settled}
+use Rattle.numbers.specs.Result.{check, settled, finished}
 use Rattle.numbers.specs.After.{on_table}
 use Rattle.numbers.specs.Bytes.{num, bytes_of}
 use Rattle.numbers.proofs.Bytes.{length-bytes_of, num-bytes_of}
@@ -21,11 +21,12 @@ use Rattle.table.specs.Claims.{Apart, AgeingKeepsApart}
 use Rattle.table.specs.declared.Entry.{Entry}
 use Rattle.table.specs.declared.Slot.{Slot}
 use Rattle.table.specs.declared.Slot.TheVariants.{Free, Learned}
-use Rattle.table.specs.declared.AgeAnswer.TheVariants as age
 use Rattle.table.proofs.Slots.{Keeps}
 use Rattle.table.proofs.Marks.{marked_entry}
 use Rattle.table.proofs.Contents.{learned_is, slot_learned, learned_parts, learned_entry_lem, unpacked-freed}
 use Rattle.table.proofs.Apart.{Lessens, apart_all_slots}
+use Rattle.std.specs.Prelude.{Ok, Err}
+use Rattle.numbers.specs.declared.refusals.Refusal.{Refusal}
 
 -- the same entry with s fewer seconds
 abbrev pub fewer : ℕ → Entry → Entry
@@ -148,7 +149,7 @@ aged_keeps s r e = go (is_learned (unpacked r)) (leb (seconds_of (record_of r)) 
     go false b = e
 
 -- the table after a call that may be refused
-pub checked : (P : List ℕ → Type 0) (b : Bool) (n : ℕ) (t u : List ℕ) → P t → P u → P (settled (λ k. on_table (age.Refused k) t) (check b n (got (on_table age.Done u)))).table
+pub checked : (P : List ℕ → Type 0) (b : Bool) (n : Refusal) (t u : List ℕ) → P t → P u → P (settled (λ k. on_table (Err k) t) (check b n (Ok (on_table finished u)))).table
 unfolding settled check
 checked P true n t u p q = q
 checked P false n t u p q = p

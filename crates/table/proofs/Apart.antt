@@ -24,12 +24,11 @@ use Rattle.table.specs.declared.Label.TheVariants.{Vlan, Fine}
 use Rattle.table.specs.declared.Entry.{Entry}
 use Rattle.table.specs.declared.Slot.{Slot}
 use Rattle.table.specs.declared.Slot.TheVariants.{Free, Spoilt, Learned, Configured}
-use Rattle.table.specs.declared.Place.{Place}
-use Rattle.table.specs.declared.Place.TheVariants.{At, Nowhere}
 use Rattle.table.specs.declared.Learning.TheVariants as learning
 use Rattle.table.proofs.Slots.{Keeps, length-put_slot, slot_put_same, slot_put_other, length_all_slots, slot_all_slots, lowest-within, lowest_hit, lowest_miss}
 use Rattle.table.proofs.Packing.{unpack_packed, packed-length}
 use Rattle.table.proofs.Contents.{unpacked-freed}
+use Rattle.std.specs.Prelude.{Option, Some, None}
 
 -- ---- one test of a slot beside another
 
@@ -267,7 +266,7 @@ module _ (e : Entry) (sound : Sound e) (t : List ℕ) (apart : Apart t) where
     has_mark u = let z : ◌≡◌ {A = ℕ} 0 1 = cc in omega arith
 
     -- over the unmarked record of the pair, which stands alone
-    over_unmarked : (k : ℕ) → lowest unmarked t ≡ At k → Apart (put_entry k e t)
+    over_unmarked : (k : ℕ) → lowest unmarked t ≡ Some k → Apart (put_entry k e t)
     over_unmarked k q =
         let within = lowest-within unmarked t k q in
         let hit = lowest_hit unmarked t k q in
@@ -276,12 +275,12 @@ module _ (e : Entry) (sound : Sound e) (t : List ℕ) (apart : Apart t) where
         (λ j b h. sym (apart.unmarked e.label e.mac k j within b hit (unmarked_pair (slot_at j t) h)))
         (λ u. absurd (has_mark u))
 
-    module _ (none : lowest unmarked t ≡ Nowhere) where
+    module _ (none : lowest unmarked t ≡ None) where
       no_unmarked : NoneIn unmarked t
       no_unmarked = lowest_miss unmarked t none
 
       -- over the marked record of the same home
-      over_home : (k : ℕ) → lowest marked t ≡ At k → Apart (put_entry k e t)
+      over_home : (k : ℕ) → lowest marked t ≡ Some k → Apart (put_entry k e t)
       over_home k q =
           let within = lowest-within marked t k q in
           let hit = marked_home (slot_at k t) (lowest_hit marked t k q) in
@@ -291,7 +290,7 @@ module _ (e : Entry) (sound : Sound e) (t : List ℕ) (apart : Apart t) where
           (λ u. absurd (has_mark u))
 
       -- into a free slot, where the table has neither an unmarked record of the pair nor this home
-      module _ (other : lowest marked t ≡ Nowhere) (free : NoneIn (holds_configured e.label e.mac) t) where
+      module _ (other : lowest marked t ≡ None) (free : NoneIn (holds_configured e.label e.mac) t) where
         home_marked : (j : ℕ) → j < slots_of t → home (slot_at j t) ≡ true → marked (slot_at j t) ≡ true
         unfolding holds_home holds_configured holds_unmarked holds_marked
         home_marked j b h = slot_kinds e.label e.mac e.nickname (unpacked (slot_at j t)) h (free j b) (no_unmarked j b)
@@ -303,13 +302,13 @@ module _ (e : Entry) (sound : Sound e) (t : List ℕ) (apart : Apart t) where
             (none_only unmarked unmarked t k no_unmarked (λ r h. h))
             (λ u. absurd (has_mark u))
 
-    over_marked : (u v : Place) (k : ℕ) → lowest unmarked t ≡ u → lowest marked t ≡ v → or_else u v ≡ At k → Apart (put_entry k e t)
-    over_marked (At j) v k p q h = over_unmarked k (p ∙ h)
-    over_marked Nowhere v k p q h = over_home p k (q ∙ h)
+    over_marked : (u v : Option ℕ) (k : ℕ) → lowest unmarked t ≡ u → lowest marked t ≡ v → or_else u v ≡ Some k → Apart (put_entry k e t)
+    over_marked (Some j) v k p q h = over_unmarked k (p ∙ h)
+    over_marked None v k p q h = over_home p k (q ∙ h)
 
-    fill_marked : NoneIn (holds_configured e.label e.mac) t → (u v : Place) (k : ℕ) → lowest unmarked t ≡ u → lowest marked t ≡ v → or_else u v ≡ Nowhere → k < slots_of t → Apart (put_entry k e t)
-    fill_marked free (At j) v k p q h within = let z : ◌≡◌ {A = ℕ} 0 1 = cc in absurd (omega arith)
-    fill_marked free Nowhere v k p q h within = into_marked p (q ∙ h) free k within
+    fill_marked : NoneIn (holds_configured e.label e.mac) t → (u v : Option ℕ) (k : ℕ) → lowest unmarked t ≡ u → lowest marked t ≡ v → or_else u v ≡ None → k < slots_of t → Apart (put_entry k e t)
+    fill_marked free (Some j) v k p q h within = let z : ◌≡◌ {A = ℕ} 0 1 = cc in absurd (omega arith)
+    fill_marked free None v k p q h within = into_marked p (q ∙ h) free k within
 
 -- the pair's learned records are freed
 cleared_is : (e : Entry) (r : List ℕ) → cleared_pair e r ≡ pick (holds_learned e.label e.mac r) freed r
@@ -353,20 +352,20 @@ module _ (e : Entry) (sound : Sound e) (t : List ℕ) (apart : Apart t) (free : 
       into_none e sound (cleared_table e t) (apart_all_slots (cleared_pair e) (cleared_keeps e) (cleared_lessens e) t apart) (none_left e t free) k (omega arith)
 
   over_apart : (mark : Bool) → e.multihomed ≡ mark → (k : ℕ)
-      → pick mark (or_else (lowest (holds_unmarked e.label e.mac) t) (lowest (holds_marked e.label e.mac e.nickname) t)) (lowest (holds e.label e.mac) t) ≡ At k
+      → pick mark (or_else (lowest (holds_unmarked e.label e.mac) t) (lowest (holds_marked e.label e.mac e.nickname) t)) (lowest (holds e.label e.mac) t) ≡ Some k
       → Apart (put_entry k e (pick mark t (cleared_table e t)))
   unfolding pick
   over_apart true is k h = over_marked e sound t apart is _ _ k refl refl h
   over_apart false is k h = over_pair k (lowest-within (holds e.label e.mac) t k h)
 
   fill_apart : (mark : Bool) → e.multihomed ≡ mark → (k : ℕ) → k < slots_of t
-      → pick mark (or_else (lowest (holds_unmarked e.label e.mac) t) (lowest (holds_marked e.label e.mac e.nickname) t)) (lowest (holds e.label e.mac) t) ≡ Nowhere
+      → pick mark (or_else (lowest (holds_unmarked e.label e.mac) t) (lowest (holds_marked e.label e.mac e.nickname) t)) (lowest (holds e.label e.mac) t) ≡ None
       → Apart (put_entry k e t)
   unfolding pick
   fill_apart true is k within h = fill_marked e sound t apart is free _ _ k refl refl h within
   fill_apart false is k within h = into_none e sound t apart (lowest_miss (holds e.label e.mac) t h) k within
 
-  judged_at_lem : (k : ℕ) → rival_of e t ≡ At k → Apart (judged_at k e t).table
+  judged_at_lem : (k : ℕ) → rival_of e t ≡ Some k → Apart (judged_at k e t).table
   unfolding judged_at rival_of room_for pick
   judged_at_lem k q = weighed (ltb e.confidence (confidence_of (record_of (slot_at k t))))
     where
@@ -374,20 +373,20 @@ module _ (e : Entry) (sound : Sound e) (t : List ℕ) (apart : Apart t) (free : 
       weighed true = apart
       weighed false = over_apart e.multihomed refl k q
 
-  filled : (p : Place) → lowest free_slot t ≡ p → rival_of e t ≡ Nowhere → Apart (into_free p e t).table
+  filled : (p : Option ℕ) → lowest free_slot t ≡ p → rival_of e t ≡ None → Apart (into_free p e t).table
   unfolding into_free rival_of
-  filled (At k) v q = fill_apart e.multihomed refl k (lowest-within free_slot t k v) q
-  filled Nowhere v q = apart
+  filled (Some k) v q = fill_apart e.multihomed refl k (lowest-within free_slot t k v) q
+  filled None v q = apart
 
-  judged-apart : (p : Place) → rival_of e t ≡ p → Apart (judged p e t).table
+  judged-apart : (p : Option ℕ) → rival_of e t ≡ p → Apart (judged p e t).table
   unfolding judged
-  judged-apart (At k) q = judged_at_lem k q
-  judged-apart Nowhere q = filled (lowest free_slot t) refl q
+  judged-apart (Some k) q = judged_at_lem k q
+  judged-apart None q = filled (lowest free_slot t) refl q
 
-unless_apart : (e : Entry) → Sound e → (t : List ℕ) → Apart t → (p : Place) → lowest (holds_configured e.label e.mac) t ≡ p → Apart (pick (found p) (on_table learning.Kept t) (judged (rival_of e t) e t)).table
+unless_apart : (e : Entry) → Sound e → (t : List ℕ) → Apart t → (p : Option ℕ) → lowest (holds_configured e.label e.mac) t ≡ p → Apart (pick (found p) (on_table learning.Kept t) (judged (rival_of e t) e t)).table
 unfolding pick
-unless_apart e sound t apart (At k) q = apart
-unless_apart e sound t apart Nowhere q = judged-apart e sound t apart (lowest_miss (holds_configured e.label e.mac) t q) (rival_of e t) refl
+unless_apart e sound t apart (Some k) q = apart
+unless_apart e sound t apart None q = judged-apart e sound t apart (lowest_miss (holds_configured e.label e.mac) t q) (rival_of e t) refl
 
 pub learning_apart : LearningKeepsApart
 unfolding learnt

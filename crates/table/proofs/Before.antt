@@ -17,23 +17,22 @@ use Rattle.table.specs.Claims.{Sound, Unique, UnmarkedAsBefore}
 use Rattle.table.specs.declared.Entry.{Entry}
 use Rattle.table.specs.declared.Slot.{Slot}
 use Rattle.table.specs.declared.Slot.TheVariants.{Free, Spoilt, Learned, Configured}
-use Rattle.table.specs.declared.Place.{Place}
-use Rattle.table.specs.declared.Place.TheVariants.{At, Nowhere}
 use Rattle.table.specs.declared.Learning.TheVariants as learning
 use Rattle.table.proofs.Slots.{lowest-within, lowest_hit, lowest_miss}
 use Rattle.table.proofs.Packing.{packed-length, learned_back}
 use Rattle.table.proofs.Apart.{OnlyAt, alone_put, packed_pair}
 use Rattle.table.proofs.Once.{room_once}
+use Rattle.std.specs.Prelude.{Option, Some, None}
 
 -- no slot of the table passes: none is found; some slot passes: one is found
 module _ (p : List ℕ → Bool) (t : List ℕ) where
-  found_none : (q : Place) → lowest p t ≡ q → ((j : ℕ) → j < slots_of t → p (slot_at j t) ≡ true → ⊥) → found q ≡ false
-  found_none (At k) e none = absurd (none k (lowest-within p t k e) (lowest_hit p t k e))
-  found_none Nowhere e none = refl
+  found_none : (q : Option ℕ) → lowest p t ≡ q → ((j : ℕ) → j < slots_of t → p (slot_at j t) ≡ true → ⊥) → found q ≡ false
+  found_none (Some k) e none = absurd (none k (lowest-within p t k e) (lowest_hit p t k e))
+  found_none None e none = refl
 
-  found_some : (q : Place) → lowest p t ≡ q → (j : ℕ) → j < slots_of t → p (slot_at j t) ≡ true → found q ≡ true
-  found_some (At k) e j b h = refl
-  found_some Nowhere e j b h = let miss = lowest_miss p t e j b in cc
+  found_some : (q : Option ℕ) → lowest p t ≡ q → (j : ℕ) → j < slots_of t → p (slot_at j t) ≡ true → found q ≡ true
+  found_some (Some k) e j b h = refl
+  found_some None e j b h = let miss = lowest_miss p t e j b in cc
 
 -- the confidence that is judged is the entry's
 learned_confidence : (r : List ℕ) (e : Entry) → unpacked r ≡ Learned e → confidence_of (record_of r) ≡ e.confidence
@@ -64,7 +63,7 @@ module _ (e : Entry) (mark : e.multihomed ≡ false) (t : List ℕ) (unique : Un
   rival_is = rw mark
 
   -- the pair's one record, in slot k
-  module _ (k : ℕ) (at : lowest pair t ≡ At k) where
+  module _ (k : ℕ) (at : lowest pair t ≡ Some k) where
     within : k < slots_of t
     within = lowest-within pair t k at
 
@@ -95,10 +94,10 @@ module _ (e : Entry) (mark : e.multihomed ≡ false) (t : List ℕ) (unique : Un
         let here : configured (slot_at k t) ≡ true = rw q (rw q at hit) in
         rw (found_some configured t (lowest configured t) refl k within here)
 
-  before_at : (p : Place) → lowest pair t ≡ p → pick (found (lowest configured t)) (on_table learning.Kept t) (judged p e t) ≡ learnt_before_at p e t
+  before_at : (p : Option ℕ) → lowest pair t ≡ p → pick (found (lowest configured t)) (on_table learning.Kept t) (judged p e t) ≡ learnt_before_at p e t
   unfolding judged learnt_before_at pick
-  before_at (At k) q = over_before k q (unpacked (slot_at k t)) refl
-  before_at Nowhere q =
+  before_at (Some k) q = over_before k q (unpacked (slot_at k t)) refl
+  before_at None q =
       rw (found_none configured t (lowest configured t) refl (λ j b h. let yes = configured_pair (slot_at j t) h in let no = lowest_miss pair t q j b in let z : ◌≡◌ {A = ℕ} 0 1 = cc in omega arith))
 
   pub learnt_before_lem : learnt e t ≡ learnt_before e t
@@ -124,18 +123,18 @@ module _ (e : Entry) (sound : Sound e) (t : List ℕ) (unique : Unique t) where
       weighed false = u
   unique_over (Configured o) k u = unique
 
-  unique_free : (p : Place) → lowest free_slot t ≡ p → lowest (holds e.label e.mac) t ≡ Nowhere → Unique (into_free p e t).table
+  unique_free : (p : Option ℕ) → lowest free_slot t ≡ p → lowest (holds e.label e.mac) t ≡ None → Unique (into_free p e t).table
   unfolding into_free
-  unique_free (At k) v q = unique_put k (lowest-within free_slot t k v) (λ j b h. let miss = lowest_miss (holds e.label e.mac) t q j b in cc)
-  unique_free Nowhere v q = unique
+  unique_free (Some k) v q = unique_put k (lowest-within free_slot t k v) (λ j b h. let miss = lowest_miss (holds e.label e.mac) t q j b in cc)
+  unique_free None v q = unique
 
-  unique_at : (p : Place) → lowest (holds e.label e.mac) t ≡ p → Unique (learnt_before_at p e t).table
+  unique_at : (p : Option ℕ) → lowest (holds e.label e.mac) t ≡ p → Unique (learnt_before_at p e t).table
   unfolding learnt_before_at
-  unique_at (At k) q =
+  unique_at (Some k) q =
       let within = lowest-within (holds e.label e.mac) t k q in
       unique_over (unpacked (slot_at k t)) k
       (unique_put k within (λ j b h. unique e.label e.mac j k b within h (lowest_hit (holds e.label e.mac) t k q)))
-  unique_at Nowhere q = unique_free (lowest free_slot t) refl q
+  unique_at None q = unique_free (lowest free_slot t) refl q
 
   unique_before : Unique (learnt_before e t).table
   unfolding learnt_before

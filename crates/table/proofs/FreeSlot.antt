@@ -13,10 +13,9 @@ use Rattle.table.specs.Learning.{free_slot}
 use Rattle.table.specs.FreeSlot.{state_free, slots_searched, slots_unpacked, free_search, FreeSlotFound, FoundAt, FoundNowhere, IsFree}
 use Rattle.table.specs.declared.Slot.{Slot}
 use Rattle.table.specs.declared.Slot.TheVariants.{Free, Spoilt, Learned, Configured}
-use Rattle.table.specs.declared.Place.{Place}
-use Rattle.table.specs.declared.Place.TheVariants.{At, Nowhere}
 use Rattle.table.proofs.Slots.{Local, lowest-within, lowest_hit, lowest_miss, lowest_before}
 use Rattle.table.proofs.Contents.{record_near}
+use Rattle.std.specs.Prelude.{Option, Some, None}
 
 pub state_free_near : Local state_free
 unfolding state_free
@@ -42,24 +41,24 @@ is_free_lem (Configured x) e = cc
 fails : (k : ℕ) (t : List ℕ) → free_slot (slot_at k t) ≡ false → IsFree k t → ⊥
 fails k t e h = let z : ◌≡◌ {A = Bool} true false = sym (passes k t h) ∙ e in let o : ◌≡◌ {A = ℕ} 0 1 = cc in omega arith
 
-unpacked_at : (t : List ℕ) (p : Place) → lowest free_slot t ≡ p → (free_search t).unpacked ≡ slots_unpacked p t
+unpacked_at : (t : List ℕ) (p : Option ℕ) → lowest free_slot t ≡ p → (free_search t).unpacked ≡ slots_unpacked p t
 unfolding free_search
-unpacked_at t p e = ap (λ (q : Place). slots_unpacked q t) e
+unpacked_at t p e = ap (λ (q : Option ℕ). slots_unpacked q t) e
 
-found_at : (t : List ℕ) (k : ℕ) → lowest free_slot t ≡ At k → FoundAt t k
+found_at : (t : List ℕ) (k : ℕ) → lowest free_slot t ≡ Some k → FoundAt t k
 unfolding free_slot slots_unpacked slots_searched
 found_at t k e = record {
   within = lowest-within free_slot t k e;
   free = is_free_lem (unpacked (slot_at k t)) (lowest_hit free_slot t k e);
   lowest = λ j h. fails j t (lowest_before free_slot t k e j h);
-  counted = unpacked_at t (At k) e;
+  counted = unpacked_at t (Some k) e;
 }
 
-found_nowhere : (t : List ℕ) → lowest free_slot t ≡ Nowhere → FoundNowhere t
+found_nowhere : (t : List ℕ) → lowest free_slot t ≡ None → FoundNowhere t
 unfolding slots_unpacked slots_searched
 found_nowhere t e = record {
   none = λ j h. fails j t (lowest_miss free_slot t e j h);
-  counted = unpacked_at t Nowhere e;
+  counted = unpacked_at t None e;
 }
 
 pub free_slot-found : FreeSlotFound
@@ -70,6 +69,6 @@ free_slot-found t = record {
   only_then = λ none. by_place (lowest free_slot t) refl none;
 }
   where
-    by_place : (p : Place) → lowest free_slot t ≡ p → ((j : ℕ) → j < slots_of t → IsFree j t → ⊥) → p ≡ Nowhere
-    by_place (At k) e none = let f = found_at t k e in absurd (none k f.within f.free)
-    by_place Nowhere e none = refl
+    by_place : (p : Option ℕ) → lowest free_slot t ≡ p → ((j : ℕ) → j < slots_of t → IsFree j t → ⊥) → p ≡ None
+    by_place (Some k) e none = let f = found_at t k e in absurd (none k f.within f.free)
+    by_place None e none = refl

@@ -19,13 +19,12 @@ use Rattle.table.specs.Claims.{Stays, IsSpoilt, IsConfigured, LearningLeavesAlon
 use Rattle.table.specs.declared.Entry.{Entry}
 use Rattle.table.specs.declared.Slot.{Slot}
 use Rattle.table.specs.declared.Slot.TheVariants.{Free, Spoilt, Learned, Configured}
-use Rattle.table.specs.declared.Place.{Place}
-use Rattle.table.specs.declared.Place.TheVariants.{At, Nowhere}
 use Rattle.table.specs.declared.Learning.TheVariants as learning
 use Rattle.table.proofs.Slots.{slot_put_other, length_all_slots, slot_all_slots, lowest-within, lowest_hit, lowest_miss}
 use Rattle.table.proofs.Packing.{packed-length}
 use Rattle.table.proofs.Apart.{pair_learned, cleared_keeps}
 use Rattle.table.proofs.Ageing.{aged_keeps, checked}
+use Rattle.std.specs.Prelude.{Option, Some, None}
 
 -- a kind of record that is neither free nor learned
 module _ (Such : Slot → Type 0) (not-Free : Such Free → ⊥) (not_learned : (e : Entry) → Such (Learned e) → ⊥) where
@@ -70,26 +69,26 @@ module _ (Such : Slot → Type 0) (not-Free : Such Free → ⊥) (not_learned : 
   module _ (e : Entry) (t : List ℕ) where
     -- the slot that a frame is judged against is learned
     module _ (none : (j : ℕ) → j < slots_of t → holds_configured e.label e.mac (slot_at j t) ≡ false) where
-      marked_other : (u v : Place) (j : ℕ) → lowest (holds_unmarked e.label e.mac) t ≡ u → lowest (holds_marked e.label e.mac e.nickname) t ≡ v → or_else u v ≡ At j → (j < slots_of t) × (Such (unpacked (slot_at j t)) → ⊥)
+      marked_other : (u v : Option ℕ) (j : ℕ) → lowest (holds_unmarked e.label e.mac) t ≡ u → lowest (holds_marked e.label e.mac e.nickname) t ≡ v → or_else u v ≡ Some j → (j < slots_of t) × (Such (unpacked (slot_at j t)) → ⊥)
       unfolding holds_unmarked holds_marked
-      marked_other (At k) v j p q h =
-          let at : lowest (holds_unmarked e.label e.mac) t ≡ At j = p ∙ h in
+      marked_other (Some k) v j p q h =
+          let at : lowest (holds_unmarked e.label e.mac) t ≡ Some j = p ∙ h in
           (lowest-within _ t j at, such_other _ (unpacked (slot_at j t)) (lowest_hit (holds_unmarked e.label e.mac) t j at))
-      marked_other Nowhere v j p q h =
-          let at : lowest (holds_marked e.label e.mac e.nickname) t ≡ At j = q ∙ h in
+      marked_other None v j p q h =
+          let at : lowest (holds_marked e.label e.mac e.nickname) t ≡ Some j = q ∙ h in
           (lowest-within _ t j at, such_other _ (unpacked (slot_at j t)) (lowest_hit (holds_marked e.label e.mac e.nickname) t j at))
 
-      pair_other : (j : ℕ) → lowest (holds e.label e.mac) t ≡ At j → (j < slots_of t) × (Such (unpacked (slot_at j t)) → ⊥)
+      pair_other : (j : ℕ) → lowest (holds e.label e.mac) t ≡ Some j → (j < slots_of t) × (Such (unpacked (slot_at j t)) → ⊥)
       unfolding holds holds_configured
       pair_other j q =
           let within = lowest-within (holds e.label e.mac) t j q in
           (within, such_other _ (unpacked (slot_at j t)) (pair_learned e.label e.mac (unpacked (slot_at j t)) (lowest_hit (holds e.label e.mac) t j q) (none j within)))
 
-      rival_other : (j : ℕ) → rival_of e t ≡ At j → (j < slots_of t) × (Such (unpacked (slot_at j t)) → ⊥)
+      rival_other : (j : ℕ) → rival_of e t ≡ Some j → (j < slots_of t) × (Such (unpacked (slot_at j t)) → ⊥)
       unfolding rival_of pick
       rival_other j = go e.multihomed
         where
-          go : (b : Bool) → pick b (or_else (lowest (holds_unmarked e.label e.mac) t) (lowest (holds_marked e.label e.mac e.nickname) t)) (lowest (holds e.label e.mac) t) ≡ At j → (j < slots_of t) × (Such (unpacked (slot_at j t)) → ⊥)
+          go : (b : Bool) → pick b (or_else (lowest (holds_unmarked e.label e.mac) t) (lowest (holds_marked e.label e.mac e.nickname) t)) (lowest (holds e.label e.mac) t) ≡ Some j → (j < slots_of t) × (Such (unpacked (slot_at j t)) → ⊥)
           go true q = marked_other _ _ j refl refl q
           go false q = pair_other j q
 
@@ -124,20 +123,20 @@ module _ (Such : Slot → Type 0) (not-Free : Such Free → ⊥) (not_learned : 
         weighed true = stays_same t
         weighed false = put_stays (room_for e t) room_stays.0 room_stays.1 j within none
 
-    free_stays : (p : Place) → lowest free_slot t ≡ p → Stays Such t (into_free p e t).table
+    free_stays : (p : Option ℕ) → lowest free_slot t ≡ p → Stays Such t (into_free p e t).table
     unfolding into_free free_slot
-    free_stays (At j) q = put_stays t refl (stays_same t) j (lowest-within free_slot t j q) (such_taken (unpacked (slot_at j t)) (lowest_hit free_slot t j q))
-    free_stays Nowhere q = stays_same t
+    free_stays (Some j) q = put_stays t refl (stays_same t) j (lowest-within free_slot t j q) (such_taken (unpacked (slot_at j t)) (lowest_hit free_slot t j q))
+    free_stays None q = stays_same t
 
-    at_stays : ((j : ℕ) → j < slots_of t → holds_configured e.label e.mac (slot_at j t) ≡ false) → (p : Place) → rival_of e t ≡ p → Stays Such t (judged p e t).table
+    at_stays : ((j : ℕ) → j < slots_of t → holds_configured e.label e.mac (slot_at j t) ≡ false) → (p : Option ℕ) → rival_of e t ≡ p → Stays Such t (judged p e t).table
     unfolding judged
-    at_stays none (At j) q = let o = rival_other none j q in judged-stays j o.0 o.1
-    at_stays none Nowhere q = free_stays (lowest free_slot t) refl
+    at_stays none (Some j) q = let o = rival_other none j q in judged-stays j o.0 o.1
+    at_stays none None q = free_stays (lowest free_slot t) refl
 
-    unless_stays : (p : Place) → lowest (holds_configured e.label e.mac) t ≡ p → Stays Such t (pick (found p) (on_table learning.Kept t) (judged (rival_of e t) e t)).table
+    unless_stays : (p : Option ℕ) → lowest (holds_configured e.label e.mac) t ≡ p → Stays Such t (pick (found p) (on_table learning.Kept t) (judged (rival_of e t) e t)).table
     unfolding pick
-    unless_stays (At j) q = stays_same t
-    unless_stays Nowhere q = at_stays (lowest_miss (holds_configured e.label e.mac) t q) (rival_of e t) refl
+    unless_stays (Some j) q = stays_same t
+    unless_stays None q = at_stays (lowest_miss (holds_configured e.label e.mac) t q) (rival_of e t) refl
 
     learning_stays : Stays Such t (learnt e t).table
     unfolding learnt

@@ -10,7 +10,7 @@ use lib.Dec.{leb}
 use lib.ListN.{length, take, drop, length-append, length-drop}
 use lib.Seq.{take_all, take-append-le, drop-append-le, drop_at, get_or_at}
 use Rattle.numbers.specs.Tests.{pick}
-use Rattle.numbers.specs.Result.{check, got, settled}
+use Rattle.numbers.specs.Result.{check, settled, Outcome}
 use Rattle.numbers.specs.After.{OnArea, on_area}
 use Rattle.numbers.proofs.Bytes.{length_part}
 use Rattle.table.specs.Record.{record_bytes, record_of, entry_of, held, slot_of, marked_slot, unpacked}
@@ -20,9 +20,9 @@ use Rattle.table.specs.Widening.{old_good, old_slots, old_at, widened_to, wide, 
 use Rattle.table.specs.Claims.{Apart, Unique, WideSlot, OldUnique, WidenedSame, WideningRefusal}
 use Rattle.table.specs.declared.Entry.{Entry}
 use Rattle.table.specs.declared.Slot.TheVariants.{Free, Spoilt, Learned, Configured}
-use Rattle.table.specs.declared.WidenAnswer.{WidenAnswer}
-use Rattle.table.specs.declared.WidenAnswer.TheVariants as widen
 use Rattle.table.proofs.Apart.{slot-home, slot_unmarked}
+use Rattle.std.specs.Prelude.{Ok, Err}
+use Rattle.numbers.specs.declared.refusals.Refusal.{Refusal}
 
 -- ---- the bytes
 
@@ -146,7 +146,7 @@ widened_same = record { long = wide_long; each = wide-slot; unique = wide_unique
 -- ---- the call
 
 -- what is refused leaves the area as it was
-refusal_leaves : (a b : Bool) (x y n : ℕ) (area : List ℕ) (w : OnArea WidenAnswer) → ((k : ℕ) → w.answer ≡ widen.Refused k → ⊥) → (settled (λ k. on_area (widen.Refused k) area) (check a x (check b y (got w)))).answer ≡ widen.Refused n → (settled (λ k. on_area (widen.Refused k) area) (check a x (check b y (got w)))).area ≡ area
+refusal_leaves : (a b : Bool) (x y n : Refusal) (area : List ℕ) (w : OnArea (Outcome ℕ)) → ((k : Refusal) → w.answer ≡ Err k → ⊥) → (settled (λ k. on_area (Err k) area) (check a x (check b y (Ok w)))).answer ≡ Err n → (settled (λ k. on_area (Err k) area) (check a x (check b y (Ok w)))).area ≡ area
 unfolding settled check
 refusal_leaves false b x y n area w done h = refl
 refusal_leaves true false x y n area w done h = refl

@@ -1,15 +1,13 @@
 -- Widening a table of document 01, whose records have no mark (document 02, "An older table is widened by a call").
 -- Assumes nothing.
-use Rattle.std.specs.Prelude.{ℕ, zero, suc, ◌*◌, ◌/◌, ◌%◌, Bool, List, [], ◌∷◌, ◌++◌, eqb, leb, length, take, drop}
+use Rattle.std.specs.Prelude.{ℕ, zero, suc, ◌*◌, ◌/◌, ◌%◌, Bool, List, [], ◌∷◌, ◌++◌, eqb, leb, length, take, drop, Ok, Err}
 use Rattle.numbers.specs.Tests.{both, between}
-use Rattle.numbers.specs.Result.{check, got, settled}
-use Rattle.numbers.specs.Refusals.{table_length_bad, area_short}
+use Rattle.numbers.specs.Result.{check, settled, Outcome}
 use Rattle.numbers.specs.After.{OnArea, on_area}
 use Rattle.numbers.specs.Bytes.{laid}
 use Rattle.table.specs.Record.{record_bytes}
 use Rattle.table.specs.Slots.{slot_bytes, most_slots}
-use Rattle.table.specs.declared.WidenAnswer.{WidenAnswer}
-use Rattle.table.specs.declared.WidenAnswer.TheVariants as widen
+use Rattle.numbers.specs.declared.refusals.Refusal.TheVariants.{TableLengthBad, AreaShort}
 
 -- "2 by the old lengths": 0, not a multiple of 14, or over 57,344
 unfoldable pub old_good : List ℕ → Bool
@@ -31,9 +29,9 @@ unfoldable pub wide : List ℕ → List ℕ
 wide old = widened_to (old_slots old) old
 
 -- the call: 2, then 16
-unfoldable pub widened : List ℕ → List ℕ → OnArea WidenAnswer
+unfoldable pub widened : List ℕ → List ℕ → OnArea (Outcome ℕ)
 widened old area =
-    settled (λ n. on_area (widen.Refused n) area)
-    (check (old_good old) table_length_bad
-    (check (leb (slot_bytes * old_slots old) (length area)) area_short
-    (got (on_area (widen.Written (slot_bytes * old_slots old)) (laid (wide old) area)))))
+    settled (λ n. on_area (Err n) area)
+    (check (old_good old) TableLengthBad
+    (check (leb (slot_bytes * old_slots old) (length area)) AreaShort
+    (Ok (on_area (Ok (slot_bytes * old_slots old)) (laid (wide old) area)))))

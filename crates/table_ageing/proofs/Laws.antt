@@ -10,17 +10,18 @@ use native.Mathlib.Omega.{arith}
 use lib.ListN.{length, take, drop, length-take, length-drop}
 use lib.Dec.{leb}
 use Rattle.numbers.specs.Tests.{pick}
-use Rattle.numbers.specs.Result.{check, settled}
+use Rattle.numbers.specs.Result.{check, settled, finished}
 use Rattle.numbers.specs.After.{on_table}
 use Rattle.table.specs.Record.{record_of, state_of, learned_state, seconds_of, unpacked, is_learned}
 use Rattle.table.specs.Slots.{slot_bytes, table_good, slots_of, slot_at, freed, on_slots}
 use Rattle.table.specs.Table.{aged_slot, less_seconds, aged}
-use Rattle.table.specs.declared.AgeAnswer.TheVariants as age
 use Rattle.table.proofs.Slots.{on_step}
 use Rattle.table.proofs.Ageing.{aged_keeps}
 use Rattle.table_rounds.specs.Rounds.{InState, Passed}
 use Rattle.table_rounds.proofs.Laws.{kept_slots}
 use Rattle.table.proofs.Contents.{record_near, unpacked_near, other_than_learned}
+use Rattle.std.specs.Prelude.{Err}
+use Rattle.numbers.specs.declared.refusals.Refusal.TheVariants.{TableLengthBad}
 
 module _ (s : ℕ) (r : List ℕ) where
   pub age_kept : (l : Bool) → l ≡ is_learned (unpacked r) → l ≡ false → r ≡ aged_slot s r
@@ -68,10 +69,10 @@ module _ (s : ℕ) (t u : List ℕ) (i : ℕ) (so_far : u ≡ on_slots (aged_slo
 -- ---- the call
 
 module _ (s : ℕ) (t : List ℕ) (g : Bool) (good : g ≡ table_good t) where
-  pub age_refused : g ≡ false → on_table (age.Refused 2) t ≡ aged s t
+  pub age_refused : g ≡ false → on_table (Err TableLengthBad) t ≡ aged s t
   unfolding aged settled check
   age_refused h = rw (← good, h)
 
-  pub age_done : g ≡ true → (u : List ℕ) → u ≡ on_slots (aged_slot s) 0 (slots_of t) t → on_table age.Done u ≡ aged s t
+  pub age_done : g ≡ true → (u : List ℕ) → u ≡ on_slots (aged_slot s) 0 (slots_of t) t → on_table finished u ≡ aged s t
   unfolding aged settled check
   age_done h u e = rw (← good, h, e)

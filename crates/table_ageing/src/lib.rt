@@ -8,8 +8,8 @@ ghost use Rattle.table.specs.Slots.{slot_bytes, slots_of, on_slots};
 ghost use Rattle.table.specs.Table.{aged_slot, aged};
 ghost use Rattle.table_rounds.specs.Rounds.{InState, Passed};
 
-use numbers::refusals::TABLE_LENGTH_BAD;
-use table::{AgeAnswer, LEARNED_STATE, SLOT_BYTES};
+use numbers::refusals::Refusal;
+use table::{LEARNED_STATE, SLOT_BYTES};
 use table_rounds::FOUR_SLOTS;
 
 // Ages a learned slot by s.
@@ -59,12 +59,12 @@ fn age_slots(table: &mut [u8], s: u16)
 }
 
 // Ages the table by some seconds.
-pub fn age(seconds: u16, table: &mut [u8]) -> AgeAnswer
+pub fn age(seconds: u16, table: &mut [u8]) -> Result<(), Refusal>
     ensures { on_table result table.new ≡ aged seconds table.old }
 {
     if !table_records::table_good(table) {
-        return AgeAnswer::Refused(TABLE_LENGTH_BAD);
+        return Err(Refusal::TableLengthBad);
     }
     age_slots(table, seconds);
-    AgeAnswer::Done
+    Ok(())
 }

@@ -18,8 +18,6 @@ use Rattle.table.specs.FreeSlot.{state_free, slots_searched, slots_unpacked, fre
 use Rattle.table.specs.Learning.{free_slot}
 use Rattle.table.specs.Record.{record_of, state_of, unpacked}
 use Rattle.table.specs.Slots.{slot_bytes, most_slots, table_good, slots_of, count_slots, first_slot, lowest}
-use Rattle.table.specs.declared.Place.{Place}
-use Rattle.table.specs.declared.Place.TheVariants.{At, Nowhere}
 use Rattle.table.specs.declared.FreeSearch.{FreeSearch}
 use Rattle.table.specs.declared.FreeAnswer.TheVariants as free
 use Rattle.table.proofs.Slots.{Local, search_next, search_hit, search_end, lowest-within, count_few, count_next, good_slots}
@@ -28,9 +26,11 @@ use Rattle.table.proofs.Contents.{free_is, free_near, other_than_free}
 use Rattle.table.proofs.Marks.{free_none}
 use Rattle.table_rounds.specs.Rounds.{InState, InOther, Blank, Passed}
 use Rattle.table_rounds.proofs.Laws.{past}
+use Rattle.std.specs.Prelude.{Option, Some, None, Ok, Err}
+use Rattle.numbers.specs.declared.refusals.Refusal.TheVariants.{TableLengthBad}
 
 -- slots that a round excludes are passed by
-free_past : (t : List ℕ) (i j : ℕ) → i ≤ j → Passed (InState 0) i j t → first_slot free_slot i t ≡ Nowhere → first_slot free_slot j t ≡ Nowhere
+free_past : (t : List ℕ) (i j : ℕ) → i ≤ j → Passed (InState 0) i j t → first_slot free_slot i t ≡ None → first_slot free_slot j t ≡ None
 free_past = past free_slot free_near (InState 0) other_than_free
 
 -- slots that a round excludes are not counted
@@ -51,7 +51,7 @@ other_than_blank : (r : List ℕ) → (Blank r → ⊥) → false ≡ free_slot 
 unfolding free_slot unpacked
 other_than_blank r h = free_none _ _ (free_is (record_of r) ∙ ne_eqb (record_of r) 0 (λ z. h (omega arith)))
 
-blank_past : (t : List ℕ) (i j : ℕ) → i ≤ j → Passed Blank i j t → first_slot free_slot i t ≡ Nowhere → first_slot free_slot j t ≡ Nowhere
+blank_past : (t : List ℕ) (i j : ℕ) → i ≤ j → Passed Blank i j t → first_slot free_slot i t ≡ None → first_slot free_slot j t ≡ None
 blank_past = past free_slot free_near Blank other_than_blank
 
 -- slots that are all of state 0 are counted, each
@@ -89,28 +89,28 @@ module _ (r : List ℕ) (s : ℕ) (state : s ≡ state_of (record_of r)) (n : �
   unfolding state_free pick
   step_counted h = rw (sym state ∙ h)
 
-module _ (t : List ℕ) (i u : ℕ) (counted : u ≡ count_slots state_free 0 i t) (so_far : first_slot free_slot i t ≡ Nowhere)
+module _ (t : List ℕ) (i u : ℕ) (counted : u ≡ count_slots state_free 0 i t) (so_far : first_slot free_slot i t ≡ None)
     (free : Bool) (here : free ≡ free_slot (drop (slot_bytes * i) t)) (v : ℕ) (more : v ≡ u + pick (state_free (drop (slot_bytes * i) t)) 1 0) where
   -- the slots up to this one
   count_here : v ≡ count_slots state_free 0 (i + 1) t
   count_here = more ∙ ap (λ (n : ℕ). n + pick (state_free (drop (slot_bytes * i) t)) 1 0) counted ∙ sym (count_next state_free state_free_near t i)
 
   -- found
-  pub free_hit : i < slots_of t → free ≡ true → record { place = At i; unpacked = v } ≡ free_search t
+  pub free_hit : i < slots_of t → free ≡ true → record { place = Some i; unpacked = v } ≡ free_search t
   unfolding free_search slots_unpacked slots_searched
   free_hit h hit =
       let found = search_hit free_slot free_near t i so_far free here h hit in
       rw (← found, ← add-one i, ← count_here)
 
   -- not found: the rounds pass to slot j
-  pub free_on : free ≡ false → (j : ℕ) → i + 1 ≤ j → Passed (InState 0) (i + 1) j t → (first_slot free_slot j t ≡ Nowhere) × (v ≡ count_slots state_free 0 j t)
+  pub free_on : free ≡ false → (j : ℕ) → i + 1 ≤ j → Passed (InState 0) (i + 1) j t → (first_slot free_slot j t ≡ None) × (v ≡ count_slots state_free 0 j t)
   free_on miss j h passed = (
     free_past t (i + 1) j h passed (search_next free_slot free_near t i so_far free here miss),
     count_here ∙ sym (count_past state_free state_free_near (InState 0) state_other t (i + 1) j h passed),
   )
 
   -- not found: rounds of spoilt records of state 0 pass to slot j
-  pub spoilt_on : free ≡ false → (j : ℕ) → i + 1 ≤ j → Passed (InOther 0) (i + 1) j t → Passed Blank (i + 1) j t → (first_slot free_slot j t ≡ Nowhere) × (v + (j - (i + 1)) ≡ count_slots state_free 0 j t)
+  pub spoilt_on : free ≡ false → (j : ℕ) → i + 1 ≤ j → Passed (InOther 0) (i + 1) j t → Passed Blank (i + 1) j t → (first_slot free_slot j t ≡ None) × (v + (j - (i + 1)) ≡ count_slots state_free 0 j t)
   spoilt_on miss j h unpacked some = (
     blank_past t (i + 1) j h some (search_next free_slot free_near t i so_far free here miss),
     ap (λ (n : ℕ). n + (j - (i + 1))) count_here ∙ sym (count_each t (i + 1) j h unpacked),
@@ -121,7 +121,7 @@ module _ (t : List ℕ) (i u : ℕ) (counted : u ≡ count_slots state_free 0 i 
   spoilt_few j h = let few = count_few state_free t 0 (i + 1) in let is = count_here in omega arith
 
 -- at the end
-pub free_end : (t : List ℕ) (i u : ℕ) → u ≡ count_slots state_free 0 i t → first_slot free_slot i t ≡ Nowhere → i ≤ slots_of t → slots_of t ≤ i → record { place = Nowhere; unpacked = u } ≡ free_search t
+pub free_end : (t : List ℕ) (i u : ℕ) → u ≡ count_slots state_free 0 i t → first_slot free_slot i t ≡ None → i ≤ slots_of t → slots_of t ≤ i → record { place = None; unpacked = u } ≡ free_search t
 unfolding free_search slots_unpacked slots_searched
 free_end t i u counted so_far a b =
     let none = search_end free_slot free_near t i a b so_far in
@@ -131,16 +131,16 @@ free_end t i u counted so_far a b =
 -- ---- the outcomes of the search for a free slot, as a call
 
 module _ (t : List ℕ) (g : Bool) (good : g ≡ table_good t) where
-  pub free_refused : g ≡ false → free.Refused 2 ≡ free_answered t
+  pub free_refused : g ≡ false → Err TableLengthBad ≡ free_answered t
   unfolding free_answered settled check
   free_refused h = rw (← good, h)
 
   module _ (ok : g ≡ true) (s : FreeSearch) (search : s ≡ free_search t) where
-    pub free_found_lem : (k : ℕ) → s.place ≡ At k → free.Lowest k s.unpacked ≡ free_answered t
+    pub free_found_lem : (k : ℕ) → s.place ≡ Some k → (Ok (free.Lowest k s.unpacked)) ≡ free_answered t
     unfolding free_answered settled check free_found
     free_found_lem k e = rw (← good, ok, ← search, e)
 
-    pub free_full : s.place ≡ Nowhere → free.Full s.unpacked ≡ free_answered t
+    pub free_full : s.place ≡ None → (Ok (free.Full s.unpacked)) ≡ free_answered t
     unfolding free_answered settled check free_found
     free_full e = rw (← good, ok, ← search, e)
 
@@ -153,11 +153,11 @@ module _ (t : List ℕ) (g : Bool) (good : g ≡ table_good t) where
         let m = searched_few (lowest free_slot t) (lowest-within free_slot t) in
         rw search (omega arith)
       where
-        searched_few : (p : Place) → ((k : ℕ) → p ≡ At k → k < slots_of t) → slots_searched p (slots_of t) ≤ slots_of t
-        searched_few (At k) h = let l = h k refl in omega arith
-        searched_few Nowhere h = omega arith
+        searched_few : (p : Option ℕ) → ((k : ℕ) → p ≡ Some k → k < slots_of t) → slots_searched p (slots_of t) ≤ slots_of t
+        searched_few (Some k) h = let l = h k refl in omega arith
+        searched_few None h = omega arith
 
-    pub slot_fits : (k : ℕ) → s.place ≡ At k → k < most_slots
+    pub slot_fits : (k : ℕ) → s.place ≡ Some k → k < most_slots
     unfolding free_search
     slot_fits k e =
         let few = good_slots t (sym good ∙ ok) in

@@ -8,8 +8,8 @@ ghost use Rattle.table.specs.FreeSlot.{state_free, free_search, free_answered};
 ghost use Rattle.table.specs.Learning.{free_slot};
 ghost use Rattle.table.specs.Slots.{slot_bytes};
 
-use numbers::refusals::TABLE_LENGTH_BAD;
-use table::{FREE_STATE, FreeAnswer, FreeSearch, Place, SLOT_BYTES};
+use numbers::refusals::Refusal;
+use table::{FREE_STATE, FreeAnswer, FreeSearch, SLOT_BYTES};
 
 // What the search for a free slot learns of one slot.
 #[derive(Clone, Copy)]
@@ -51,7 +51,7 @@ pub fn find_free(t: &[u8]) -> FreeSearch
         unpacked = step.unpacked;
         if step.free {
             return FreeSearch {
-                place: Place::At(j),
+                place: Some(j),
                 unpacked,
             };
         }
@@ -65,25 +65,25 @@ pub fn find_free(t: &[u8]) -> FreeSearch
         }
     }
     FreeSearch {
-        place: Place::Nowhere,
+        place: None,
         unpacked,
     }
 }
 
 // Names the lowest free slot, or none, with the number of records unpacked.
-pub fn free_slot(table: &[u8]) -> FreeAnswer
+pub fn free_slot(table: &[u8]) -> Result<FreeAnswer, Refusal>
     ensures { result ≡ free_answered table.now }
 {
     if !table_records::table_good(table) {
-        return FreeAnswer::Refused(TABLE_LENGTH_BAD);
+        return Err(Refusal::TableLengthBad);
     }
     let search = find_free(table);
     let place = search.place;
     match place {
-        Place::At(k) => FreeAnswer::Lowest {
+        Some(k) => Ok(FreeAnswer::Lowest {
             slot: k as u16,
             unpacked: search.unpacked as u16,
-        },
-        Place::Nowhere => FreeAnswer::Full(search.unpacked as u16),
+        }),
+        None => Ok(FreeAnswer::Full(search.unpacked as u16)),
     }
 }

@@ -16,17 +16,16 @@ use Rattle.table.specs.Table.{holds, holds_configured, holds_unmarked, holds_mar
 use Rattle.table.specs.declared.Entry.{Entry}
 use Rattle.table.specs.declared.Slot.{Slot}
 use Rattle.table.specs.declared.Slot.TheVariants.{Free, Spoilt, Learned, Configured}
-use Rattle.table.specs.declared.Place.{Place}
-use Rattle.table.specs.declared.Place.TheVariants.{At, Nowhere}
 use Rattle.table.proofs.Apart.{OnlyAt}
 use Rattle.table_homes.specs.Pass.{no_homes, with_slot, homes_to}
 use Rattle.table_homes.specs.declared.Homes.{Homes}
+use Rattle.std.specs.Prelude.{Option, Some, None}
 
-found_or : (p : Place) (b : Bool) (n : ℕ) → either (found p) b ≡ found (or_else p (pick b (At n) Nowhere))
+found_or : (p : Option ℕ) (b : Bool) (n : ℕ) → either (found p) b ≡ found (or_else p (pick b (Some n) None))
 unfolding either pick
-found_or (At k) b n = refl
-found_or Nowhere true n = refl
-found_or Nowhere false n = refl
+found_or (Some k) b n = refl
+found_or None true n = refl
+found_or None false n = refl
 
 module _ (e : Entry) (t : List ℕ) where
   -- each part is what the definition asks
@@ -59,9 +58,9 @@ module _ (e : Entry) (t : List ℕ) where
 
 -- ---- slots without the pair
 
-or_nowhere : (p : Place) → or_else p Nowhere ≡ p
-or_nowhere (At k) = refl
-or_nowhere Nowhere = refl
+or_nowhere : (p : Option ℕ) → or_else p None ≡ p
+or_nowhere (Some k) = refl
+or_nowhere None = refl
 
 -- a slot that does not hold the pair passes none of the tests
 module _ (e : Entry) where

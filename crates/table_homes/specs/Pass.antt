@@ -1,22 +1,20 @@
 -- One pass over the table for learning: all that is asked of the pair's records, collected slot by slot.
 -- Assumes nothing.
-use Rattle.std.specs.Prelude.{ℕ, zero, suc, ◌+◌, Bool, false, List}
+use Rattle.std.specs.Prelude.{ℕ, zero, suc, ◌+◌, Bool, false, List, Option, Some, None}
 use Rattle.numbers.specs.Tests.{pick, either}
 use Rattle.table.specs.Record.{unpacked, entry_matches, unmarked_matches, marked_matches, learned_that, configured_that, slot_that}
 use Rattle.table.specs.Slots.{slot_at, or_else}
 use Rattle.table.specs.declared.Entry.{Entry}
 use Rattle.table.specs.declared.Slot.{Slot}
 use Rattle.table_homes.specs.declared.Homes.{Homes}
-use Rattle.table.specs.declared.Place.{Place}
-use Rattle.table.specs.declared.Place.TheVariants.{At, Nowhere}
 
 -- of no slot
 unfoldable pub no_homes : Homes
-no_homes = record { configured = false; unmarked = Nowhere; marked = Nowhere; lowest = Nowhere; count = 0 }
+no_homes = record { configured = false; unmarked = None; marked = None; lowest = None; count = 0 }
 
 -- the lowest place so far, or slot k if it passes
-abbrev pub or_here : Place → ℕ → Bool → Place
-or_here p k hit = or_else p (pick hit (At k) Nowhere)
+abbrev pub or_here : Option ℕ → ℕ → Bool → Option ℕ
+or_here p k hit = or_else p (pick hit (Some k) None)
 
 -- with what slot k holds
 unfoldable pub with_slot : Entry → ℕ → Slot → Homes → Homes

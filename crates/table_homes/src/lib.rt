@@ -1,25 +1,24 @@
 // One pass over the table for learning: what is to be known of the records with an entry's label and address, collected by value.
 #![tactic(auto)]
 
-ghost use Rattle.std.specs.Prelude.{◌+◌, ◌*◌, ◌≤◌, ◌≡◌, true, length, drop};
+ghost use Rattle.std.specs.Prelude.{◌+◌, ◌*◌, ◌≤◌, ◌≡◌, true, length, drop, Some, None};
 ghost use Rattle.numbers.specs.Tests.{pick};
 ghost use Rattle.table.specs.Record.{unpacked, entry_matches, slot_that};
 ghost use Rattle.table.specs.Slots.{slot_bytes, slots_of, or_else};
-ghost use Rattle.table.specs.declared.Place.TheVariants.{At, Nowhere};
 ghost use Rattle.table_records.specs.Entries.{Fits};
 ghost use Rattle.table_homes.specs.Pass.{no_homes, with_slot, homes_to};
 ghost use Rattle.table_homes.specs.Steps.{with_home, Counts, Sought};
 
-use table::{Entry, Place, SLOT_BYTES, Slot};
+use table::{Entry, SLOT_BYTES, Slot};
 
 // What the pass sees of a pair's records: a configured one; the lowest learned one without the mark; the lowest learned one with the mark
 // and the nickname of the entry; the lowest of all; how many there are.
 #[derive(Clone, Copy)]
 pub struct Homes {
     pub configured: bool,
-    pub unmarked: Place,
-    pub marked: Place,
-    pub lowest: Place,
+    pub unmarked: Option<usize>,
+    pub marked: Option<usize>,
+    pub lowest: Option<usize>,
     pub count: usize,
 }
 
@@ -29,31 +28,31 @@ fn no_homes() -> Homes
 {
     Homes {
         configured: false,
-        unmarked: Place::Nowhere,
-        marked: Place::Nowhere,
-        lowest: Place::Nowhere,
+        unmarked: None,
+        marked: None,
+        lowest: None,
         count: 0,
     }
 }
 
 // The first of two places.
-pub fn or_else(p: Place, q: Place) -> Place
+pub fn or_else(p: Option<usize>, q: Option<usize>) -> Option<usize>
     ensures { result ≡ or_else p q }
 {
     match p {
-        Place::At(k) => Place::At(k),
-        Place::Nowhere => q,
+        Some(k) => Some(k),
+        None => q,
     }
 }
 
 // This slot, if it passes.
-fn here(k: usize, hit: bool) -> Place
-    ensures { result ≡ pick hit (At k) Nowhere }
+fn here(k: usize, hit: bool) -> Option<usize>
+    ensures { result ≡ pick hit (Some k) None }
 {
     if hit {
-        return Place::At(k);
+        return Some(k);
     }
-    Place::Nowhere
+    None
 }
 
 // One record more.
@@ -68,7 +67,7 @@ fn with_home(k: usize, configured: bool, unmarked: bool, marked: bool, h: Homes)
         configured: h.configured | configured,
         unmarked: or_else(u, here(k, unmarked)),
         marked: or_else(m, here(k, marked)),
-        lowest: or_else(l, Place::At(k)),
+        lowest: or_else(l, Some(k)),
         count: h.count + 1,
     }
 }

@@ -22,8 +22,6 @@ use Rattle.table.specs.declared.Slot.{Slot}
 use Rattle.table.specs.declared.Slot.TheVariants.{Free, Spoilt, Learned, Configured}
 use Rattle.table.specs.FreeSlot.{free_search}
 use Rattle.table.specs.declared.FreeSearch.{FreeSearch}
-use Rattle.table.specs.declared.Place.{Place}
-use Rattle.table.specs.declared.Place.TheVariants.{At, Nowhere}
 use Rattle.table.specs.declared.Learning.{Learning}
 use Rattle.table.specs.declared.Learning.TheVariants as learning
 use Rattle.table.proofs.Slots.{lowest-within, lowest_hit, lowest_before}
@@ -40,6 +38,7 @@ use Rattle.table_homes.specs.Pass.{homes_to}
 use Rattle.table_homes.specs.declared.Homes.{Homes}
 use Rattle.table_homes.proofs.Pass.{seen_once, seen-configured, seen_unmarked, seen_marked, seen-lowest}
 use Rattle.table_learning.specs.Judging.{room_if, NoneBelow, Judges}
+use Rattle.std.specs.Prelude.{Option, Some, None}
 
 -- ---- filling a free slot
 
@@ -48,15 +47,15 @@ module _ (t : List ℕ) (e : Entry) (s : FreeSearch) (found : s ≡ free_search 
   unfolding free_search
   place = ap (λ (x : FreeSearch). x.place) found
 
-  pub free_filled : (k : ℕ) → s.place ≡ At k → (u : List ℕ) → u ≡ put_entry k e t → on_table learning.Learned u ≡ into_free (lowest free_slot t) e t
+  pub free_filled : (k : ℕ) → s.place ≡ Some k → (u : List ℕ) → u ≡ put_entry k e t → on_table learning.Learned u ≡ into_free (lowest free_slot t) e t
   unfolding into_free
   free_filled k h u q = rw (← place, h, q)
 
-  pub free_full : s.place ≡ Nowhere → on_table learning.Full t ≡ into_free (lowest free_slot t) e t
+  pub free_full : s.place ≡ None → on_table learning.Full t ≡ into_free (lowest free_slot t) e t
   unfolding into_free
   free_full h = rw (← place, h)
 
-  pub free_within : (k : ℕ) → s.place ≡ At k → slot_bytes * k + slot_bytes ≤ length t
+  pub free_within : (k : ℕ) → s.place ≡ Some k → slot_bytes * k + slot_bytes ≤ length t
   free_within k h = let w = lowest-within free_slot t k (sym place ∙ h) in omega arith
 
 -- ---- clearing
@@ -174,30 +173,30 @@ module _ (e : Entry) (t : List ℕ) where
     hit : holds e.label e.mac (slot_at k t) ≡ true
     below : mark ≡ false → NoneBelow e k t
 
-  marked_stands : (u v : Place) (k : ℕ) → lowest (holds_unmarked e.label e.mac) t ≡ u → lowest (holds_marked e.label e.mac e.nickname) t ≡ v → or_else u v ≡ At k → Stands true k
-  marked_stands (At i) v k p q h = record {
+  marked_stands : (u v : Option ℕ) (k : ℕ) → lowest (holds_unmarked e.label e.mac) t ≡ u → lowest (holds_marked e.label e.mac e.nickname) t ≡ v → or_else u v ≡ Some k → Stands true k
+  marked_stands (Some i) v k p q h = record {
     within = lowest-within _ t k (p ∙ h);
     hit = unmarked_holds (slot_at k t) (lowest_hit _ t k (p ∙ h));
     below = λ no. let z : ◌≡◌ {A = ℕ} 0 1 = cc in absurd (omega arith);
   }
-  marked_stands Nowhere v k p q h = record {
+  marked_stands None v k p q h = record {
     within = lowest-within _ t k (q ∙ h);
     hit = marked_holds (slot_at k t) (lowest_hit _ t k (q ∙ h));
     below = λ no. let z : ◌≡◌ {A = ℕ} 0 1 = cc in absurd (omega arith);
   }
 
   rival_stands : (mark : Bool) (k : ℕ)
-      → pick mark (or_else (lowest (holds_unmarked e.label e.mac) t) (lowest (holds_marked e.label e.mac e.nickname) t)) (lowest (holds e.label e.mac) t) ≡ At k → Stands mark k
+      → pick mark (or_else (lowest (holds_unmarked e.label e.mac) t) (lowest (holds_marked e.label e.mac e.nickname) t)) (lowest (holds e.label e.mac) t) ≡ Some k → Stands mark k
   unfolding pick
   rival_stands true k h = marked_stands _ _ k refl refl h
   rival_stands false k h = record { within = lowest-within _ t k h; hit = lowest_hit _ t k h; below = λ no. lowest_before _ t k h }
 
   module _ (h : Homes) (seen : h ≡ homes_to e (slots_of t) t) where
-    rival_is : (p : Place) → p ≡ pick e.multihomed (or_else h.unmarked h.marked) h.lowest → p ≡ rival_of e t
+    rival_is : (p : Option ℕ) → p ≡ pick e.multihomed (or_else h.unmarked h.marked) h.lowest → p ≡ rival_of e t
     unfolding rival_of lowest
     rival_is p is = is ∙ rw (seen, seen_unmarked e t (slots_of t), seen_marked e t (slots_of t), seen-lowest e t (slots_of t))
 
-    pub learn_judges : (p : Place) → p ≡ pick e.multihomed (or_else h.unmarked h.marked) h.lowest → (k : ℕ) → p ≡ At k → Judges e k h.count t
+    pub learn_judges : (p : Option ℕ) → p ≡ pick e.multihomed (or_else h.unmarked h.marked) h.lowest → (k : ℕ) → p ≡ Some k → Judges e k h.count t
     unfolding rival_of
     learn_judges p is k at =
         let s = rival_stands e.multihomed k (sym (rival_is p is) ∙ at) in
@@ -210,11 +209,11 @@ module _ (e : Entry) (t : List ℕ) where
     pub learn_kept : h.configured ≡ true → on_table learning.Kept t ≡ learnt e t
     learn_kept c = sym (configured_is ∙ pick_true _ _ _ c)
 
-    module _ (c : h.configured ≡ false) (p : Place) (is : p ≡ pick e.multihomed (or_else h.unmarked h.marked) h.lowest) (r : Learning) (u : List ℕ) where
-      pub learn_judged : (k : ℕ) → p ≡ At k → on_table r u ≡ judged_at k e t → on_table r u ≡ learnt e t
+    module _ (c : h.configured ≡ false) (p : Option ℕ) (is : p ≡ pick e.multihomed (or_else h.unmarked h.marked) h.lowest) (r : Learning) (u : List ℕ) where
+      pub learn_judged : (k : ℕ) → p ≡ Some k → on_table r u ≡ judged_at k e t → on_table r u ≡ learnt e t
       unfolding judged
       learn_judged k at q = q ∙ sym (configured_is ∙ pick_false _ _ _ c ∙ rw (← rival_is p is, at))
 
-      pub learn_free : p ≡ Nowhere → on_table r u ≡ into_free (lowest free_slot t) e t → on_table r u ≡ learnt e t
+      pub learn_free : p ≡ None → on_table r u ≡ into_free (lowest free_slot t) e t → on_table r u ≡ learnt e t
       unfolding judged
       learn_free at q = q ∙ sym (configured_is ∙ pick_false _ _ _ c ∙ rw (← rival_is p is, at))

@@ -11,7 +11,7 @@ ghost use Rattle.table_records.specs.Entries.{Fits};
 ghost use Rattle.table_homes.specs.Steps.{Sought};
 ghost use Rattle.table_learning.specs.Judging.{room_if, NoneBelow, Judges};
 
-use table::{Entry, Learning, Place, SLOT_BYTES};
+use table::{Entry, Learning, SLOT_BYTES};
 use table_homes::Homes;
 
 // A pair with one record has no others to clear.
@@ -66,16 +66,16 @@ fn into_free(e: Entry, table: &mut [u8]) -> Learning
     let search = table_free::find_free(table);
     let place = search.place;
     match place {
-        Place::At(k) => {
+        Some(k) => {
             put(e, k, table);
             Learning::Learned
         }
-        Place::Nowhere => Learning::Full,
+        None => Learning::Full,
     }
 }
 
 // The place of the record that is judged.
-fn rival(h: Homes, mark: bool) -> Place
+fn rival(h: Homes, mark: bool) -> Option<usize>
     ensures { result ≡ pick mark (or_else h.unmarked h.marked) h.lowest }
 {
     let u = h.unmarked;
@@ -128,7 +128,7 @@ pub fn learn(e: Entry, table: &mut [u8]) -> Learning
     }
     let p = rival(h, e.multihomed);
     match p {
-        Place::At(k) => judge(e, k, h.count, table),
-        Place::Nowhere => into_free(e, table),
+        Some(k) => judge(e, k, h.count, table),
+        None => into_free(e, table),
     }
 }

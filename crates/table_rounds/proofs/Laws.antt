@@ -9,9 +9,9 @@ use native.Mathlib.Nat.{zero-add, add-sub_cancel_left}
 use native.Mathlib.Omega.{arith}
 use lib.ListN.{length, take, drop, take-append-drop}
 use Rattle.table.specs.Slots.{slot_bytes, slot_at, on_slots, first_slot}
-use Rattle.table.specs.declared.Place.TheVariants.{Nowhere}
 use Rattle.table.proofs.Slots.{Local, Keeps, on_step, search_next}
 use Rattle.table_rounds.specs.Rounds.{NoneOfFour, Passed}
+use Rattle.std.specs.Prelude.{None}
 
 module _ (P : List ℕ → Type 0) (t : List ℕ) where
   -- none of four
@@ -52,10 +52,10 @@ module _ (f : List ℕ → List ℕ) (keeps : Keeps f) (t u : List ℕ) (i : ℕ
 
 -- slots that a round excludes are passed by
 pub past : (p : List ℕ → Bool) → Local p → (P : List ℕ → Type 0) → ((r : List ℕ) → (P r → ⊥) → false ≡ p r)
-    → (t : List ℕ) (i j : ℕ) → i ≤ j → Passed P i j t → first_slot p i t ≡ Nowhere → first_slot p j t ≡ Nowhere
+    → (t : List ℕ) (i j : ℕ) → i ≤ j → Passed P i j t → first_slot p i t ≡ None → first_slot p j t ≡ None
 past p near P other t i j h passed so_far = let far : j - i + i ≡ j = omega arith in rw far at (go (j - i) (omega arith))
   where
-    go : (d : ℕ) → d + i ≤ j → first_slot p (d + i) t ≡ Nowhere
+    go : (d : ℕ) → d + i ≤ j → first_slot p (d + i) t ≡ None
     go zero b = rw (zero-add i) so_far
     go (suc d) b =
         let next : suc d + i ≡ d + i + 1 = omega arith in

@@ -18,11 +18,12 @@ use Rattle.numbers.proofs.Truth.{both_true, between_is}
 use Rattle.table.specs.Record.{record_bytes}
 use Rattle.table.specs.Slots.{slot_bytes, most_slots}
 use Rattle.table.specs.Widening.{old_good, old_slots, old_at, widened_to, wide, widened}
-use Rattle.table.specs.declared.WidenAnswer.TheVariants as widen
 use Rattle.table.proofs.Widening.{length-wide}
 use Rattle.frame_copy.specs.Areas.{pasted}
 use Rattle.frame_copy.proofs.Copying.{paste_next, paste_after, paste_laid, two_parts}
 use Rattle.table_widening.specs.Parts.{head_bytes}
+use Rattle.std.specs.Prelude.{Ok, Err}
+use Rattle.numbers.specs.declared.refusals.Refusal.TheVariants.{TableLengthBad, AreaShort}
 
 -- a copy over one that is not longer
 paste_twice : (q u x : List ℕ) (k : ℕ) → k ≤ length q → length u ≤ length x → pasted (pasted q k u) k x ≡ pasted q k x
@@ -103,16 +104,16 @@ module _ (old out : List ℕ) where
 
   -- the call
   module _ (g : Bool) (good : g ≡ old_good old) where
-    pub widen_refused : g ≡ false → on_area (widen.Refused 2) out ≡ widened old out
+    pub widen_refused : g ≡ false → on_area (Err TableLengthBad) out ≡ widened old out
     unfolding widened settled check
     widen_refused h = rw (← good, h)
 
     module _ (ok : g ≡ true) where
-      pub widen_short : length out < slot_bytes * old_slots old → on_area (widen.Refused 16) out ≡ widened old out
+      pub widen_short : length out < slot_bytes * old_slots old → on_area (Err AreaShort) out ≡ widened old out
       unfolding widened settled check
       widen_short h = rw (← good, ok, lt-leb (slot_bytes * old_slots old) (length out) h)
 
-      pub widen_done : slot_bytes * old_slots old ≤ length out → (u : List ℕ) → u ≡ laid (wide old) out → on_area (widen.Written (slot_bytes * old_slots old)) u ≡ widened old out
+      pub widen_done : slot_bytes * old_slots old ≤ length out → (u : List ℕ) → u ≡ laid (wide old) out → on_area (Ok (slot_bytes * old_slots old)) u ≡ widened old out
       unfolding widened settled check
       widen_done h u e = rw (← good, ok, le-leb (slot_bytes * old_slots old) (length out) h, e)
 

@@ -10,8 +10,8 @@ ghost use Rattle.table.specs.Widening.{old_good, old_slots, wide, widened};
 ghost use Rattle.frame_copy.specs.Areas.{pasted};
 ghost use Rattle.table_widening.specs.Parts.{head_bytes};
 
-use numbers::refusals::{AREA_SHORT, TABLE_LENGTH_BAD};
-use table::{MOST_SLOTS, RECORD_BYTES, SLOT_BYTES, WidenAnswer};
+use numbers::refusals::Refusal;
+use table::{MOST_SLOTS, RECORD_BYTES, SLOT_BYTES};
 use table_fields::layout;
 
 // The most bytes of a table of document 01.
@@ -71,16 +71,16 @@ fn widen_slots(old: &[u8], out: &mut [u8])
 }
 
 // Widens a table.
-pub fn widen(old: &[u8], out: &mut [u8]) -> WidenAnswer
+pub fn widen(old: &[u8], out: &mut [u8]) -> Result<u16, Refusal>
     ensures { on_area result out.new ≡ widened old.now out.old }
 {
     if !old_good(old) {
-        return WidenAnswer::Refused(TABLE_LENGTH_BAD);
+        return Err(Refusal::TableLengthBad);
     }
     let m = SLOT_BYTES * (old.len() / RECORD_BYTES);
     if out.len() < m {
-        return WidenAnswer::Refused(AREA_SHORT);
+        return Err(Refusal::AreaShort);
     }
     widen_slots(old, out);
-    WidenAnswer::Written(m as u16)
+    Ok(m as u16)
 }

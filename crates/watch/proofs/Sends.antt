@@ -6,8 +6,7 @@ use mathlib.Core.List.{List}
 use mathlib.Core.Path.{◌≡◌, refl, ap, ◌∙◌}
 use lib.ListN.{length}
 use Rattle.numbers.specs.Tests.{pick, both}
-use Rattle.numbers.specs.Result.{Result, refused, got, check, and_then, settled}
-use Rattle.numbers.specs.Refusals.{settings_bad, area_short}
+use Rattle.numbers.specs.Result.{check, and_then, settled}
 use Rattle.numbers.specs.After.{OnArea, on_area}
 use Rattle.numbers.specs.Bytes.{num, laid}
 use Rattle.frame.specs.Settings.{settings_good, compact_on}
@@ -16,31 +15,32 @@ use Rattle.frame.specs.Fields.{Fields}
 use Rattle.frame.specs.declared.Settings.{Settings}
 use Rattle.convert.specs.Compaction.{compact_bytes, stays_general, general_frame}
 use Rattle.convert.specs.Sending.{room_good, sent_fields, sending, sent}
-use Rattle.convert.specs.declared.SendAnswer.{SendAnswer}
-use Rattle.convert.specs.declared.SendAnswer.TheVariants.{Refused, Compacted, Itself}
 use Rattle.watch.specs.Time.{ticked, stopped}
 use Rattle.watch.specs.Sending.{OnWatched, on_watched, compacts, sent_watched}
 use Rattle.watch.specs.Claims.{OffOf, sent_of, SendingWhileStopped, RefusedWatchStays}
 use Rattle.watch.specs.declared.Watch.{Watch}
 use Rattle.watch.proofs.Stops.{apart, event_is, event_known}
+use Rattle.std.specs.Prelude.{Option, Result, Some, None, Ok, Err}
+use Rattle.numbers.specs.declared.refusals.Refusal.TheVariants.{SettingsBad, AreaShort}
+use Rattle.numbers.specs.declared.refusals.Refusal.{Refusal}
 
 -- the outcomes of sending: a refusal, or an answer that is none
-pub data Outcome : Result (OnArea SendAnswer) → Type 0 where
-  not_sent : (n : ℕ) → Outcome (refused n)
-  itself : (o : List ℕ) → Outcome (got (on_area Itself o))
-  part : (n : ℕ) (o : List ℕ) → Outcome (got (on_area (Compacted n) o))
+pub data Outcome : Result (OnArea (Result (Option ℕ) Refusal)) Refusal → Type 0 where
+  not_sent : (n : Refusal) → Outcome (Err n)
+  itself : (o : List ℕ) → Outcome (Ok (on_area (Ok None) o))
+  part : (n : ℕ) (o : List ℕ) → Outcome (Ok (on_area (Ok (Some n)) o))
 
-fields_outcome : (b : Bool) (n : ℕ) (o work : List ℕ) → Outcome (got (pick b (on_area (Compacted n) o) (on_area Itself work)))
+fields_outcome : (b : Bool) (n : ℕ) (o work : List ℕ) → Outcome (Ok (pick b (on_area (Ok (Some n)) o) (on_area (Ok None) work)))
 unfolding pick
 fields_outcome true n o work = part n o
 fields_outcome false n o work = itself work
 
-checks_outcome : (good room : Bool) (x : Result Fields) (k : Fields → OnArea SendAnswer) → ((p : Fields) → Outcome (got (k p))) → Outcome (check good settings_bad (check room area_short (and_then x λ p. got (k p))))
+checks_outcome : (good room : Bool) (x : Result Fields Refusal) (k : Fields → OnArea (Result (Option ℕ) Refusal)) → ((p : Fields) → Outcome (Ok (k p))) → Outcome (check good SettingsBad (check room AreaShort (and_then x λ p. Ok (k p))))
 unfolding check and_then
-checks_outcome false room x k h = not_sent settings_bad
-checks_outcome true false x k h = not_sent area_short
-checks_outcome true true (refused n) k h = not_sent n
-checks_outcome true true (got p) k h = h p
+checks_outcome false room x k h = not_sent SettingsBad
+checks_outcome true false x k h = not_sent AreaShort
+checks_outcome true true (Err n) k h = not_sent n
+checks_outcome true true (Ok p) k h = h p
 
 pub outcome : (on : Bool) (s : Settings) (f work : List ℕ) → Outcome (sending on s f work)
 unfolding sending sent_fields
@@ -49,25 +49,25 @@ outcome on s f work =
     (λ p. fields_outcome (both on (not (stays_general s (num p.dst)))) (length (compact_bytes p)) (laid (compact_bytes p) work) work)
 
 module _ (before after : Watch) (work : List ℕ) where
-  abbrev watched_of : Result (OnArea SendAnswer) → OnWatched SendAnswer
-  watched_of r = settled (λ n. on_watched (Refused n) before work) (and_then r λ a. got (on_watched a.answer after a.area))
+  abbrev watched_of : Result (OnArea (Result (Option ℕ) Refusal)) Refusal → OnWatched (Result (Option ℕ) Refusal)
+  watched_of r = settled (λ n. on_watched (Err n) before work) (and_then r λ a. Ok (on_watched a.answer after a.area))
 
-  abbrev plain_of : Result (OnArea SendAnswer) → OnArea SendAnswer
-  plain_of r = settled (λ n. on_area (Refused n) work) r
+  abbrev plain_of : Result (OnArea (Result (Option ℕ) Refusal)) Refusal → OnArea (Result (Option ℕ) Refusal)
+  plain_of r = settled (λ n. on_area (Err n) work) r
 
   -- answer and area are sending's
-  as_sent : (r : Result (OnArea SendAnswer)) → sent_of (watched_of r) ≡ plain_of r
+  as_sent : (r : Result (OnArea (Result (Option ℕ) Refusal)) Refusal) → sent_of (watched_of r) ≡ plain_of r
   unfolding settled and_then
-  as_sent (refused n) = refl
-  as_sent (got a) = refl
+  as_sent (Err n) = refl
+  as_sent (Ok a) = refl
 
-  pub record Kept (x : OnWatched SendAnswer) : Type 0 where
-    pub stays : (n : ℕ) → x.answer ≡ Refused n → x ≡ on_watched (Refused n) before work
-    pub moves : ((n : ℕ) → x.answer ≡ Refused n → ⊥) → x.watch ≡ after
+  pub record Kept (x : OnWatched (Result (Option ℕ) Refusal)) : Type 0 where
+    pub stays : (n : Refusal) → x.answer ≡ Err n → x ≡ on_watched (Err n) before work
+    pub moves : ((n : Refusal) → x.answer ≡ Err n → ⊥) → x.watch ≡ after
 
-  kept : (r : Result (OnArea SendAnswer)) → Outcome r → Kept (watched_of r)
+  kept : (r : Result (OnArea (Result (Option ℕ) Refusal)) Refusal) → Outcome r → Kept (watched_of r)
   unfolding settled and_then
-  kept r (not_sent m) = record { stays = λ n e. ap (λ (a : SendAnswer). on_watched a before work) e; moves = λ h. absurd (h m refl) }
+  kept r (not_sent m) = record { stays = λ n e. ap (λ (a : Result (Option ℕ) Refusal). on_watched a before work) e; moves = λ h. absurd (h m refl) }
   kept r (itself o) = record { stays = λ n e. apart cc; moves = λ h. refl }
   kept r (part m o) = record { stays = λ n e. apart cc; moves = λ h. refl }
 
@@ -93,7 +93,7 @@ module _ (s : Settings) (clock : ℕ) (w : Watch) (f work : List ℕ) where
       on true b e = rw e
       on false b e = refl
 
-  judged : settings_good s ≡ false → sent_watched s clock w f work ≡ on_watched (Refused settings_bad) w work
+  judged : settings_good s ≡ false → sent_watched s clock w f work ≡ on_watched (Err SettingsBad) w work
   unfolding sent_watched sending settled and_then check
   judged h = rw h
 

@@ -9,15 +9,15 @@ use mathlib.Core.Path.{◌≡◌, refl}
 use lib.Dec.{leb, ltb, eqb}
 use borrow.Author.Tests.{leb-true, leb-false, lt-leb, lt-ltb, le-ltb, ltb-false}
 use Rattle.numbers.specs.Tests.{pick}
-use Rattle.numbers.specs.Result.{got, check, settled}
-use Rattle.numbers.specs.Refusals.{settings_bad}
+use Rattle.numbers.specs.Result.{check, settled, Outcome}
 use Rattle.numbers.specs.Numberings.{at_least}
 use Rattle.watch.specs.Time.{watch_of, gone_back, difference, passed, ticked, stopped}
 use Rattle.watch.specs.Events.{OnWatch, on_watch, showing, native_frame, bridge_bpdu, lldp_notice, least_stop, twice_stop, bpdu_stop, stop_of, prolonged, evented}
 use Rattle.watch.specs.Claims.{ticked_all, passed_over, readings_from, Short, total, StopNeverShortened, StopRunsOut, WatchCases}
 use Rattle.watch.specs.declared.Watch.{Watch}
-use Rattle.watch.specs.declared.WatchAnswer.{WatchAnswer}
-use Rattle.watch.specs.declared.WatchAnswer.TheVariants.{Refused, Left}
+use Rattle.std.specs.Prelude.{Ok, Err}
+use Rattle.numbers.specs.declared.refusals.Refusal.TheVariants.{SettingsBad}
+use Rattle.numbers.specs.declared.refusals.Refusal.{Refusal}
 
 -- two answers that differ make any two numbers equal
 pub apart : {C : Type 0} → ◌≡◌ {A = ℕ} 0 1 → C
@@ -79,16 +79,16 @@ module _ (clock kind time : ℕ) (w : Watch) where
   after = prolonged (stop_of kind time) (ticked clock w)
 
   -- an event by whether its kind is known
-  abbrev event_by : Bool → OnWatch WatchAnswer
-  event_by b = settled (λ n. on_watch (Refused n) w) (check b settings_bad (got (showing after)))
+  abbrev event_by : Bool → OnWatch (Outcome ℕ)
+  event_by b = settled (λ n. on_watch (Err n) w) (check b SettingsBad (Ok (showing after)))
 
-  pub record Event (b : Bool) (x : OnWatch WatchAnswer) : Type 0 where
+  pub record Event (b : Bool) (x : OnWatch (Outcome ℕ)) : Type 0 where
     pub left : (ticked clock w).left ≤ x.watch.left
-    pub stop : (n : ℕ) → x.answer ≡ Left n → stop_of kind time ≤ x.watch.left
-    pub either : (n : ℕ) → x.answer ≡ Left n → (x.watch.left ≡ (ticked clock w).left) ⊎ (x.watch.left ≡ stop_of kind time)
-    pub later : (n : ℕ) (cs : List ℕ) → x.answer ≡ Left n → (ticked_all cs (ticked clock w)).left ≤ (ticked_all cs x.watch).left
-    pub same : (n : ℕ) → x.answer ≡ Refused n → x.watch ≡ w
-    pub known : (x.answer ≡ Refused settings_bad) ↔ (b ≡ false)
+    pub stop : (n : ℕ) → x.answer ≡ Ok n → stop_of kind time ≤ x.watch.left
+    pub either : (n : ℕ) → x.answer ≡ Ok n → (x.watch.left ≡ (ticked clock w).left) ⊎ (x.watch.left ≡ stop_of kind time)
+    pub later : (n : ℕ) (cs : List ℕ) → x.answer ≡ Ok n → (ticked_all cs (ticked clock w)).left ≤ (ticked_all cs x.watch).left
+    pub same : (n : Refusal) → x.answer ≡ Err n → x.watch ≡ w
+    pub known : (x.answer ≡ Err SettingsBad) ↔ (b ≡ false)
 
   event_cases : (b : Bool) → Event b (event_by b)
   unfolding settled check prolonged ticked
@@ -113,7 +113,7 @@ module _ (clock kind time : ℕ) (w : Watch) where
   unfolding evented
   event_is = event_cases (leb kind lldp_notice)
 
-  pub event_known : ((evented clock kind time w).answer ≡ Refused settings_bad) ↔ (lldp_notice < kind)
+  pub event_known : ((evented clock kind time w).answer ≡ Err SettingsBad) ↔ (lldp_notice < kind)
   event_known = (λ e. leb-false kind lldp_notice (event_is.known.0 e), λ l. event_is.known.1 (lt-leb kind lldp_notice l))
 
 pub stop_never_shortened : StopNeverShortened

@@ -1,18 +1,17 @@
 -- What holds of the watch (2026-06), said of the calls.
 -- Assumes nothing.
-use Rattle.std.specs.Prelude.{ℕ, ◌+◌, ◌-◌, ◌%◌, ◌^◌, ◌≤◌, ◌<◌, true, false, List, [], ◌∷◌, ◌↔◌, ◌⊎◌, ◌≡◌}
+use Rattle.std.specs.Prelude.{ℕ, ◌+◌, ◌-◌, ◌%◌, ◌^◌, ◌≤◌, ◌<◌, true, false, List, [], ◌∷◌, ◌↔◌, ◌⊎◌, ◌≡◌, Option, Ok, Err}
 use Rattle.numbers.specs.After.{OnArea, on_area}
-use Rattle.numbers.specs.Refusals.{settings_bad}
 use Rattle.frame.specs.Settings.{settings_good, compact_on}
 use Rattle.frame.specs.declared.Settings.{Settings}
 use Rattle.convert.specs.Sending.{sent}
-use Rattle.convert.specs.declared.SendAnswer.{SendAnswer}
-use Rattle.convert.specs.declared.SendAnswer.TheVariants as send
 use Rattle.watch.specs.Time.{watch_of, gone_back, passed, ticked, stopped}
 use Rattle.watch.specs.Events.{unexpected_hello, bridge_bpdu, lldp_notice, least_stop, stop_of, evented}
 use Rattle.watch.specs.Sending.{OnWatched, on_watched, sent_watched}
 use Rattle.watch.specs.declared.Watch.{Watch}
-use Rattle.watch.specs.declared.WatchAnswer.TheVariants.{Refused, Left}
+use Rattle.numbers.specs.Result.{Outcome}
+use Rattle.numbers.specs.declared.refusals.Refusal.TheVariants.{SettingsBad}
+use Rattle.numbers.specs.declared.refusals.Refusal.{Refusal}
 
 -- a watch after a list of readings
 unfoldable pub ticked_all : List ℕ → Watch → Watch
@@ -29,10 +28,10 @@ passed_over last (c ∷ cs) = passed last c + passed_over c cs
 pub record StopNeverShortened : Type 0 where
   pub left : (clock kind time : ℕ) (w : Watch) → (ticked clock w).left ≤ (evented clock kind time w).watch.left
   pub least : (kind time : ℕ) → least_stop ≤ stop_of kind time
-  pub stop : (clock kind time n : ℕ) (w : Watch) → (evented clock kind time w).answer ≡ Left n → stop_of kind time ≤ (evented clock kind time w).watch.left
-  pub either : (clock kind time n : ℕ) (w : Watch) → (evented clock kind time w).answer ≡ Left n
+  pub stop : (clock kind time n : ℕ) (w : Watch) → (evented clock kind time w).answer ≡ Ok n → stop_of kind time ≤ (evented clock kind time w).watch.left
+  pub either : (clock kind time n : ℕ) (w : Watch) → (evented clock kind time w).answer ≡ Ok n
       → ((evented clock kind time w).watch.left ≡ (ticked clock w).left) ⊎ ((evented clock kind time w).watch.left ≡ stop_of kind time)
-  pub later : (clock kind time n : ℕ) (w : Watch) (cs : List ℕ) → (evented clock kind time w).answer ≡ Left n
+  pub later : (clock kind time n : ℕ) (w : Watch) (cs : List ℕ) → (evented clock kind time w).answer ≡ Ok n
       → (ticked_all cs (ticked clock w)).left ≤ (ticked_all cs (evented clock kind time w).watch).left
 
 -- the readings of a clock that was at the time t and goes on by these steps
@@ -61,7 +60,7 @@ abbrev pub OffOf : Settings → Settings → Type 0
 OffOf s t = (t.port ≡ s.port) × (settings_good t ≡ settings_good s) × (compact_on t ≡ false)
 
 -- what watched sending answers and writes
-abbrev pub sent_of : OnWatched SendAnswer → OnArea SendAnswer
+abbrev pub sent_of : OnWatched (Outcome (Option ℕ)) → OnArea (Outcome (Option ℕ))
 sent_of x = on_area x.answer x.area
 
 -- "While seconds are left, sending answers as with the far port's Compact off"; where none are left it is sending. Settings are judged
@@ -69,15 +68,15 @@ sent_of x = on_area x.answer x.area
 pub record SendingWhileStopped : Type 0 where
   pub stops : (s t : Settings) (clock : ℕ) (w : Watch) (f work : List ℕ) → stopped (ticked clock w) ≡ true → OffOf s t → sent_of (sent_watched s clock w f work) ≡ sent t f work
   pub sends : (s : Settings) (clock : ℕ) (w : Watch) (f work : List ℕ) → stopped (ticked clock w) ≡ false → sent_of (sent_watched s clock w f work) ≡ sent s f work
-  pub judged : (s : Settings) (clock : ℕ) (w : Watch) (f work : List ℕ) → settings_good s ≡ false → sent_watched s clock w f work ≡ on_watched (send.Refused settings_bad) w work
+  pub judged : (s : Settings) (clock : ℕ) (w : Watch) (f work : List ℕ) → settings_good s ≡ false → sent_watched s clock w f work ≡ on_watched (Err SettingsBad) w work
 
 -- "a refused call leaves the watch as it was, reading included"; one that is not refused leaves it at the reading brought
 pub record RefusedWatchStays : Type 0 where
-  pub event : (clock kind time n : ℕ) (w : Watch) → (evented clock kind time w).answer ≡ Refused n → (evented clock kind time w).watch ≡ w
-  pub kind : (clock kind time : ℕ) (w : Watch) → ((evented clock kind time w).answer ≡ Refused settings_bad) ↔ (lldp_notice < kind)
-  pub sending : (s : Settings) (clock n : ℕ) (w : Watch) (f work : List ℕ) → (sent_watched s clock w f work).answer ≡ send.Refused n
-      → sent_watched s clock w f work ≡ on_watched (send.Refused n) w work
-  pub accepted : (s : Settings) (clock : ℕ) (w : Watch) (f work : List ℕ) → ((n : ℕ) → (sent_watched s clock w f work).answer ≡ send.Refused n → ⊥)
+  pub event : (clock kind time : ℕ) (n : Refusal) (w : Watch) → (evented clock kind time w).answer ≡ Err n → (evented clock kind time w).watch ≡ w
+  pub kind : (clock kind time : ℕ) (w : Watch) → ((evented clock kind time w).answer ≡ Err SettingsBad) ↔ (lldp_notice < kind)
+  pub sending : (s : Settings) (clock : ℕ) (n : Refusal) (w : Watch) (f work : List ℕ) → (sent_watched s clock w f work).answer ≡ Err n
+      → sent_watched s clock w f work ≡ on_watched (Err n) w work
+  pub accepted : (s : Settings) (clock : ℕ) (w : Watch) (f work : List ℕ) → ((n : Refusal) → (sent_watched s clock w f work).answer ≡ Err n → ⊥)
       → (sent_watched s clock w f work).watch ≡ ticked clock w
 
 -- each case by computation

@@ -1,14 +1,12 @@
 -- What stops compaction, and for how long: the calls on a watch alone (2026-06).
 -- Assumes nothing.
-use Rattle.std.specs.Prelude.{ℕ, ◌+◌, ◌*◌, ◌/◌, leb, eqb}
+use Rattle.std.specs.Prelude.{ℕ, ◌+◌, ◌*◌, ◌/◌, leb, eqb, Ok, Err}
 use Rattle.numbers.specs.Tests.{pick}
-use Rattle.numbers.specs.Result.{got, check, settled}
-use Rattle.numbers.specs.Refusals.{settings_bad}
+use Rattle.numbers.specs.Result.{check, settled, Outcome}
 use Rattle.numbers.specs.Numberings.{at_least}
 use Rattle.watch.specs.Time.{watch_of, ticked}
 use Rattle.watch.specs.declared.Watch.{Watch}
-use Rattle.watch.specs.declared.WatchAnswer.{WatchAnswer}
-use Rattle.watch.specs.declared.WatchAnswer.TheVariants.{Refused, Left}
+use Rattle.numbers.specs.declared.refusals.Refusal.TheVariants.{SettingsBad}
 
 -- what a call on a watch leaves: its answer and the watch
 pub record OnWatch (Answer : Type 0) : Type 0 where
@@ -59,20 +57,20 @@ unfoldable pub prolonged : ℕ → Watch → Watch
 prolonged stop w = watch_of (at_least w.left stop) w.reading
 
 -- a watch with the seconds that it has left
-abbrev pub showing : Watch → OnWatch WatchAnswer
-showing w = on_watch (Left w.left) w
+abbrev pub showing : Watch → OnWatch (Outcome ℕ)
+showing w = on_watch (Ok w.left) w
 
 -- the reset call: "A fresh or reset watch has no stop and the reading brought"
-unfoldable pub reset_to : ℕ → OnWatch WatchAnswer
+unfoldable pub reset_to : ℕ → OnWatch (Outcome ℕ)
 reset_to clock = showing (watch_of 0 clock)
 
 -- the tick call
-unfoldable pub ticked_to : ℕ → Watch → OnWatch WatchAnswer
+unfoldable pub ticked_to : ℕ → Watch → OnWatch (Outcome ℕ)
 ticked_to clock w = showing (ticked clock w)
 
 -- the event call: another kind is 1; "a refused call leaves the watch as it was, reading included"
-unfoldable pub evented : ℕ → ℕ → ℕ → Watch → OnWatch WatchAnswer
+unfoldable pub evented : ℕ → ℕ → ℕ → Watch → OnWatch (Outcome ℕ)
 evented clock kind time w =
-    settled (λ n. on_watch (Refused n) w)
-    (check (leb kind lldp_notice) settings_bad
-    (got (showing (prolonged (stop_of kind time) (ticked clock w)))))
+    settled (λ n. on_watch (Err n) w)
+    (check (leb kind lldp_notice) SettingsBad
+    (Ok (showing (prolonged (stop_of kind time) (ticked clock w)))))

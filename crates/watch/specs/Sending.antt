@@ -1,13 +1,11 @@
 -- Sending with a watch (2026-06).
 -- Assumes nothing.
-use Rattle.std.specs.Prelude.{ℕ, Bool, not, List}
+use Rattle.std.specs.Prelude.{ℕ, Bool, not, List, Option, Ok, Err}
 use Rattle.numbers.specs.Tests.{both}
-use Rattle.numbers.specs.Result.{got, and_then, settled}
+use Rattle.numbers.specs.Result.{and_then, settled, Outcome}
 use Rattle.frame.specs.Settings.{compact_on}
 use Rattle.frame.specs.declared.Settings.{Settings}
 use Rattle.convert.specs.Sending.{sending}
-use Rattle.convert.specs.declared.SendAnswer.{SendAnswer}
-use Rattle.convert.specs.declared.SendAnswer.TheVariants.{Refused}
 use Rattle.watch.specs.Time.{ticked, stopped}
 use Rattle.watch.specs.declared.Watch.{Watch}
 
@@ -30,8 +28,8 @@ compacts s w = both (compact_on s) (not (stopped w))
 
 -- the watched sending call: time is taken off first; settings are judged as they arrive; "a refused call leaves the watch as it was,
 -- reading included"
-unfoldable pub sent_watched : Settings → ℕ → Watch → List ℕ → List ℕ → OnWatched SendAnswer
+unfoldable pub sent_watched : Settings → ℕ → Watch → List ℕ → List ℕ → OnWatched (Outcome (Option ℕ))
 sent_watched s clock w f work =
-    settled (λ n. on_watched (Refused n) w work)
+    settled (λ n. on_watched (Err n) w work)
     (and_then (sending (compacts s (ticked clock w)) s f work) λ a.
-    got (on_watched a.answer (ticked clock w) a.area))
+    Ok (on_watched a.answer (ticked clock w) a.area))

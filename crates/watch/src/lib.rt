@@ -11,13 +11,6 @@ pub struct Watch {
     pub reading: u32,
 }
 
-// The answer of a reset, a tick and an event: a refusal number, or the seconds left.
-#[derive(Clone, Copy)]
-pub enum WatchAnswer {
-    Refused(u8),
-    Left(u32),
-}
-
 // The kinds of events, as numbers of the boundary.
 pub const NATIVE_FRAME: u32 = 0;
 

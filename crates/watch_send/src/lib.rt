@@ -7,42 +7,37 @@ ghost use Rattle.convert_send.specs.Meaning.{sent_where};
 ghost use Rattle.watch.specs.Time.{watch_of};
 ghost use Rattle.watch.specs.Sending.{on_watched, sent_watched};
 
-use convert::{COMPACT_ROOM, SendAnswer};
+use convert::COMPACT_ROOM;
 use frame::{COMPACT_ON, Settings};
-use frame_parse::Parsed;
-use numbers::refusals::{AREA_SHORT, SETTINGS_BAD};
+use numbers::refusals::Refusal;
 
 // What sending answers, with the watch after it.
 #[derive(Clone, Copy)]
 pub struct SentBy {
-    pub answer: SendAnswer,
+    pub answer: Result<Option<u16>, Refusal>,
     pub left: u32,
     pub reading: u32,
 }
 
 // `convert_send::send_where` once more, under its contract and by its laws: a function that two calls share is not made a part of
 // either, and then both take twice their time. While a stop is left the inner destination is not read.
-fn send_where(on: bool, s: Settings, frame: &[u8], work: &mut [u8]) -> SendAnswer
+fn send_where(on: bool, s: Settings, frame: &[u8], work: &mut [u8]) -> Result<Option<u16>, Refusal>
     ensures { on_area result work.new ≡ sent_where on s frame.now work.old }
 {
     if !frame_settings::settings_good(s) {
-        return SendAnswer::Refused(SETTINGS_BAD);
+        return Err(Refusal::SettingsBad);
     }
     if work.len() < COMPACT_ROOM {
-        return SendAnswer::Refused(AREA_SHORT);
+        return Err(Refusal::AreaShort);
     }
-    match convert_compact::general_fields(s.port, frame) {
-        Parsed::Refused(n) => SendAnswer::Refused(n),
-        Parsed::Fields(p) => {
-            if !on {
-                return SendAnswer::Itself;
-            }
-            if convert_compact::stays_general(s, numbers::be6(frame, p.dst_offset)) {
-                return SendAnswer::Itself;
-            }
-            SendAnswer::Compacted(convert_compact::fill_compact(frame, p, work))
-        }
+    let p = convert_compact::general_fields(s.port, frame)?;
+    if !on {
+        return Ok(None);
     }
+    if convert_compact::stays_general(s, numbers::be6(frame, p.dst_offset)) {
+        return Ok(None);
+    }
+    Ok(Some(convert_compact::fill_compact(frame, p, work)))
 }
 
 // The watched sending call, with the far port's settings as they arrive.
@@ -59,18 +54,13 @@ pub fn send(
     let w = watch_time::tick(left, reading, clock);
     let on = (s.compact == COMPACT_ON) & (w.left == 0);
     match send_where(on, s, frame, work) {
-        SendAnswer::Refused(n) => SentBy {
-            answer: SendAnswer::Refused(n),
+        Err(n) => SentBy {
+            answer: Err(n),
             left: left,
             reading: reading,
         },
-        SendAnswer::Compacted(n) => SentBy {
-            answer: SendAnswer::Compacted(n),
-            left: w.left,
-            reading: w.reading,
-        },
-        SendAnswer::Itself => SentBy {
-            answer: SendAnswer::Itself,
+        Ok(sent) => SentBy {
+            answer: Ok(sent),
             left: w.left,
             reading: w.reading,
         },

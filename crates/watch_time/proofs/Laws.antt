@@ -4,12 +4,12 @@ use Rattle.std.proofs.Common.{◌≡◌, ℕ, ◌+◌, ◌-◌, ◌%◌, ◌^◌
 use borrow.Author.Tests.{lt-leb}
 use Rattle.numbers.specs.Tests.{pick}
 use Rattle.numbers.specs.Result.{check, settled}
-use Rattle.numbers.specs.Refusals.{settings_bad}
 use Rattle.numbers.specs.Numberings.{at_least}
 use Rattle.watch.specs.Time.{watch_of, gone_back, difference, passed, ticked}
 use Rattle.watch.specs.Events.{on_watch, native_frame, bridge_bpdu, lldp_notice, least_stop, twice_stop, bpdu_stop, stop_of, prolonged, evented}
 use Rattle.watch.specs.declared.Watch.{Watch}
-use Rattle.watch.specs.declared.WatchAnswer.TheVariants.{Refused, Left}
+use Rattle.std.specs.Prelude.{Ok, Err}
+use Rattle.numbers.specs.declared.refusals.Refusal.TheVariants.{SettingsBad}
 
 -- a wrapped difference of two readings
 module _ (last clock d : ℕ) (l : last < 2 ^ 32) (r : clock < 2 ^ 32) (k : d < 2 ^ 32) (e : (d + last) % 2 ^ 32 ≡ clock) where
@@ -44,11 +44,11 @@ stop_twice kind time r n b h = rw (ne_eqb kind native_frame n, ne_eqb kind bridg
 
 -- an event
 module _ (clock kind time left reading : ℕ) where
-  pub event_unknown : lldp_notice < kind → on_watch (Refused settings_bad) (watch_of left reading) ≡ evented clock kind time (watch_of left reading)
+  pub event_unknown : lldp_notice < kind → on_watch (Err SettingsBad) (watch_of left reading) ≡ evented clock kind time (watch_of left reading)
   unfolding evented settled check
   event_unknown h = rw (lt-leb kind lldp_notice h)
 
   pub event_known : kind ≤ lldp_notice → (w : Watch) → w ≡ ticked clock (watch_of left reading) → (stop : ℕ) → stop ≡ stop_of kind time
-      → (r : ℕ) → r ≡ at_least w.left stop → on_watch (Left r) (watch_of r w.reading) ≡ evented clock kind time (watch_of left reading)
+      → (r : ℕ) → r ≡ at_least w.left stop → on_watch (Ok r) (watch_of r w.reading) ≡ evented clock kind time (watch_of left reading)
   unfolding evented settled check prolonged
   event_known h w ew stop es r er = rw (le-leb kind lldp_notice h, ← ew, ← es, ← er)

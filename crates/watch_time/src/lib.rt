@@ -6,15 +6,13 @@ ghost use Rattle.numbers.specs.Numberings.{at_least};
 ghost use Rattle.watch.specs.Time.{watch_of, passed, ticked};
 ghost use Rattle.watch.specs.Events.{on_watch, twice_stop, bpdu_stop, stop_of, evented};
 
-use numbers::refusals::SETTINGS_BAD;
-use watch::{
-    BRIDGE_BPDU, CLOCK_GONE_BACK, LEAST_STOP_SECONDS, LLDP_NOTICE, NATIVE_FRAME, Watch, WatchAnswer,
-};
+use numbers::refusals::Refusal;
+use watch::{BRIDGE_BPDU, CLOCK_GONE_BACK, LEAST_STOP_SECONDS, LLDP_NOTICE, NATIVE_FRAME, Watch};
 
 // What a call on a watch answers, with the watch after it.
 #[derive(Clone, Copy)]
 pub struct Kept {
-    pub answer: WatchAnswer,
+    pub answer: Result<u32, Refusal>,
     pub left: u32,
     pub reading: u32,
 }
@@ -93,7 +91,7 @@ pub fn event(left: u32, reading: u32, clock: u32, kind: u32, time: u16) -> Kept
 {
     if kind > LLDP_NOTICE {
         return Kept {
-            answer: WatchAnswer::Refused(SETTINGS_BAD),
+            answer: Err(Refusal::SettingsBad),
             left: left,
             reading: reading,
         };
@@ -101,7 +99,7 @@ pub fn event(left: u32, reading: u32, clock: u32, kind: u32, time: u16) -> Kept
     let w = tick(left, reading, clock);
     let seconds = larger(w.left, stop_of(kind, time));
     Kept {
-        answer: WatchAnswer::Left(seconds),
+        answer: Ok(seconds),
         left: seconds,
         reading: w.reading,
     }

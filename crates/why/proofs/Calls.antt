@@ -11,8 +11,7 @@ use lib.Dec.{eqb, leb, ltb}
 use lib.ListN.{length, take, length-take, length-drop, drop_of_length-le}
 use borrow.Author.Tests.{ltb-true, ltb-false, lt-ltb, le-ltb, leb-true, eqb-true, eqb-false, eq-eqb}
 use Rattle.numbers.specs.Tests.{pick, either, any_of, between}
-use Rattle.numbers.specs.Result.{Result, refused, got, check, and_then, settled}
-use Rattle.numbers.specs.Refusals.{table_length_bad}
+use Rattle.numbers.specs.Result.{Outcome, check, and_then, settled}
 use Rattle.numbers.specs.Numberings.{nicknames, number_of, in_list}
 use Rattle.numbers.proofs.Truth.{both_true, false_true}
 use Rattle.numbers.proofs.Answers.{got_got, check_got, then_got}
@@ -28,7 +27,6 @@ use Rattle.flush.proofs.Lists.{any_some}
 use Rattle.flush.proofs.Sets.{label_brought, mac_brought, mac_gathered, nickname_agrees, label_agrees, mac_agrees}
 use Rattle.flush.proofs.Flushing.{flush_exact}
 use Rattle.flush.proofs.Validity.{validity}
-use Rattle.portions.specs.Portion.{portion_bad}
 use Rattle.why.specs.Why.{place_of, nickname_is, listed, nickname_match, label_match, mac_match, places_of, reason_of, why}
 use Rattle.why.specs.Claims.{Clears, SaysCleared, WhyExact, WhyFirst, FirstAt, Named, WhyPlaces, WhyRefusals}
 use Rattle.why.specs.declared.NicknameMatch.TheVariants.{Sender, Listed}
@@ -38,29 +36,30 @@ use Rattle.why.specs.declared.MacMatch.TheVariants as mac
 use Rattle.why.specs.declared.Places.{Places}
 use Rattle.why.specs.declared.Reason.{Reason}
 use Rattle.why.specs.declared.Reason.TheVariants.{Free, Spoilt, Configured, NicknameNotMeant, LabelNotMeant, MacNotMeant, Cleared}
-use Rattle.why.specs.declared.WhyAnswer.{WhyAnswer}
-use Rattle.why.specs.declared.WhyAnswer.TheVariants.{Refused, Because}
 use Rattle.why.proofs.FirstPlace.{first_says}
 use Rattle.why.proofs.Reasons.{reason_first, meant_cleared, cleared_meant}
+use Rattle.std.specs.Prelude.{Ok, Err}
+use Rattle.numbers.specs.declared.refusals.Refusal.TheVariants.{TableLengthBad, PortionBad}
+use Rattle.numbers.specs.declared.refusals.Refusal.{Refusal}
 
 -- ---- the call
 
 module _ (ingress : ℕ) (l : List ℕ) (k : ℕ) (t : List ℕ) where
-  pub bad_table : table_good t ≡ false → why ingress l k t ≡ Refused table_length_bad
+  pub bad_table : table_good t ≡ false → why ingress l k t ≡ Err TableLengthBad
   unfolding why settled check
   bad_table h = rw h
 
   module _ (good : table_good t ≡ true) where
-    pub past : slots_of t ≤ k → why ingress l k t ≡ Refused portion_bad
+    pub past : slots_of t ≤ k → why ingress l k t ≡ Err PortionBad
     unfolding why settled check
     past h = rw (good, le-ltb k (slots_of t) h)
 
     module _ (inside : k < slots_of t) where
-      pub corrupted : (n : ℕ) → payload_of every_type l ≡ refused n → why ingress l k t ≡ Refused n
+      pub corrupted : (n : Refusal) → payload_of every_type l ≡ Err n → why ingress l k t ≡ Err n
       unfolding why settled check and_then
       corrupted n h = rw (good, lt-ltb k (slots_of t) inside, h)
 
-      pub answered : (p : Payload) → payload_of every_type l ≡ got p → why ingress l k t ≡ Because (reason_of (block_count l) p ingress (unpacked (slot_at k t)))
+      pub answered : (p : Payload) → payload_of every_type l ≡ Ok p → why ingress l k t ≡ Ok (reason_of (block_count l) p ingress (unpacked (slot_at k t)))
       unfolding why settled check and_then
       answered p h = rw (good, lt-ltb k (slots_of t) inside, h)
 
@@ -71,20 +70,20 @@ pub why_first : WhyFirst
 why_first ingress l k t p good inside read = (_, answered ingress l k t good inside p read, reason_first (block_count l) p ingress (unpacked (slot_at k t)))
 
 -- an answer that is a reason came from a value
-reason_got : (x : Result WhyAnswer) (r : Reason) → settled Refused x ≡ Because r → x ≡ got (Because r)
+reason_got : (x : Outcome (Outcome Reason)) (r : Reason) → settled Err x ≡ Ok r → x ≡ Ok (Ok r)
 unfolding settled
-reason_got (refused n) r h = let z : ◌≡◌ {A = ℕ} 0 1 = cc in absurd (omega arith)
-reason_got (got a) r h = ap got h
+reason_got (Err n) r h = let z : ◌≡◌ {A = ℕ} 0 1 = cc in absurd (omega arith)
+reason_got (Ok a) r h = ap Ok h
 
 -- where it came from
 record From (ingress : ℕ) (l : List ℕ) (k : ℕ) (t : List ℕ) (r : Reason) : Type 0 where
   good : table_good t ≡ true
   inside : k < slots_of t
   p : Payload
-  read : payload_of every_type l ≡ got p
+  read : payload_of every_type l ≡ Ok p
   reason : reason_of (block_count l) p ingress (unpacked (slot_at k t)) ≡ r
 
-from : (ingress : ℕ) (l : List ℕ) (k : ℕ) (t : List ℕ) (r : Reason) → why ingress l k t ≡ Because r → From ingress l k t r
+from : (ingress : ℕ) (l : List ℕ) (k : ℕ) (t : List ℕ) (r : Reason) → why ingress l k t ≡ Ok r → From ingress l k t r
 unfolding why
 from ingress l k t r h =
     let a = check_got (table_good t) _ _ _ (reason_got _ r h) in
@@ -116,9 +115,9 @@ module _ (ingress : ℕ) (l : List ℕ) (k : ℕ) (t : List ℕ) where
       ap (take slot_bytes) (drop_of_length-le (flushed ingress l t).table after ∙ sym (drop_of_length-le t short))
 
   module _ (none : SaysCleared ingress l k t → ⊥) where
-    kept_read : table_good t ≡ true → (r : Result Payload) → payload_of every_type l ≡ r → Same
-    kept_read good (refused n) read = ap (slot_at k) (ap (λ x. x.table) (flush_exact.corrupt ingress l t n good read))
-    kept_read good (got p) read = go (ltb k (slots_of t)) refl
+    kept_read : table_good t ≡ true → (r : Outcome Payload) → payload_of every_type l ≡ r → Same
+    kept_read good (Err n) read = ap (slot_at k) (ap (λ x. x.table) (flush_exact.corrupt ingress l t n good read))
+    kept_read good (Ok p) read = go (ltb k (slots_of t)) refl
       where
         go : (b : Bool) → ltb k (slots_of t) ≡ b → Same
         go true h =
@@ -127,7 +126,7 @@ module _ (ingress : ℕ) (l : List ℕ) (k : ℕ) (t : List ℕ) where
             (λ e learned m.
             none (
               places_of (block_count l) p e,
-              answered ingress l k t good (ltb-true k (slots_of t) h) p read ∙ ap Because (meant_cleared (block_count l) p ingress (unpacked (slot_at k t)) e learned m),
+              answered ingress l k t good (ltb-true k (slots_of t) h) p read ∙ ap Ok (meant_cleared (block_count l) p ingress (unpacked (slot_at k t)) e learned m),
             ))
         go false h = past_same good (ltb-false k (slots_of t) h) (flush_exact.flush ingress l t p good read).same_length
 
@@ -139,15 +138,15 @@ module _ (ingress : ℕ) (l : List ℕ) (k : ℕ) (t : List ℕ) where
         go false bad = ap (slot_at k) (ap (λ x. x.table) (validity.bad_table ingress l t bad))
 
   -- cleared is said or it is not
-  said : (a : WhyAnswer) → ((w : Places) × (a ≡ Because (Cleared w))) ⊎ ((w : Places) × (a ≡ Because (Cleared w)) → ⊥)
-  said (Refused n) = inr (λ q. let h = q.1 in let z : ◌≡◌ {A = ℕ} 0 1 = cc in omega arith)
-  said (Because Free) = inr (λ q. let h = q.1 in let z : ◌≡◌ {A = ℕ} 0 1 = cc in omega arith)
-  said (Because Spoilt) = inr (λ q. let h = q.1 in let z : ◌≡◌ {A = ℕ} 0 1 = cc in omega arith)
-  said (Because Configured) = inr (λ q. let h = q.1 in let z : ◌≡◌ {A = ℕ} 0 1 = cc in omega arith)
-  said (Because NicknameNotMeant) = inr (λ q. let h = q.1 in let z : ◌≡◌ {A = ℕ} 0 1 = cc in omega arith)
-  said (Because LabelNotMeant) = inr (λ q. let h = q.1 in let z : ◌≡◌ {A = ℕ} 0 1 = cc in omega arith)
-  said (Because MacNotMeant) = inr (λ q. let h = q.1 in let z : ◌≡◌ {A = ℕ} 0 1 = cc in omega arith)
-  said (Because (Cleared w)) = inl (w, refl)
+  said : (a : Outcome Reason) → ((w : Places) × (a ≡ Ok (Cleared w))) ⊎ ((w : Places) × (a ≡ Ok (Cleared w)) → ⊥)
+  said (Err n) = inr (λ q. let h = q.1 in let z : ◌≡◌ {A = ℕ} 0 1 = cc in omega arith)
+  said (Ok Free) = inr (λ q. let h = q.1 in let z : ◌≡◌ {A = ℕ} 0 1 = cc in omega arith)
+  said (Ok Spoilt) = inr (λ q. let h = q.1 in let z : ◌≡◌ {A = ℕ} 0 1 = cc in omega arith)
+  said (Ok Configured) = inr (λ q. let h = q.1 in let z : ◌≡◌ {A = ℕ} 0 1 = cc in omega arith)
+  said (Ok NicknameNotMeant) = inr (λ q. let h = q.1 in let z : ◌≡◌ {A = ℕ} 0 1 = cc in omega arith)
+  said (Ok LabelNotMeant) = inr (λ q. let h = q.1 in let z : ◌≡◌ {A = ℕ} 0 1 = cc in omega arith)
+  said (Ok MacNotMeant) = inr (λ q. let h = q.1 in let z : ◌≡◌ {A = ℕ} 0 1 = cc in omega arith)
+  said (Ok (Cleared w)) = inl (w, refl)
 
   clears_says : Clears ingress l k t → SaysCleared ingress l k t
   clears_says c = ⊎_elim (λ s. s) (λ none. absurd (c.changed (kept none))) (said (why ingress l k t))
@@ -158,7 +157,7 @@ why_exact = record { exactly = λ ingress l k t. (says_clears ingress l k t, cle
 -- ---- WhyPlaces
 
 -- a good payload is what is made of it, and its nicknames are there
-payload_made : (l : List ℕ) (p : Payload) → payload_of every_type l ≡ got p → (made l ≡ p) × (1 + nick_bytes l ≤ length l)
+payload_made : (l : List ℕ) (p : Payload) → payload_of every_type l ≡ Ok p → (made l ≡ p) × (1 + nick_bytes l ≤ length l)
 unfolding payload_of
 payload_made l p e =
     let a = check_got (leb 1 (length l)) _ _ p e in
@@ -168,7 +167,7 @@ payload_made l p e =
     let f = check_got (not (any_of (corrupt every_type) (pieces_of (block_count l) (behind l)))) _ _ p d.1 in
     (got_got (made l) p f.1, leb-true (1 + nick_bytes l) (length l) b.0)
 
-nicks_long : (l : List ℕ) (p : Payload) → payload_of every_type l ≡ got p → length p.nicks ≡ nick_bytes l
+nicks_long : (l : List ℕ) (p : Payload) → payload_of every_type l ≡ Ok p → length p.nicks ≡ nick_bytes l
 nicks_long l p e =
     let (is, room) = payload_made l p e in
     subst (λ (q : Payload). length q.nicks ≡ nick_bytes l) is (simp (length-take, length-drop) (omega arith))
@@ -262,7 +261,7 @@ module _ (ps : List Piece) (m : ℕ) (meant : mac_meant every_type ps m ≡ true
   unfolding mac_match mac_meant
   match_mac = mac_at _ meant
 
-named : (ingress : ℕ) (l : List ℕ) (p : Payload) (e : Entry) → payload_of every_type l ≡ got p → Meant p ingress e → Named ingress l p e (places_of (block_count l) p e)
+named : (ingress : ℕ) (l : List ℕ) (p : Payload) (e : Entry) → payload_of every_type l ≡ Ok p → Meant p ingress e → Named ingress l p e (places_of (block_count l) p e)
 named ingress l p e read m =
     let x = (nickname_agrees ingress p.nicks e.nickname).1 m.nickname in
     let y = (label_agrees p.pieces e.label).1 m.label in

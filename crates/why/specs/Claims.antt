@@ -1,9 +1,7 @@
 -- What holds of the reason.
 -- Assumes nothing.
-use Rattle.std.specs.Prelude.{ℕ, ◌<◌, ◌≤◌, true, false, ◌↔◌, ◌⊎◌, ◌≡◌, length, get_or}
+use Rattle.std.specs.Prelude.{ℕ, ◌<◌, ◌≤◌, true, false, ◌↔◌, ◌⊎◌, ◌≡◌, length, get_or, Ok, Err}
 use mathlib.Core.List.{List, ◌∷◌, ◌++◌, Memᴰ}
-use Rattle.numbers.specs.Result.{refused, got}
-use Rattle.numbers.specs.Refusals.{table_length_bad}
 use Rattle.numbers.specs.Numberings.{nicknames, number_of}
 use Rattle.table.specs.Record.{unpacked}
 use Rattle.table.specs.Slots.{table_good, slots_of, slot_at, freed}
@@ -13,7 +11,6 @@ use Rattle.table.specs.declared.Slot.TheVariants as slot
 use Rattle.flush.specs.Payload.{every_type, block_count, Payload, payload_of}
 use Rattle.flush.specs.Sets.{Some, NicknameMeant, BringsLabel, LabelMeant, BringsMac, GathersMac, MacMeant, Meant}
 use Rattle.flush.specs.Flush.{flushed}
-use Rattle.portions.specs.Portion.{portion_bad}
 use Rattle.why.specs.Why.{listed, why}
 use Rattle.why.specs.Words.{reason_number}
 use Rattle.why.specs.declared.NicknameMatch.TheVariants.{Sender, Listed}
@@ -22,7 +19,8 @@ use Rattle.why.specs.declared.MacMatch.TheVariants as mac
 use Rattle.why.specs.declared.Places.{Places}
 use Rattle.why.specs.declared.Reason.{Reason}
 use Rattle.why.specs.declared.Reason.TheVariants.{Free, Spoilt, Configured, NicknameNotMeant, LabelNotMeant, MacNotMeant, Cleared}
-use Rattle.why.specs.declared.WhyAnswer.TheVariants.{Refused, Because}
+use Rattle.numbers.specs.declared.refusals.Refusal.TheVariants.{TableLengthBad, PortionBad}
+use Rattle.numbers.specs.declared.refusals.Refusal.{Refusal}
 
 -- ---- "'cleared' is said exactly of the slots the flush clears"
 
@@ -33,7 +31,7 @@ pub record Clears (ingress : ℕ) (l : List ℕ) (k : ℕ) (t : List ℕ) : Type
 
 -- cleared is said of slot k
 abbrev pub SaysCleared : ℕ → List ℕ → ℕ → List ℕ → Type 0
-SaysCleared ingress l k t = (w : Places) × (why ingress l k t ≡ Because (Cleared w))
+SaysCleared ingress l k t = (w : Places) × (why ingress l k t ≡ Ok (Cleared w))
 
 -- for every payload, slot and table, refused or not; of any other slot the flush leaves every byte
 pub record WhyExact : Type 0 where
@@ -64,8 +62,8 @@ pub record First (p : Payload) (ingress : ℕ) (s : Slot) (r : Reason) : Type 0 
 -- every slot of a good table gets a reason from a good payload, and it is the first
 abbrev pub WhyFirst : Type 0
 WhyFirst =
-    (ingress : ℕ) (l : List ℕ) (k : ℕ) (t : List ℕ) (p : Payload) → table_good t ≡ true → k < slots_of t → payload_of every_type l ≡ got p
-    → (r : Reason) × (why ingress l k t ≡ Because r) × First p ingress (unpacked (slot_at k t)) r
+    (ingress : ℕ) (l : List ℕ) (k : ℕ) (t : List ℕ) (p : Payload) → table_good t ≡ true → k < slots_of t → payload_of every_type l ≡ Ok p
+    → (r : Reason) × (why ingress l k t ≡ Ok r) × First p ingress (unpacked (slot_at k t)) r
 
 -- ---- "each named place does bring the match with none earlier"
 
@@ -96,17 +94,17 @@ pub record Named (ingress : ℕ) (l : List ℕ) (p : Payload) (e : Entry) (w : P
 -- cleared is said of a learned record of a good table and by a good payload, and the places are there
 pub record NamedAll (ingress : ℕ) (l : List ℕ) (k : ℕ) (t : List ℕ) (w : Places) : Type 0 where
   pub p : Payload
-  pub payload : payload_of every_type l ≡ got p
+  pub payload : payload_of every_type l ≡ Ok p
   pub e : Entry
   pub learned : unpacked (slot_at k t) ≡ slot.Learned e
   pub named : Named ingress l p e w
 
 abbrev pub WhyPlaces : Type 0
-WhyPlaces = (ingress : ℕ) (l : List ℕ) (k : ℕ) (t : List ℕ) (w : Places) → why ingress l k t ≡ Because (Cleared w) → NamedAll ingress l k t w
+WhyPlaces = (ingress : ℕ) (l : List ℕ) (k : ℕ) (t : List ℕ) (w : Places) → why ingress l k t ≡ Ok (Cleared w) → NamedAll ingress l k t w
 
 -- ---- refusals: 2, then 24, then 15
 
 pub record WhyRefusals : Type 0 where
-  pub bad_table : (ingress : ℕ) (l : List ℕ) (k : ℕ) (t : List ℕ) → table_good t ≡ false → why ingress l k t ≡ Refused table_length_bad
-  pub past : (ingress : ℕ) (l : List ℕ) (k : ℕ) (t : List ℕ) → table_good t ≡ true → slots_of t ≤ k → why ingress l k t ≡ Refused portion_bad
-  pub corrupt : (ingress : ℕ) (l : List ℕ) (k : ℕ) (t : List ℕ) (n : ℕ) → table_good t ≡ true → k < slots_of t → payload_of every_type l ≡ refused n → why ingress l k t ≡ Refused n
+  pub bad_table : (ingress : ℕ) (l : List ℕ) (k : ℕ) (t : List ℕ) → table_good t ≡ false → why ingress l k t ≡ Err TableLengthBad
+  pub past : (ingress : ℕ) (l : List ℕ) (k : ℕ) (t : List ℕ) → table_good t ≡ true → slots_of t ≤ k → why ingress l k t ≡ Err PortionBad
+  pub corrupt : (ingress : ℕ) (l : List ℕ) (k : ℕ) (t : List ℕ) (n : Refusal) → table_good t ≡ true → k < slots_of t → payload_of every_type l ≡ Err n → why ingress l k t ≡ Err n

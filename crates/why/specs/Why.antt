@@ -1,9 +1,8 @@
 -- Why a flush clears a slot or leaves it (2026-08): the first reason that applies, and what brought a record that is cleared.
 -- Assumes nothing.
-use Rattle.std.specs.Prelude.{ℕ, suc, Bool, not, List, [], ◌∷◌, eqb, ltb, length}
+use Rattle.std.specs.Prelude.{ℕ, suc, Bool, not, List, [], ◌∷◌, eqb, ltb, length, Ok, Err}
 use Rattle.numbers.specs.Tests.{pick, any_of}
-use Rattle.numbers.specs.Result.{check, and_then, got, settled}
-use Rattle.numbers.specs.Refusals.{table_length_bad}
+use Rattle.numbers.specs.Result.{check, and_then, settled, Outcome}
 use Rattle.numbers.specs.Bytes.{parts}
 use Rattle.numbers.specs.Numberings.{nicknames, number_of}
 use Rattle.table.specs.Record.{unpacked}
@@ -14,7 +13,6 @@ use Rattle.table.specs.declared.Slot.{Slot}
 use Rattle.table.specs.declared.Slot.TheVariants as slot
 use Rattle.flush.specs.Payload.{every_type, Piece, block_count, Payload, payload_of}
 use Rattle.flush.specs.Meaning.{brings_label, brings_mac, gathers_mac, nickname_meant, label_meant, mac_meant}
-use Rattle.portions.specs.Portion.{portion_bad}
 use Rattle.why.specs.declared.NicknameMatch.{NicknameMatch}
 use Rattle.why.specs.declared.NicknameMatch.TheVariants.{Sender, Listed}
 use Rattle.why.specs.declared.LabelMatch.{LabelMatch}
@@ -24,8 +22,7 @@ use Rattle.why.specs.declared.MacMatch.TheVariants as mac
 use Rattle.why.specs.declared.Places.{Places}
 use Rattle.why.specs.declared.Reason.{Reason}
 use Rattle.why.specs.declared.Reason.TheVariants.{Free, Spoilt, Configured, NicknameNotMeant, LabelNotMeant, MacNotMeant, Cleared}
-use Rattle.why.specs.declared.WhyAnswer.{WhyAnswer}
-use Rattle.why.specs.declared.WhyAnswer.TheVariants.{Refused, Because}
+use Rattle.numbers.specs.declared.refusals.Refusal.TheVariants.{TableLengthBad, PortionBad}
 
 -- "places count from 0": how many elements stand before the first that passes the test
 unfoldable pub place_of : {A : Type 0} → (A → Bool) → List A → ℕ
@@ -80,10 +77,10 @@ reason_of n p ingress (slot.Learned e) = learned_reason n p ingress e
 reason_of n p ingress (slot.Configured e) = Configured
 
 -- the call: 2, then 24 for a slot that is not in the table, then 15 for the whole payload
-unfoldable pub why : ℕ → List ℕ → ℕ → List ℕ → WhyAnswer
+unfoldable pub why : ℕ → List ℕ → ℕ → List ℕ → Outcome Reason
 why ingress l k t =
-    settled Refused
-    (check (table_good t) table_length_bad
-    (check (ltb k (slots_of t)) portion_bad
+    settled Err
+    (check (table_good t) TableLengthBad
+    (check (ltb k (slots_of t)) PortionBad
     (and_then (payload_of every_type l) λ p.
-    got (Because (reason_of (block_count l) p ingress (unpacked (slot_at k t)))))))
+    Ok (Ok (reason_of (block_count l) p ingress (unpacked (slot_at k t)))))))

@@ -1,6 +1,6 @@
 -- The reason as the word of the C boundary.
 -- Assumes nothing.
-use Rattle.std.specs.Prelude.{ℕ, ◌+◌, ◌*◌, ◌^◌}
+use Rattle.std.specs.Prelude.{ℕ, ◌+◌, ◌*◌, ◌^◌, Ok, Err}
 use Rattle.numbers.specs.Numberings.{at_most}
 use Rattle.why.specs.declared.NicknameMatch.{NicknameMatch}
 use Rattle.why.specs.declared.NicknameMatch.TheVariants.{Sender, Listed}
@@ -10,8 +10,8 @@ use Rattle.why.specs.declared.MacMatch.{MacMatch}
 use Rattle.why.specs.declared.MacMatch.TheVariants as mac
 use Rattle.why.specs.declared.Reason.{Reason}
 use Rattle.why.specs.declared.Reason.TheVariants.{Free, Spoilt, Configured, NicknameNotMeant, LabelNotMeant, MacNotMeant, Cleared}
-use Rattle.why.specs.declared.WhyAnswer.{WhyAnswer}
-use Rattle.why.specs.declared.WhyAnswer.TheVariants.{Refused, Because}
+use Rattle.numbers.specs.Result.{Outcome}
+use Rattle.numbers.specs.Refusals.{number_of}
 
 -- the place of a reason in the order of the request
 abbrev pub reason_number : Reason → ℕ
@@ -57,6 +57,6 @@ reason_bits MacNotMeant = 0
 reason_bits (Cleared w) = nickname_bits w.nickname + label_bits w.label + mac_bits w.mac
 
 -- 64 free, 65 spoilt, 66 configured, 67 nickname, 68 label, 69 MAC not meant, 70 cleared
-abbrev pub why_word : WhyAnswer → ℕ
-why_word (Refused n) = n
-why_word (Because r) = 64 + reason_number r + reason_bits r
+abbrev pub why_word : Outcome Reason → ℕ
+why_word (Err r) = number_of r
+why_word (Ok r) = 64 + reason_number r + reason_bits r

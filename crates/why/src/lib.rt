@@ -45,13 +45,6 @@ pub enum Reason {
     Cleared(Places),
 }
 
-// The answer: a refusal number, or the reason.
-#[derive(Clone, Copy)]
-pub enum WhyAnswer {
-    Refused(u8),
-    Because(Reason),
-}
-
 // What holds of the definitions of the reason.
 pub fn claims()
     ensures { WhyExact × WhyFirst × WhyPlaces × WhyRefusals × WhyCases }

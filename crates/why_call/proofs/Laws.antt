@@ -8,7 +8,6 @@ use native.Mathlib.Nat.{add-sub_cancel_left}
 use native.Mathlib.Omega.{arith}
 use lib.ListN.{length, take, drop, length-take}
 use Rattle.numbers.specs.Tests.{pick}
-use Rattle.numbers.specs.Refusals.{table_length_bad, payload_corrupt}
 use Rattle.numbers.proofs.Truth.{false_true}
 use Rattle.numbers.proofs.Lists.{rest_is}
 use Rattle.table.specs.Record.{record_of, entry_of, unpacked, label_from, is_learned}
@@ -23,57 +22,31 @@ use Rattle.flush.specs.Validity.{Valid}
 use Rattle.flush.proofs.Validity.{validity}
 use Rattle.flush_payload.specs.Judging.{Nothing, JudgedPayload}
 use Rattle.flush_payload.specs.declared.Kinds.{Kinds}
-use Rattle.flush_payload.specs.declared.Judged.{Judged}
-use Rattle.flush_payload.specs.declared.Judged.TheVariants.{Corrupt, Good}
-use Rattle.portions.specs.Portion.{portion_bad}
 use Rattle.why.specs.Why.{nickname_match, label_match, mac_match, learned_reason, reason_of, why}
 use Rattle.why.specs.declared.NicknameMatch.{NicknameMatch}
 use Rattle.why.specs.declared.LabelMatch.{LabelMatch}
 use Rattle.why.specs.declared.MacMatch.{MacMatch}
 use Rattle.why.specs.declared.Reason.{Reason}
 use Rattle.why.specs.declared.Reason.TheVariants.{Free, Spoilt, Configured, NicknameNotMeant, LabelNotMeant, MacNotMeant, Cleared}
-use Rattle.why.specs.declared.WhyAnswer.TheVariants.{Refused, Because}
 use Rattle.why.proofs.Calls.{bad_table, past, corrupted, answered}
 use Rattle.why_places.specs.Found.{nickname_found, label_found, mac_found}
-use Rattle.why_places.specs.declared.NicknameFound.{NicknameFound}
-use Rattle.why_places.specs.declared.NicknameFound.TheVariants as nicknames
-use Rattle.why_places.specs.declared.LabelFound.{LabelFound}
-use Rattle.why_places.specs.declared.LabelFound.TheVariants as labels
-use Rattle.why_places.specs.declared.MacFound.{MacFound}
-use Rattle.why_places.specs.declared.MacFound.TheVariants as macs
 use Rattle.why_call.specs.Cut.{cut, GoodRest, GoodParts}
+use Rattle.std.specs.Prelude.{Option, Some, None, Ok, Err}
+use Rattle.numbers.specs.Result.{Outcome}
+use Rattle.numbers.specs.declared.refusals.Refusal.TheVariants.{TableLengthBad, PortionBad}
+use Rattle.numbers.specs.declared.refusals.Refusal.{Refusal}
 
 -- ---- what was found, and whether it is meant
 
-nickname_by : (b : Bool) (m n : NicknameMatch) → pick b (nicknames.By m) nicknames.NotMeant ≡ nicknames.By n → (b ≡ true) × (n ≡ m)
+found_some : {A : Type 0} (b : Bool) (m n : A) → pick b (Some m) None ≡ Some n → (b ≡ true) × (n ≡ m)
 unfolding pick
-nickname_by true m n h = (refl, (cc))
-nickname_by false m n h = let z : ◌≡◌ {A = ℕ} 0 1 = cc in absurd (omega arith)
+found_some true m n h = (refl, (cc))
+found_some false m n h = let z : ◌≡◌ {A = ℕ} 0 1 = cc in absurd (omega arith)
 
-nickname_none : (b : Bool) (m : NicknameMatch) → pick b (nicknames.By m) nicknames.NotMeant ≡ nicknames.NotMeant → b ≡ false
+found_none : {A : Type 0} (b : Bool) (m : A) → pick b (Some m) None ≡ None → b ≡ false
 unfolding pick
-nickname_none true m h = let z : ◌≡◌ {A = ℕ} 0 1 = cc in absurd (omega arith)
-nickname_none false m h = refl
-
-label_by : (b : Bool) (m n : LabelMatch) → pick b (labels.By m) labels.NotMeant ≡ labels.By n → (b ≡ true) × (n ≡ m)
-unfolding pick
-label_by true m n h = (refl, (cc))
-label_by false m n h = let z : ◌≡◌ {A = ℕ} 0 1 = cc in absurd (omega arith)
-
-label_none : (b : Bool) (m : LabelMatch) → pick b (labels.By m) labels.NotMeant ≡ labels.NotMeant → b ≡ false
-unfolding pick
-label_none true m h = let z : ◌≡◌ {A = ℕ} 0 1 = cc in absurd (omega arith)
-label_none false m h = refl
-
-mac_by : (b : Bool) (m n : MacMatch) → pick b (macs.By m) macs.NotMeant ≡ macs.By n → (b ≡ true) × (n ≡ m)
-unfolding pick
-mac_by true m n h = (refl, (cc))
-mac_by false m n h = let z : ◌≡◌ {A = ℕ} 0 1 = cc in absurd (omega arith)
-
-mac_none : (b : Bool) (m : MacMatch) → pick b (macs.By m) macs.NotMeant ≡ macs.NotMeant → b ≡ false
-unfolding pick
-mac_none true m h = let z : ◌≡◌ {A = ℕ} 0 1 = cc in absurd (omega arith)
-mac_none false m h = refl
+found_none true m h = let z : ◌≡◌ {A = ℕ} 0 1 = cc in absurd (omega arith)
+found_none false m h = refl
 
 -- ---- the reason of a learned record
 
@@ -81,59 +54,59 @@ mac_none false m h = refl
 pub label_same : (kind x k n : ℕ) → kind ≡ k → x ≡ n → label_from kind x ≡ label_from k n
 label_same kind x k n a b = rw (a, b)
 
-module _ (blocks : ℕ) (nicks rest : List ℕ) (ingress : ℕ) (e : Entry) (own : ℕ) (own_is : own ≡ e.nickname) (x : NicknameFound) (found : x ≡ nickname_found ingress nicks own) where
+module _ (blocks : ℕ) (nicks rest : List ℕ) (ingress : ℕ) (e : Entry) (own : ℕ) (own_is : own ≡ e.nickname) (x : Option NicknameMatch) (found : x ≡ nickname_found ingress nicks own) where
   nickname : x ≡ nickname_found ingress nicks e.nickname
   nickname = found ∙ ap (nickname_found ingress nicks) own_is
 
   abbrev Is : Reason → Type 0
   Is r = r ≡ learned_reason blocks (cut nicks blocks rest) ingress e
 
-  nickname_no : x ≡ nicknames.NotMeant → nickname_meant ingress nicks e.nickname ≡ false
+  nickname_no : x ≡ None → nickname_meant ingress nicks e.nickname ≡ false
   unfolding nickname_found
-  nickname_no h = nickname_none (nickname_meant ingress nicks e.nickname) (nickname_match nicks e.nickname) (sym nickname ∙ h)
+  nickname_no h = found_none (nickname_meant ingress nicks e.nickname) (nickname_match nicks e.nickname) (sym nickname ∙ h)
 
-  nickname_yes : (m : NicknameMatch) → x ≡ nicknames.By m → (nickname_meant ingress nicks e.nickname ≡ true) × (m ≡ nickname_match nicks e.nickname)
+  nickname_yes : (m : NicknameMatch) → x ≡ Some m → (nickname_meant ingress nicks e.nickname ≡ true) × (m ≡ nickname_match nicks e.nickname)
   unfolding nickname_found
-  nickname_yes m h = nickname_by (nickname_meant ingress nicks e.nickname) (nickname_match nicks e.nickname) m (sym nickname ∙ h)
+  nickname_yes m h = found_some (nickname_meant ingress nicks e.nickname) (nickname_match nicks e.nickname) m (sym nickname ∙ h)
 
-  pub reason_nickname : x ≡ nicknames.NotMeant → Is NicknameNotMeant
+  pub reason_nickname : x ≡ None → Is NicknameNotMeant
   unfolding learned_reason pick
   reason_nickname h = rw (nickname_no h)
 
-  module _ (m : NicknameMatch) (by : x ≡ nicknames.By m) (kind number : ℕ) (Label-is : label_from kind number ≡ e.label)
-      (y : LabelFound) (label : y ≡ label_found blocks (pieces_of blocks rest) (label_from kind number)) where
+  module _ (m : NicknameMatch) (by : x ≡ Some m) (kind number : ℕ) (Label-is : label_from kind number ≡ e.label)
+      (y : Option LabelMatch) (label : y ≡ label_found blocks (pieces_of blocks rest) (label_from kind number)) where
     named : y ≡ label_found blocks (pieces_of blocks rest) e.label
     named = label ∙ ap (label_found blocks (pieces_of blocks rest)) Label-is
 
-    label_no : y ≡ labels.NotMeant → label_meant every_type (pieces_of blocks rest) e.label ≡ false
+    label_no : y ≡ None → label_meant every_type (pieces_of blocks rest) e.label ≡ false
     unfolding label_found
-    label_no h = label_none (label_meant every_type (pieces_of blocks rest) e.label) (label_match blocks (pieces_of blocks rest) e.label) (sym named ∙ h)
+    label_no h = found_none (label_meant every_type (pieces_of blocks rest) e.label) (label_match blocks (pieces_of blocks rest) e.label) (sym named ∙ h)
 
-    label_yes : (k : LabelMatch) → y ≡ labels.By k → (label_meant every_type (pieces_of blocks rest) e.label ≡ true) × (k ≡ label_match blocks (pieces_of blocks rest) e.label)
+    label_yes : (k : LabelMatch) → y ≡ Some k → (label_meant every_type (pieces_of blocks rest) e.label ≡ true) × (k ≡ label_match blocks (pieces_of blocks rest) e.label)
     unfolding label_found
-    label_yes k h = label_by (label_meant every_type (pieces_of blocks rest) e.label) (label_match blocks (pieces_of blocks rest) e.label) k (sym named ∙ h)
+    label_yes k h = found_some (label_meant every_type (pieces_of blocks rest) e.label) (label_match blocks (pieces_of blocks rest) e.label) k (sym named ∙ h)
 
-    pub reason_label : y ≡ labels.NotMeant → Is LabelNotMeant
+    pub reason_label : y ≡ None → Is LabelNotMeant
     unfolding learned_reason pick
     reason_label h = rw ((nickname_yes m by).0, label_no h)
 
-    module _ (k : LabelMatch) (by-label : y ≡ labels.By k) (address : ℕ) (address_is : address ≡ e.mac) (z : MacFound) (by_mac : z ≡ mac_found (pieces_of blocks rest) address) where
+    module _ (k : LabelMatch) (by-label : y ≡ Some k) (address : ℕ) (address_is : address ≡ e.mac) (z : Option MacMatch) (by_mac : z ≡ mac_found (pieces_of blocks rest) address) where
       mac : z ≡ mac_found (pieces_of blocks rest) e.mac
       mac = by_mac ∙ ap (mac_found (pieces_of blocks rest)) address_is
 
-      mac_no : z ≡ macs.NotMeant → mac_meant every_type (pieces_of blocks rest) e.mac ≡ false
+      mac_no : z ≡ None → mac_meant every_type (pieces_of blocks rest) e.mac ≡ false
       unfolding mac_found
-      mac_no h = mac_none (mac_meant every_type (pieces_of blocks rest) e.mac) (mac_match (pieces_of blocks rest) e.mac) (sym mac ∙ h)
+      mac_no h = found_none (mac_meant every_type (pieces_of blocks rest) e.mac) (mac_match (pieces_of blocks rest) e.mac) (sym mac ∙ h)
 
-      mac_yes : (j : MacMatch) → z ≡ macs.By j → (mac_meant every_type (pieces_of blocks rest) e.mac ≡ true) × (j ≡ mac_match (pieces_of blocks rest) e.mac)
+      mac_yes : (j : MacMatch) → z ≡ Some j → (mac_meant every_type (pieces_of blocks rest) e.mac ≡ true) × (j ≡ mac_match (pieces_of blocks rest) e.mac)
       unfolding mac_found
-      mac_yes j h = mac_by (mac_meant every_type (pieces_of blocks rest) e.mac) (mac_match (pieces_of blocks rest) e.mac) j (sym mac ∙ h)
+      mac_yes j h = found_some (mac_meant every_type (pieces_of blocks rest) e.mac) (mac_match (pieces_of blocks rest) e.mac) j (sym mac ∙ h)
 
-      pub reason_mac : z ≡ macs.NotMeant → Is MacNotMeant
+      pub reason_mac : z ≡ None → Is MacNotMeant
       unfolding learned_reason pick
       reason_mac h = rw ((nickname_yes m by).0, (label_yes k by-label).0, mac_no h)
 
-      pub reason_cleared : (j : MacMatch) → z ≡ macs.By j → Is (Cleared (record { nickname = m; label = k; mac = j }))
+      pub reason_cleared : (j : MacMatch) → z ≡ Some j → Is (Cleared (record { nickname = m; label = k; mac = j }))
       unfolding learned_reason pick
       reason_cleared j h =
           rw (
@@ -187,18 +160,18 @@ blocks_alone n = record { blocks = refl; every = refl; vlans = refl; lists = ref
 -- ---- the call
 
 module _ (ingress : ℕ) (l : List ℕ) (k : ℕ) (t : List ℕ) (g : Bool) (good : g ≡ table_good t) where
-  pub why_table : g ≡ false → Refused table_length_bad ≡ why ingress l k t
+  pub why_table : g ≡ false → Err TableLengthBad ≡ why ingress l k t
   why_table h = sym (bad_table ingress l k t (sym good ∙ h))
 
   module _ (ok : g ≡ true) where
-    pub why_past : slots_of t ≤ k → Refused portion_bad ≡ why ingress l k t
+    pub why_past : slots_of t ≤ k → Err PortionBad ≡ why ingress l k t
     why_past h = sym (past ingress l k t (sym good ∙ ok) h)
 
-    module _ (inside : k < slots_of t) (j : Judged) (judged : JudgedPayload every_type l j) where
-      pub why-corrupt : j ≡ Corrupt → Refused payload_corrupt ≡ why ingress l k t
-      why-corrupt h = sym (corrupted ingress l k t (sym good ∙ ok) inside payload_corrupt (judged.bad h))
+    module _ (inside : k < slots_of t) (j : Outcome Kinds) (judged : JudgedPayload every_type l j) where
+      pub why_corrupt : (r : Refusal) → j ≡ Err r → Err r ≡ why ingress l k t
+      why_corrupt r h = sym (corrupted ingress l k t (sym good ∙ ok) inside r (judged.bad r h))
 
-      module _ (f : Kinds) (fine : j ≡ Good f) where
+      module _ (f : Kinds) (fine : j ≡ Ok f) where
         valid : Valid l
         valid = (validity.valid l).0 (judged.good f fine)
 
@@ -213,6 +186,6 @@ module _ (ingress : ℕ) (l : List ℕ) (k : ℕ) (t : List ℕ) (g : Bool) (goo
               rest = record { blocks = rw number blocks; macs = rw number macs };
             }
 
-        pub why_because : (r : Reason) → r ≡ reason_of (block_count l) (made l) ingress (unpacked (drop (slot_bytes * k) t)) → Because r ≡ why ingress l k t
+        pub why_because : (r : Reason) → r ≡ reason_of (block_count l) (made l) ingress (unpacked (drop (slot_bytes * k) t)) → Ok r ≡ why ingress l k t
         why_because r reason =
-            sym (answered ingress l k t (sym good ∙ ok) inside (made l) (judged.good f fine) ∙ ap Because (rw unpacked_near (sym reason)))
+            sym (answered ingress l k t (sym good ∙ ok) inside (made l) (judged.good f fine) ∙ ap Ok (rw unpacked_near (sym reason)))

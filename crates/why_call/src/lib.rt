@@ -11,12 +11,10 @@ ghost use Rattle.why.specs.Why.{learned_reason, reason_of, why};
 ghost use Rattle.why_call.specs.Cut.{cut, GoodRest, GoodParts};
 
 use flush::Model;
-use flush_payload::{Judged, Kinds};
-use numbers::refusals::{PAYLOAD_CORRUPT, TABLE_LENGTH_BAD};
-use portions::PORTION_BAD;
+use flush_payload::Kinds;
+use numbers::refusals::Refusal;
 use table::{SLOT_BYTES, Slot};
-use why::{Places, Reason, WhyAnswer};
-use why_places::{LabelFound, MacFound, NicknameFound};
+use why::{Places, Reason};
 
 // The bytes of a VLAN block.
 const BLOCK_BYTES: usize = 4;
@@ -28,22 +26,22 @@ fn learned_reason(ingress: u32, nicks: &[u8], rest: &[u8], f: Kinds, t: &[u8], a
     ensures { result ≡ learned_reason f.blocks (cut nicks.now f.blocks rest.now) ingress (entry_of (record_of (drop at t.now))) }
 {
     let own = table_fields::nickname_at(t, at);
-    let NicknameFound::By(nickname) = why_places::nickname_found(nicks, ingress, own) else {
+    let Some(nickname) = why_places::nickname_found(nicks, ingress, own) else {
         return Reason::NicknameNotMeant;
     };
     let kind = table_fields::kind_at(t, at);
     let number = table_fields::label_at(t, at);
-    let LabelFound::By(label) = why_places::label_found(rest, f.blocks, kind, number) else {
+    let Some(label) = why_places::label_found(rest, f.blocks, kind, number) else {
         return Reason::LabelNotMeant;
     };
     let address = table_fields::mac_at(t, at);
-    let MacFound::By(mac) = why_places::mac_found(rest, f.blocks, f.macs, address) else {
+    let Some(mac) = why_places::mac_found(rest, f.blocks, f.macs, address) else {
         return Reason::MacNotMeant;
     };
     Reason::Cleared(Places {
-        nickname: nickname,
-        label: label,
-        mac: mac,
+        nickname,
+        label,
+        mac,
     })
 }
 
@@ -75,24 +73,24 @@ fn slot_reason(ingress: u32, payload: &[u8], f: Kinds, t: &[u8], at: usize) -> R
 }
 
 // Judges a payload: VLAN blocks here, where they are counted and no more, and TLVs as the flush judges them.
-fn judge(payload: &[u8]) -> Judged
+fn judge(payload: &[u8]) -> Result<Kinds, Refusal>
     ensures { JudgedPayload every_type payload.now result }
 {
     if payload.len() < 2 {
-        return Judged::Corrupt;
+        return Err(Refusal::PayloadCorrupt);
     }
     let s = 2 + flush_payload::nick_bytes(payload);
     if payload.len() < s {
-        return Judged::Corrupt;
+        return Err(Refusal::PayloadCorrupt);
     }
     let blocks = flush_payload::block_count(payload);
     if blocks == 0 {
         return flush_payload::judge(Model::Full, payload);
     }
     if payload.len() - s < BLOCK_BYTES * blocks {
-        return Judged::Corrupt;
+        return Err(Refusal::PayloadCorrupt);
     }
-    Judged::Good(Kinds {
+    Ok(Kinds {
         blocks,
         every: false,
         vlans: false,
@@ -103,18 +101,16 @@ fn judge(payload: &[u8]) -> Judged
 }
 
 // Why did this address go? 2, then 24, then 15 for the whole payload. Nothing is changed.
-pub fn explain(ingress: u32, payload: &[u8], slot: usize, table: &[u8]) -> WhyAnswer
+pub fn explain(ingress: u32, payload: &[u8], slot: usize, table: &[u8]) -> Result<Reason, Refusal>
     ensures { result ≡ why ingress payload.now slot table.now }
 {
     if !table_records::table_good(table) {
-        return WhyAnswer::Refused(TABLE_LENGTH_BAD);
+        return Err(Refusal::TableLengthBad);
     }
     if table.len() / SLOT_BYTES <= slot {
-        return WhyAnswer::Refused(PORTION_BAD);
+        return Err(Refusal::PortionBad);
     }
     let at = SLOT_BYTES * slot;
-    match judge(payload) {
-        Judged::Corrupt => WhyAnswer::Refused(PAYLOAD_CORRUPT),
-        Judged::Good(f) => WhyAnswer::Because(slot_reason(ingress, payload, f, table, at)),
-    }
+    let f = judge(payload)?;
+    Ok(slot_reason(ingress, payload, f, table, at))
 }

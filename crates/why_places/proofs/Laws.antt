@@ -22,8 +22,6 @@ use Rattle.numbers.proofs.Truth.{and_both, between_in, either_none, false_true}
 use Rattle.numbers.proofs.Parts.{parts_end, parts_more}
 use Rattle.table.specs.declared.Label.{Label}
 use Rattle.table.specs.declared.Label.TheVariants.{Vlan, Fine}
-use Rattle.table.specs.declared.Place.{Place}
-use Rattle.table.specs.declared.Place.TheVariants.{At, Nowhere}
 use Rattle.flush.specs.Payload.{every_type, Piece, tlv, stump, tlv_end, tlvs, block_bytes}
 use Rattle.flush.specs.Meaning.{vlan_in, fine_in, mac_in, brings_label, brings_mac}
 use Rattle.flush.proofs.Validity.{tlvs_end, tlvs_rest, tlvs_more}
@@ -32,40 +30,41 @@ use Rattle.flush_members.specs.Sound.{Sound}
 use Rattle.flush_members.proofs.Laws.{block_tells, blocks_below, blocks_above}
 use Rattle.why_places.specs.Found.{first_from}
 use Rattle.why_places.specs.Reading.{LastByte, EmptyAt}
+use Rattle.std.specs.Prelude.{Option, Some, None}
 
 -- ---- a place that is found
 
 module _ {A : Type 0} (p : A → Bool) where
-  by_head : (b : Bool) (k n : ℕ) (more : Bool) (rest : Place) → rest ≡ pick more (At (suc k + n)) Nowhere → pick b (At k) rest ≡ pick (either b more) (At (k + pick b 0 (suc n))) Nowhere
+  by_head : (b : Bool) (k n : ℕ) (more : Bool) (rest : Option ℕ) → rest ≡ pick more (Some (suc k + n)) None → pick b (Some k) rest ≡ pick (either b more) (Some (k + pick b 0 (suc n))) None
   unfolding pick either
   by_head true k n more rest e = rw (add-zero k)
-  by_head false k n more rest e = let next : suc k + n ≡ k + suc n = omega arith in e ∙ ap (λ (j : ℕ). pick more (At j) Nowhere) next
+  by_head false k n more rest e = let next : suc k + n ≡ k + suc n = omega arith in e ∙ ap (λ (j : ℕ). pick more (Some j) None) next
 
-  first_is : (k : ℕ) (xs : List A) → first_from p k xs ≡ pick (any_of p xs) (At (k + place_of p xs)) Nowhere
+  first_is : (k : ℕ) (xs : List A) → first_from p k xs ≡ pick (any_of p xs) (Some (k + place_of p xs)) None
   unfolding first_from any_of place_of pick
   first_is k [] = refl
   first_is k (x ∷ xs) = by_head (p x) k (place_of p xs) (any_of p xs) _ (first_is (suc k) xs)
 
-  picked_at : (b : Bool) (n i : ℕ) → pick b (At n) Nowhere ≡ At i → (b ≡ true) × (i ≡ n)
+  picked_at : (b : Bool) (n i : ℕ) → pick b (Some n) None ≡ Some i → (b ≡ true) × (i ≡ n)
   unfolding pick
   picked_at true n i h = (refl, (cc))
   picked_at false n i h = let z : ◌≡◌ {A = ℕ} 0 1 = cc in absurd (omega arith)
 
-  picked_none : (b : Bool) (n : ℕ) → pick b (At n) Nowhere ≡ Nowhere → b ≡ false
+  picked_none : (b : Bool) (n : ℕ) → pick b (Some n) None ≡ None → b ≡ false
   unfolding pick
   picked_none true n h = let z : ◌≡◌ {A = ℕ} 0 1 = cc in absurd (omega arith)
   picked_none false n h = refl
 
-  module _ (xs : List A) (r : Place) (found : r ≡ first_from p 0 xs) where
-    pub found_at : (i : ℕ) → r ≡ At i → (any_of p xs ≡ true) × (i ≡ place_of p xs)
+  module _ (xs : List A) (r : Option ℕ) (found : r ≡ first_from p 0 xs) where
+    pub found_at : (i : ℕ) → r ≡ Some i → (any_of p xs ≡ true) × (i ≡ place_of p xs)
     found_at i h =
         let (some, place) = picked_at (any_of p xs) (0 + place_of p xs) i (sym (first_is 0 xs) ∙ sym found ∙ h) in
         (some, omega arith)
 
-    pub found_none : r ≡ Nowhere → any_of p xs ≡ false
+    pub found_none : r ≡ None → any_of p xs ≡ false
     found_none h = picked_none (any_of p xs) (0 + place_of p xs) (sym (first_is 0 xs) ∙ sym found ∙ h)
 
-  none_first : (k : ℕ) (xs : List A) → any_of p xs ≡ false → first_from p k xs ≡ Nowhere
+  none_first : (k : ℕ) (xs : List A) → any_of p xs ≡ false → first_from p k xs ≡ None
   unfolding pick
   none_first k xs h = first_is k xs ∙ rw h
 
@@ -79,8 +78,8 @@ tlv_more l at e end fits =
     let n : e - (at + 2) ≡ get_or (drop at l) 1 0 = omega arith in
     tlvs_more (drop at l) (omega arith) ∙ rw (n, f, drop-drop 2 at l, drop-drop (tlv_end (drop at l)) at l, end)
 
-module _ (ask : Piece → Bool) (l : List ℕ) (at i : ℕ) (x : Place) (inv : x ≡ first_from ask i (tlvs (drop at l))) where
-  pub walk_done : length l ≤ at → Nowhere ≡ x
+module _ (ask : Piece → Bool) (l : List ℕ) (at i : ℕ) (x : Option ℕ) (inv : x ≡ first_from ask i (tlvs (drop at l))) where
+  pub walk_done : length l ≤ at → None ≡ x
   unfolding first_from
   walk_done h =
       let d : length (drop at l) ≡ length l - at = length-drop at l in
@@ -88,17 +87,17 @@ module _ (ask : Piece → Bool) (l : List ℕ) (at i : ℕ) (x : Place) (inv : x
 
   module _ (more : at < length l) (e : ℕ) (end : e ≡ at + tlv_end (drop at l)) where
     -- a lone last byte, which is padding where the payload is good, has no place
-    pub walk_cut : length l < e → false ≡ ask stump → Nowhere ≡ x
+    pub walk_cut : length l < e → false ≡ ask stump → None ≡ x
     walk_cut short none =
         let d : length (drop at l) ≡ length l - at = length-drop at l in
         sym (inv ∙ none_first ask i _ (tlvs_rest ask (sym none) (drop at l) (omega arith)))
 
     module _ (fits : e ≤ length l) (h : Bool) (here : h ≡ ask (tlv (get_or l at 0) (take (e - (at + 2)) (drop (at + 2) l)))) where
-      walk_here : x ≡ pick h (At i) (first_from ask (suc i) (tlvs (drop e l)))
+      walk_here : x ≡ pick h (Some i) (first_from ask (suc i) (tlvs (drop e l)))
       unfolding first_from
       walk_here = inv ∙ ap (first_from ask i) (tlv_more l at e end fits) ∙ rw here
 
-      pub walk_hit : h ≡ true → At i ≡ x
+      pub walk_hit : h ≡ true → Some i ≡ x
       unfolding pick
       walk_hit t = sym (rw t at walk_here)
 
@@ -207,10 +206,10 @@ block_told v at x s e start end a b = block_tells vlans v at (s % 4096) (e % 409
 
 module _ (x : ℕ) (v : List ℕ) where
   -- no block has a number that is no VLAN
-  pub block_below : x < first_vlan → Nowhere ≡ first_from (in_block vlans x) 0 (parts block_bytes v)
+  pub block_below : x < first_vlan → None ≡ first_from (in_block vlans x) 0 (parts block_bytes v)
   unfolding in_blocks
   block_below h = sym (none_first (in_block vlans x) 0 _ (sym (blocks_below vlans x v h)))
 
-  pub block_above : last_vlan < x → Nowhere ≡ first_from (in_block vlans x) 0 (parts block_bytes v)
+  pub block_above : last_vlan < x → None ≡ first_from (in_block vlans x) 0 (parts block_bytes v)
   unfolding in_blocks
   block_above h = sym (none_first (in_block vlans x) 0 _ (sym (blocks_above vlans x v h)))

@@ -14,8 +14,6 @@ use Rattle.numbers.specs.Bytes.{parts_from, parts}
 use Rattle.numbers.specs.Numberings.{vlans, in_block, in_list}
 use Rattle.numbers.proofs.Truth.{pick_true, false_true}
 use Rattle.table.specs.Record.{label_from}
-use Rattle.table.specs.declared.Place.{Place}
-use Rattle.table.specs.declared.Place.TheVariants.{At, Nowhere}
 use Rattle.flush.specs.Payload.{every_type, Piece, tlv, block, stump, tlvs, block_bytes, pieces_of}
 use Rattle.flush.specs.Meaning.{brings_label, brings_mac, some_mac_in, gathers_mac, nickname_meant, label_meant, mac_meant}
 use Rattle.flush_tlvs.proofs.Laws.{label_vlan}
@@ -26,10 +24,8 @@ use Rattle.why.specs.declared.NicknameMatch.TheVariants.{Sender, Listed}
 use Rattle.why.specs.declared.LabelMatch.TheVariants as label
 use Rattle.why.specs.declared.MacMatch.TheVariants as mac
 use Rattle.why_places.specs.Found.{first_from, nickname_found, label_found, mac_found}
-use Rattle.why_places.specs.declared.NicknameFound.TheVariants as nicknames
-use Rattle.why_places.specs.declared.LabelFound.TheVariants as labels
-use Rattle.why_places.specs.declared.MacFound.TheVariants as macs
 use Rattle.why_places.proofs.Laws.{found_at, found_none}
+use Rattle.std.specs.Prelude.{Option, Some, None}
 
 -- ---- the nickname
 
@@ -61,21 +57,21 @@ pairs (suc n) l = pairs_step (leb 2 (length l)) l (parts_from 2 n (drop 2 l)) re
 
 module _ (ingress : ℕ) (nicks : List ℕ) (x : ℕ) where
   module _ (none : length nicks ≡ 0) where
-    pub sender_meant : x ≡ ingress → nicknames.By Sender ≡ nickname_found ingress nicks x
+    pub sender_meant : x ≡ ingress → Some Sender ≡ nickname_found ingress nicks x
     unfolding nickname_found nickname_meant nickname_match pick
     sender_meant e = rw (eq-eqb (length nicks) 0 none, eq-eqb x ingress e)
 
-    pub sender_not : (x ≡ ingress → ⊥) → nicknames.NotMeant ≡ nickname_found ingress nicks x
+    pub sender_not : (x ≡ ingress → ⊥) → None ≡ nickname_found ingress nicks x
     unfolding nickname_found nickname_meant nickname_match pick
     sender_not e = rw (eq-eqb (length nicks) 0 none, ne_eqb x ingress e)
 
-  module _ (some : length nicks ≡ 0 → ⊥) (r : Place) (found : r ≡ first_from (nickname_is x) 0 (listed nicks)) where
-    pub listed_not : r ≡ Nowhere → nicknames.NotMeant ≡ nickname_found ingress nicks x
+  module _ (some : length nicks ≡ 0 → ⊥) (r : Option ℕ) (found : r ≡ first_from (nickname_is x) 0 (listed nicks)) where
+    pub listed_not : r ≡ None → None ≡ nickname_found ingress nicks x
     unfolding nickname_found nickname_meant nickname_match in_list pick
     listed_not h = rw (ne_eqb (length nicks) 0 some, found_none (nickname_is x) (listed nicks) r found h)
 
-    module _ (i : ℕ) (h : r ≡ At i) where
-      pub listed_meant : nicknames.By (Listed i) ≡ nickname_found ingress nicks x
+    module _ (i : ℕ) (h : r ≡ Some i) where
+      pub listed_meant : Some (Listed i) ≡ nickname_found ingress nicks x
       unfolding nickname_found nickname_meant nickname_match in_list pick
       listed_meant =
           let (hit, place) = found_at (nickname_is x) (listed nicks) r found i h in
@@ -105,31 +101,31 @@ module _ (p : Piece → Bool) where
   place_blocks (b ∷ bs) = rw (place_blocks bs)
 
 module _ (n : ℕ) (rest : List ℕ) (kind x : ℕ) where
-  module _ (none : n ≡ 0) (r : Place) (found : r ≡ first_from (brings_label every_type (label_from kind x)) 0 (tlvs rest)) where
-    pub tlv_not : r ≡ Nowhere → labels.NotMeant ≡ label_found n (pieces_of n rest) (label_from kind x)
+  module _ (none : n ≡ 0) (r : Option ℕ) (found : r ≡ first_from (brings_label every_type (label_from kind x)) 0 (tlvs rest)) where
+    pub tlv_not : r ≡ None → None ≡ label_found n (pieces_of n rest) (label_from kind x)
     unfolding label_found label_meant pieces_of pick
     tlv_not h = rw (eq-eqb n 0 none, found_none _ (tlvs rest) r found h)
 
-    pub tlv_meant : (i : ℕ) → r ≡ At i → labels.By (label.Tlv i) ≡ label_found n (pieces_of n rest) (label_from kind x)
+    pub tlv_meant : (i : ℕ) → r ≡ Some i → Some (label.Tlv i) ≡ label_found n (pieces_of n rest) (label_from kind x)
     unfolding label_found label_meant label_match pieces_of pick
     tlv_meant i h =
         let (hit, place) = found_at (brings_label every_type (label_from kind x)) (tlvs rest) r found i h in
         rw (eq-eqb n 0 none, hit, place)
 
   module _ (some : n ≡ 0 → ⊥) where
-    pub block_fine : (kind ≡ 0 → ⊥) → labels.NotMeant ≡ label_found n (pieces_of n rest) (label_from kind x)
+    pub block_fine : (kind ≡ 0 → ⊥) → None ≡ label_found n (pieces_of n rest) (label_from kind x)
     unfolding label_found pick
     block_fine h = rw (← blocks_fine n rest some kind x h)
 
-    module _ (vlan : kind ≡ 0) (r : Place) (found : r ≡ first_from (in_block vlans x) 0 (parts block_bytes (take (block_bytes * n) rest))) where
+    module _ (vlan : kind ≡ 0) (r : Option ℕ) (found : r ≡ first_from (in_block vlans x) 0 (parts block_bytes (take (block_bytes * n) rest))) where
       abbrev blocks : List (List ℕ)
       blocks = parts block_bytes (take (block_bytes * n) rest)
 
-      pub block_not : r ≡ Nowhere → labels.NotMeant ≡ label_found n (pieces_of n rest) (label_from kind x)
+      pub block_not : r ≡ None → None ≡ label_found n (pieces_of n rest) (label_from kind x)
       unfolding label_found label_meant brings_label pieces_of pick
       block_not h = rw (ne_eqb n 0 some, label_vlan kind x vlan, any_blocks, found_none (in_block vlans x) blocks r found h)
 
-      pub block_meant : (i : ℕ) → r ≡ At i → labels.By (label.Block i) ≡ label_found n (pieces_of n rest) (label_from kind x)
+      pub block_meant : (i : ℕ) → r ≡ Some i → Some (label.Block i) ≡ label_found n (pieces_of n rest) (label_from kind x)
       unfolding label_found label_meant label_match brings_label pieces_of pick
       block_meant i h =
           let (hit, place) = found_at (in_block vlans x) blocks r found i h in
@@ -156,12 +152,12 @@ none_gathers (p ∷ ps) e =
     let m = neither (of_kind every_type mac_kind p) (any_of (of_kind every_type mac_kind) ps) e in
     rw (not_gathers p m.0) (none_gathers ps m.1)
 
-pub mac_unnoted : (n : ℕ) (rest : List ℕ) (m : ℕ) (b : Bool) → b ≡ any_of (of_kind every_type mac_kind) (pieces_of n rest) → b ≡ false → macs.By mac.Every ≡ mac_found (pieces_of n rest) m
+pub mac_unnoted : (n : ℕ) (rest : List ℕ) (m : ℕ) (b : Bool) → b ≡ any_of (of_kind every_type mac_kind) (pieces_of n rest) → b ≡ false → Some mac.Every ≡ mac_found (pieces_of n rest) m
 unfolding mac_found mac_meant mac_match pick either
 mac_unnoted n rest m b noted h = rw (none_gathers (pieces_of n rest) (sym noted ∙ h))
 
 module _ (n : ℕ) (rest : List ℕ) (m : ℕ) (g : Bool) (gathers : g ≡ any_of (gathers_mac every_type) (pieces_of n rest)) where
-  pub mac_every : g ≡ false → macs.By mac.Every ≡ mac_found (pieces_of n rest) m
+  pub mac_every : g ≡ false → Some mac.Every ≡ mac_found (pieces_of n rest) m
   unfolding mac_found mac_meant mac_match pick either
   mac_every h = rw (← gathers, h)
 
@@ -174,12 +170,12 @@ module _ (n : ℕ) (rest : List ℕ) (m : ℕ) (g : Bool) (gathers : g ≡ any_o
       go (yes e) = pick_true (eqb n 0) _ _ (eq-eqb n 0 e)
       go (no d) = false_true (blocks_gather n rest d ∙ sym gathers ∙ some)
 
-  module _ (some : g ≡ true) (r : Place) (found : r ≡ first_from (brings_mac every_type m) 0 (tlvs rest)) where
-    pub mac_not : r ≡ Nowhere → macs.NotMeant ≡ mac_found (pieces_of n rest) m
+  module _ (some : g ≡ true) (r : Option ℕ) (found : r ≡ first_from (brings_mac every_type m) 0 (tlvs rest)) where
+    pub mac_not : r ≡ None → None ≡ mac_found (pieces_of n rest) m
     unfolding mac_found mac_meant pick either
     mac_not h = rw (← gathers, some, gathered-tlvs some, found_none (brings_mac every_type m) (tlvs rest) r found h)
 
-    pub mac_meant_lem : (i : ℕ) → r ≡ At i → macs.By (mac.Tlv i) ≡ mac_found (pieces_of n rest) m
+    pub mac_meant_lem : (i : ℕ) → r ≡ Some i → Some (mac.Tlv i) ≡ mac_found (pieces_of n rest) m
     unfolding mac_found mac_meant mac_match pick either
     mac_meant_lem i h =
         let (hit, place) = found_at (brings_mac every_type m) (tlvs rest) r found i h in

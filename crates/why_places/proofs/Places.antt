@@ -22,8 +22,6 @@ use Rattle.std.proofs.lemmas.Iterator.{YieldsList}
 use Rattle.numbers.specs.Tests.{pick}
 use Rattle.numbers.specs.Bytes.{parts}
 use Rattle.numbers.proofs.Parts.{parts_end, parts_more}
-use Rattle.table.specs.declared.Place.{Place}
-use Rattle.table.specs.declared.Place.TheVariants.{At, Nowhere}
 use Rattle.why_places.specs.Found.{first_from}
 
 module _ (k : ℕ) (some : 0 < k) where
@@ -62,9 +60,9 @@ module _ (k : ℕ) (some : 0 < k) where
 
 -- ---- what `position` answers, as a place
 
-abbrev placed : ℕ → Option ℕ → Place
-placed k None = Nowhere
-placed k (Some i) = At (k + i)
+abbrev placed : ℕ → Option ℕ → Option ℕ
+placed k None = None
+placed k (Some i) = Some (k + i)
 
 abbrev position_of : {A : Type 0} → (A → Bool) → List A → Option ℕ
 position_of p xs = cond (ltb (position_or_len p xs) (length xs)) (Some (position_or_len p xs)) None
@@ -76,7 +74,7 @@ ltb_next m n = elim (cases_lt m n) [
 ]
 
 later : (b : Bool) (k n : ℕ) → placed k (cond b (Some (suc n)) None) ≡ placed (suc k) (cond b (Some n) None)
-later true k n = let e : k + suc n ≡ suc k + n = omega arith in ap At e
+later true k n = let e : k + suc n ≡ suc k + n = omega arith in ap Some e
 later false k n = refl
 
 position_first : {A : Type 0} (p : A → Bool) (xs : List A) (k : ℕ) → placed k (position_of p xs) ≡ first_from p k xs
@@ -85,14 +83,14 @@ position_first p [] k = refl
 position_first p (x ∷ xs) k = go (p x) (position_first p xs (suc k))
   where
     go : (b : Bool) → placed (suc k) (position_of p xs) ≡ first_from p (suc k) xs
-        → (let n = cond (not b) (1 + position_or_len p xs) 0 in placed k (cond (ltb n (suc (length xs))) (Some n) None)) ≡ pick b (At k) (first_from p (suc k) xs)
+        → (let n = cond (not b) (1 + position_or_len p xs) 0 in placed k (cond (ltb n (suc (length xs))) (Some n) None)) ≡ pick b (Some k) (first_from p (suc k) xs)
     go true rest = let front : ltb 0 (suc (length xs)) ≡ true = le-leb 1 (suc (length xs)) (omega arith) in rw (front, add-zero k)
     go false rest = let one : 1 + position_or_len p xs ≡ suc (position_or_len p xs) = omega arith in rw (one, ltb_next (position_or_len p xs) (length xs)) (later (ltb (position_or_len p xs) (length xs)) k (position_or_len p xs) ∙ rest)
 
-abbrev pub as_place : Option ℕ → Place
-as_place None = Nowhere
-as_place (Some i) = At i
+abbrev pub as_place : Option ℕ → Option ℕ
+as_place None = None
+as_place (Some i) = Some i
 
 pub place_first : {A : Type 0} (p : A → Bool) (xs : List A) (r : Option ℕ) → r ≡ cond (ltb (position_or_len p xs) (length xs)) (Some (position_or_len p xs)) None → as_place r ≡ first_from p 0 xs
 place_first p xs None e = ap (placed 0) e ∙ position_first p xs 0
-place_first p xs (Some i) e = let z : i ≡ 0 + i = omega arith in ap At z ∙ ap (placed 0) e ∙ position_first p xs 0
+place_first p xs (Some i) e = let z : i ≡ 0 + i = omega arith in ap Some z ∙ ap (placed 0) e ∙ position_first p xs 0

@@ -18,7 +18,7 @@ ghost use Rattle.why_places.specs.Found.{first_from, nickname_found, label_found
 
 use flush_members::{FINES, MACS};
 use numbers::{FIRST_VLAN, LAST_VLAN, Numbering};
-use table::{Place, VLAN_KIND};
+use table::VLAN_KIND;
 use why::{LabelMatch, MacMatch, NicknameMatch};
 
 // The bytes of a listed nickname, and of a VLAN block.
@@ -33,25 +33,6 @@ const VLANS: u64 = 0x1000;
 const FIRST_TYPE: u8 = 1;
 
 const LAST_TYPE: u8 = 8;
-
-// Whether a nickname is meant, and what brought it; the same of a label and of a MAC.
-#[derive(Clone, Copy)]
-pub enum NicknameFound {
-    By(NicknameMatch),
-    NotMeant,
-}
-
-#[derive(Clone, Copy)]
-pub enum LabelFound {
-    By(LabelMatch),
-    NotMeant,
-}
-
-#[derive(Clone, Copy)]
-pub enum MacFound {
-    By(MacMatch),
-    NotMeant,
-}
 
 // ---- lists: a number is read whole only where its last byte is that of x
 
@@ -200,13 +181,13 @@ fn brings_mac(m: u64, k: u8, v: &[u8]) -> bool
 // ---- the walks
 
 // The first listed nickname that is x.
-fn listed_place(nicks: &[u8], x: u64) -> Place
+fn listed_place(nicks: &[u8], x: u64) -> Option<usize>
     ensures { result ≡ first_from (nickname_is x) 0 (listed nicks.now) }
 {
     let mut parts = nicks.chunks_exact(NICKNAME_BYTES);
     match parts.position(|n| flush_members::in_nicknames(n, x)) {
-        Some(i) => Place::At(i),
-        None => Place::Nowhere,
+        Some(i) => Some(i),
+        None => None,
     }
 }
 
@@ -221,19 +202,19 @@ fn block_has(b: &[u8], x: u64) -> bool
 }
 
 // The first VLAN block that has VLAN x in it.
-fn block_place(v: &[u8], x: u64) -> Place
+fn block_place(v: &[u8], x: u64) -> Option<usize>
     ensures { result ≡ first_from (in_block vlans x) 0 (parts block_bytes v.now) }
 {
     if x < FIRST_VLAN {
-        return Place::Nowhere;
+        return None;
     }
     if LAST_VLAN < x {
-        return Place::Nowhere;
+        return None;
     }
     let mut blocks = v.chunks_exact(BLOCK_BYTES);
     match blocks.position(|b| block_has(b, x)) {
-        Some(i) => Place::At(i),
-        None => Place::Nowhere,
+        Some(i) => Some(i),
+        None => None,
     }
 }
 
@@ -253,7 +234,7 @@ fn empty_at(l: &[u8], at: usize) -> bool
 }
 
 // The first TLV that brings what is sought: of these `brings` says so at the type and the value.
-fn tlv_place<F: Fn(u8, &[u8]) -> bool>(l: &[u8], brings: F) -> Place
+fn tlv_place<F: Fn(u8, &[u8]) -> bool>(l: &[u8], brings: F) -> Option<usize>
     requires { F.IsAlwaysCallable brings }
     ensures { (ask : Piece → Bool) → Asks F.Fn brings ask → result ≡ first_from ask 0 (tlvs l.now) }
 {
@@ -268,85 +249,85 @@ fn tlv_place<F: Fn(u8, &[u8]) -> bool>(l: &[u8], brings: F) -> Place
         }
         let e = flush_tlvs::end_of(l, at);
         if l.len() < e {
-            return Place::Nowhere;
+            return None;
         }
         let s = at + 2;
         if brings(l[at], &l[s..e]) {
-            return Place::At(tlv);
+            return Some(tlv);
         }
         at = e;
         tlv += 1;
     }
-    Place::Nowhere
+    None
 }
 
 // The first TLV that brings a label, which is given by its kind and its number.
-fn label_place(l: &[u8], kind: u64, x: u64) -> Place
+fn label_place(l: &[u8], kind: u64, x: u64) -> Option<usize>
     ensures { result ≡ first_from (brings_label every_type (label_from kind x)) 0 (tlvs l.now) }
 {
     tlv_place(l, |k, v| brings_label(kind, x, k, v))
 }
 
 // The first TLV that brings a MAC.
-fn mac_place(l: &[u8], m: u64) -> Place
+fn mac_place(l: &[u8], m: u64) -> Option<usize>
     ensures { result ≡ first_from (brings_mac every_type m) 0 (tlvs l.now) }
 {
     tlv_place(l, |k, v| brings_mac(m, k, v))
 }
 
 // The nickname: without a list only the sender is meant, otherwise the listed ones. A payload lists at most 255.
-pub fn nickname_found(nicks: &[u8], ingress: u32, x: u64) -> NicknameFound
+pub fn nickname_found(nicks: &[u8], ingress: u32, x: u64) -> Option<NicknameMatch>
     requires { length nicks.now < 512 }
     ensures { result ≡ nickname_found ingress nicks.now x }
 {
     if nicks.len() == 0 {
         if x == ingress as u64 {
-            return NicknameFound::By(NicknameMatch::Sender);
+            return Some(NicknameMatch::Sender);
         }
-        return NicknameFound::NotMeant;
+        return None;
     }
-    let Place::At(i) = listed_place(nicks, x) else {
-        return NicknameFound::NotMeant;
+    let Some(i) = listed_place(nicks, x) else {
+        return None;
     };
     let k = i as u8;
-    NicknameFound::By(NicknameMatch::Listed(k))
+    Some(NicknameMatch::Listed(k))
 }
 
 // The label: some VLAN block brings it, which names VLANs only, or some TLV.
-pub fn label_found(rest: &[u8], blocks: usize, kind: u64, x: u64) -> LabelFound
+pub fn label_found(rest: &[u8], blocks: usize, kind: u64, x: u64) -> Option<LabelMatch>
     requires { block_bytes * blocks ≤ length rest.now }
     ensures { result ≡ label_found blocks (pieces_of blocks rest.now) (label_from kind x) }
 {
     if blocks == 0 {
-        let Place::At(i) = label_place(rest, kind, x) else {
-            return LabelFound::NotMeant;
+        let Some(i) = label_place(rest, kind, x) else {
+            return None;
         };
-        return LabelFound::By(LabelMatch::Tlv(i));
+        return Some(LabelMatch::Tlv(i));
     }
     if kind != VLAN_KIND {
-        return LabelFound::NotMeant;
+        return None;
     }
     let e = BLOCK_BYTES * blocks;
-    let Place::At(i) = block_place(&rest[..e], x) else {
-        return LabelFound::NotMeant;
+    let Some(i) = block_place(&rest[..e], x) else {
+        return None;
     };
-    LabelFound::By(LabelMatch::Block(i))
+    Some(LabelMatch::Block(i))
 }
 
 // The MAC: every MAC is meant where none was gathered, otherwise those that some TLV brings. They are looked for only where TLVs of MACs
 // were noted.
-pub fn mac_found(rest: &[u8], blocks: usize, noted: bool, m: u64) -> MacFound
+pub fn mac_found(rest: &[u8], blocks: usize, noted: bool, m: u64) -> Option<MacMatch>
     requires { noted ≡ any_of (of_kind every_type mac_kind) (pieces_of blocks rest.now) }
     ensures { result ≡ mac_found (pieces_of blocks rest.now) m }
 {
     if !noted {
-        return MacFound::By(MacMatch::Every);
+        return Some(MacMatch::Every);
     }
     if !flush_payload::some_mac(rest, blocks) {
-        return MacFound::By(MacMatch::Every);
+        return Some(MacMatch::Every);
     }
-    let Place::At(i) = mac_place(rest, m) else {
-        return MacFound::NotMeant;
+    let Some(i) = mac_place(rest, m) else {
+        return None;
     };
-    MacFound::By(MacMatch::Tlv(i))
+    Some(MacMatch::Tlv(i))
 }

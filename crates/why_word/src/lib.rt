@@ -1,12 +1,12 @@
 // The reason as the word of the C boundary.
 #![tactic(auto)]
 
-ghost use Rattle.std.specs.Prelude.{◌^◌, ◌<◌, ◌≤◌, ◌≡◌};
+ghost use Rattle.std.specs.Prelude.{◌^◌, ◌<◌, ◌≤◌, ◌≡◌, Ok};
 ghost use Rattle.why.specs.Words.{most_shown, shown, nickname_bits, label_bits, mac_bits, why_word};
 ghost use Rattle.why.specs.declared.Reason.TheVariants.{Cleared};
-ghost use Rattle.why.specs.declared.WhyAnswer.TheVariants.{Because};
 
-use why::{LabelMatch, MacMatch, NicknameMatch, Places, Reason, WhyAnswer};
+use numbers::refusals::Refusal;
+use why::{LabelMatch, MacMatch, NicknameMatch, Places, Reason};
 
 // The kind of each reason, in their order.
 const FREE: u64 = 64;
@@ -75,7 +75,7 @@ fn mac_bits(m: MacMatch) -> u64
 
 // What brought a record that is cleared.
 fn places_word(w: Places) -> u64
-    ensures { result ≡ why_word (Because (Cleared w)) }
+    ensures { result ≡ why_word (Ok (Cleared w)) }
 {
     let nickname = w.nickname;
     let label = w.label;
@@ -84,7 +84,7 @@ fn places_word(w: Places) -> u64
 }
 
 fn reason_word(r: Reason) -> u64
-    ensures { result ≡ why_word (Because r) }
+    ensures { result ≡ why_word (Ok r) }
 {
     match r {
         Reason::Free => FREE,
@@ -97,11 +97,11 @@ fn reason_word(r: Reason) -> u64
     }
 }
 
-pub fn why_word(a: WhyAnswer) -> u64
+pub fn why_word(a: Result<Reason, Refusal>) -> u64
     ensures { result ≡ why_word a }
 {
     match a {
-        WhyAnswer::Refused(n) => n as u64,
-        WhyAnswer::Because(r) => reason_word(r),
+        Err(r) => u64::from(r),
+        Ok(r) => reason_word(r),
     }
 }

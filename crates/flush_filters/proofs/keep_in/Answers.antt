@@ -6,10 +6,10 @@ use borrow.Author.Rules.{rules}
 use Rattle.flush_filters.proofs.keep_in.Goals as goal
 
 pub keep_listed-requires : goal.keep_listed-requires
-keep_listed-requires c = let listing = c.list_marked.ensures in let long = listing.long in ((c.requires.0, listing.held _ c.in-Held.is), (search rules, search rules))
+keep_listed-requires c = let listing = c.list_marked.ensures in let long = listing.long in ((c.requires.0, listing.held _ c.in-Some.is), (search rules, search rules))
 
-pub returns-in-Held : goal.returns-in-Held
-returns-in-Held c = (kept_all _ _ _ _ c.keep_listed.ensures, λ e. false_true (sym e))
+pub returns-in-Some : goal.returns-in-Some
+returns-in-Some c = (kept_all _ _ _ _ c.keep_listed.ensures, λ e. false_true (sym e))
 
-pub returns-in-Full : goal.returns-in-Full
-returns-in-Full c = (kept_none _ _ _, λ e. search full_room)
+pub returns-in-None : goal.returns-in-None
+returns-in-None c = (kept_none _ _ _, λ e. search full_room)

@@ -29,29 +29,29 @@ pub loop-k-preserved-then-has : goal.loop-k-preserved-then-has
 loop-k-preserved-then-has c = (search rules, cleared_next _ _ _ _ _ c.loop-k.invariant.1 (omega arith) _ c.has.ensures c.if-has.true _ c.clear_slot.ensures)
 
 -- the slot that was found is one of the table
-pub clear_slot-requires-in-At : goal.clear_slot-requires-in-At
-clear_slot-requires-in-At c =
-    let inside = (c.next_marked.ensures.hit _ c.in-At.is).within in
+pub clear_slot-requires-in-Some : goal.clear_slot-requires-in-Some
+clear_slot-requires-in-Some c =
+    let inside = (c.next_marked.ensures.hit _ c.in-Some.is).within in
     let long = c.loop-k.invariant.1.long in
     omega arith
 
-pub overflow_add-k-in-At : goal.overflow_add-k-in-At
-overflow_add-k-in-At c =
-    let inside = (c.next_marked.ensures.hit _ c.in-At.is).within in
+pub overflow_add-k-in-Some : goal.overflow_add-k-in-Some
+overflow_add-k-in-Some c =
+    let inside = (c.next_marked.ensures.hit _ c.in-Some.is).within in
     omega arith
 
 pub loop-k-smaller : goal.loop-k-smaller
 loop-k-smaller c =
-    let f = c.next_marked.ensures.hit _ c.in-At.is in
+    let f = c.next_marked.ensures.hit _ c.in-Some.is in
     let far = f.behind in
     let inside = f.within in
     omega arith
 
 pub loop-k-preserved : goal.loop-k-preserved
-loop-k-preserved c = cleared_found _ _ _ _ _ c.loop-k.invariant.1 _ c.has.ensures c.if-has.false _ c.next_marked.ensures _ c.in-At.is _ c.clear_slot-in-At.ensures
+loop-k-preserved c = cleared_found _ _ _ _ _ c.loop-k.invariant.1 _ c.has.ensures c.if-has.false _ c.next_marked.ensures _ c.in-Some.is _ c.clear_slot-in-Some.ensures
 
-pub returns-in-Nowhere : goal.returns-in-Nowhere
-returns-in-Nowhere c = search cleared_rest
+pub returns-in-None : goal.returns-in-None
+returns-in-None c = search cleared_rest
 
 pub returns : goal.returns
 returns c = search cleared_ends

@@ -1,6 +1,7 @@
 -- `portions_call::portion` meets its contract: refused, corrupt, or cleared; all three numbers are at most 4,096.
 use native.Mathlib.Omega.{arith}
 use Rattle.portions_call.proofs.Laws.{portion_table, portion_refused, portion_below, portion_within, portion_corrupt, portion_done, count_fits, examined_fits}
+use Rattle.std.proofs.lemmas.Result.{err_from_is_err_and}
 use Rattle.portions_call.proofs.portion.Goals as goal
 
 pub returns-then-not-table_good : goal.returns-then-not-table_good
@@ -22,25 +23,25 @@ clear_portion-requires c =
 pub overflow_cast-result : goal.overflow_cast-result
 overflow_cast-result c =
     let a = c.args in
-    omega (arith, count_fits a.ingress a.payload.now a.slot a.k a.table.now _ c.table_good.ensures c.if-not-table_good.false c.if-k-n.false _ c.steps-m.ensures _ _ c.clear_portion.ensures _ c.in-Done.is)
+    omega (arith, count_fits a.ingress a.payload.now a.slot a.k a.table.now _ c.table_good.ensures c.if-not-table_good.false c.if-k-n.false _ c.steps-m.ensures _ _ c.clear_portion.ensures _ (c.in_ok-s.was))
 
 pub overflow_add-result : goal.overflow_add-result
 overflow_add-result c =
     let a = c.args in
-    omega (arith, examined_fits a.ingress a.payload.now a.slot a.k a.table.now _ c.table_good.ensures c.if-not-table_good.false c.if-k-n.false _ c.steps-m.ensures _ _ c.clear_portion.ensures _ c.in-Done.is)
+    omega (arith, examined_fits a.ingress a.payload.now a.slot a.k a.table.now _ c.table_good.ensures c.if-not-table_good.false c.if-k-n.false _ c.steps-m.ensures _ _ c.clear_portion.ensures _ (c.in_ok-s.was))
 
-pub overflow_cast-result-in-Done : goal.overflow_cast-result-in-Done
-overflow_cast-result-in-Done c =
+pub overflow_cast-result-2 : goal.overflow_cast-result-2
+overflow_cast-result-2 c =
     let a = c.args in
-    omega (arith, examined_fits a.ingress a.payload.now a.slot a.k a.table.now _ c.table_good.ensures c.if-not-table_good.false c.if-k-n.false _ c.steps-m.ensures _ _ c.clear_portion.ensures _ c.in-Done.is)
+    omega (arith, examined_fits a.ingress a.payload.now a.slot a.k a.table.now _ c.table_good.ensures c.if-not-table_good.false c.if-k-n.false _ c.steps-m.ensures _ _ c.clear_portion.ensures _ (c.in_ok-s.was))
 
-pub overflow_cast-result-in-Done-2 : goal.overflow_cast-result-in-Done-2
-overflow_cast-result-in-Done-2 c =
+pub overflow_cast-result-3 : goal.overflow_cast-result-3
+overflow_cast-result-3 c =
     let a = c.args in
-    omega (arith, examined_fits a.ingress a.payload.now a.slot a.k a.table.now _ c.table_good.ensures c.if-not-table_good.false c.if-k-n.false _ c.steps-m.ensures _ _ c.clear_portion.ensures _ c.in-Done.is)
+    omega (arith, examined_fits a.ingress a.payload.now a.slot a.k a.table.now _ c.table_good.ensures c.if-not-table_good.false c.if-k-n.false _ c.steps-m.ensures _ _ c.clear_portion.ensures _ (c.in_ok-s.was))
 
-pub returns-in-Refused : goal.returns-in-Refused
-returns-in-Refused c = portion_corrupt _ _ _ _ _ _ c.table_good.ensures c.if-not-table_good.false c.if-k-n.false _ c.steps-m.ensures _ _ c.clear_portion.ensures _ c.in-Refused.is
+pub returns-in_err-s : goal.returns-in_err-s
+returns-in_err-s c = let q = err_from_is_err_and c.from_residual.result c.from_residual.ensures.1 in rw (q.1, q.2) (portion_corrupt _ _ _ _ _ _ c.table_good.ensures c.if-not-table_good.false c.if-k-n.false _ c.steps-m.ensures _ _ c.clear_portion.ensures _ (c.in_err-s.was))
 
-pub returns-in-Done : goal.returns-in-Done
-returns-in-Done c = portion_done _ _ _ _ _ _ c.table_good.ensures c.if-not-table_good.false c.if-k-n.false _ c.steps-m.ensures _ _ c.clear_portion.ensures _ c.in-Done.is
+pub returns : goal.returns
+returns c = portion_done _ _ _ _ _ _ c.table_good.ensures c.if-not-table_good.false c.if-k-n.false _ c.steps-m.ensures _ _ c.clear_portion.ensures _ (c.in_ok-s.was)

@@ -1,6 +1,6 @@
 -- `receive_call::receive_port` meets its contract: 1, 2, 21, what parsing refuses, or what the fields lead to.
+use Rattle.std.proofs.lemmas.Result.{err_from_is_err_and}
 use Rattle.receive_call.proofs.Laws.{settings_out, table_out, map_out, parse_out, holds, acted_out}
-use Rattle.frame_parse.proofs.Located.{parts_of}
 use Rattle.receive_call.proofs.receive_port.Goals as goal
 
 pub returns-then-not-settings_good : goal.returns-then-not-settings_good
@@ -17,12 +17,14 @@ returns-then-not-map_good_for_reading c = let a = c.args in
 
 pub act-requires : goal.act-requires
 act-requires c =
-    (holds _ _ c.settings_good.ensures c.if-not-settings_good.false, (holds _ _ c.table_good.ensures c.if-not-table_good.false, parts_of _ _ _ c.parse_mapped.ensures.parts c.in-Fields.is))
+    (holds _ _ c.settings_good.ensures c.if-not-settings_good.false, (holds _ _ c.table_good.ensures c.if-not-table_good.false, c.in_ok-p.ensures.parts))
 
-pub returns-in-Refused : goal.returns-in-Refused
-returns-in-Refused c = let a = c.args in
-    parse_out a.s a.map.now a.f.now a.table.now a.out.now _ c.settings_good.ensures c.if-not-settings_good.false _ c.table_good.ensures c.if-not-table_good.false _ c.map_good_for_reading.ensures c.if-not-map_good_for_reading.false _ c.parse_mapped.ensures _ c.in-Refused.is
+pub returns-in_err-p : goal.returns-in_err-p
+returns-in_err-p c =
+    let a = c.args in
+    let q = err_from_is_err_and c.from_residual.result c.from_residual.ensures.1 in
+    rw (q.1, q.2) (parse_out a.s a.map.now a.f.now a.table.now a.out.now _ c.settings_good.ensures c.if-not-settings_good.false _ c.table_good.ensures c.if-not-table_good.false _ c.map_good_for_reading.ensures c.if-not-map_good_for_reading.false _ c.in_err-p.ensures)
 
-pub returns-in-Fields : goal.returns-in-Fields
-returns-in-Fields c = let a = c.args in
-    acted_out a.s a.map.now a.f.now a.table.now a.out.now _ c.settings_good.ensures c.if-not-settings_good.false _ c.table_good.ensures c.if-not-table_good.false _ c.map_good_for_reading.ensures c.if-not-map_good_for_reading.false _ c.parse_mapped.ensures _ c.in-Fields.is _ c.act.ensures
+pub returns : goal.returns
+returns c = let a = c.args in
+    acted_out a.s a.map.now a.f.now a.table.now a.out.now _ c.settings_good.ensures c.if-not-settings_good.false _ c.table_good.ensures c.if-not-table_good.false _ c.map_good_for_reading.ensures c.if-not-map_good_for_reading.false _ c.in_ok-p.ensures _ c.act.ensures

@@ -1,5 +1,6 @@
 -- `receive_channel::handle` meets its contract: each way out is an outcome of the definition.
 use native.Mathlib.Omega.{arith}
+use Rattle.std.proofs.lemmas.Result.{err_from_is_err_and}
 use Rattle.frame_parse.specs.Meaning.{fields_in}
 use Rattle.receive_channel.proofs.Laws.{cut_out, bad_out, other_out, corrupt_out, flushed_out, few_cleared}
 use Rattle.table.proofs.Slots.{good_slots}
@@ -28,17 +29,19 @@ clear_meant-requires c = good_slots _ c.requires.1.1
 
 pub overflow_cast-result : goal.overflow_cast-result
 overflow_cast-result c =
-    let few = few_cleared c.args.v.ingress _ c.args.table.now _ _ c.requires.1.1 c.clear_meant.ensures _ c.in-Count.is in
+    let few = few_cleared c.args.v.ingress _ c.args.table.now _ c.requires.1.1 _ c.in_ok-n.ensures in
     record { fits = omega (arith, few) }
 
-pub returns-in-Refused : goal.returns-in-Refused
-returns-in-Refused c =
+pub returns-in_err-n : goal.returns-in_err-n
+returns-in_err-n c =
     let a = c.args in
     let p = fields_in a.f.now a.p in
-    λ o. corrupt_out a.s p a.v c.requires.1.0 a.table.now o _ c.after-c.ensures.0 c.if-c-lt-CHANNEL_BYTES.false _ c.channel_good.ensures c.if-not-channel_good.false _ c.channel_protocol.ensures c.if-channel_protocol-ne-FLUSH_PROTOCOL.false _ c.after-payload.ensures.0 _ _ c.clear_meant.ensures _ c.in-Refused.is
+    let q = err_from_is_err_and c.from_residual.result c.from_residual.ensures.1 in
+    rw (q.1, q.2)
+    (λ o. corrupt_out a.s p a.v c.requires.1.0 a.table.now o _ c.after-c.ensures.0 c.if-c-lt-CHANNEL_BYTES.false _ c.channel_good.ensures c.if-not-channel_good.false _ c.channel_protocol.ensures c.if-channel_protocol-ne-FLUSH_PROTOCOL.false _ c.after-payload.ensures.0 _ _ c.in_err-n.ensures)
 
-pub returns-in-Count : goal.returns-in-Count
-returns-in-Count c =
+pub returns : goal.returns
+returns c =
     let a = c.args in
     let p = fields_in a.f.now a.p in
-    λ o. flushed_out a.s p a.v c.requires.1.0 a.table.now o _ c.after-c.ensures.0 c.if-c-lt-CHANNEL_BYTES.false _ c.channel_good.ensures c.if-not-channel_good.false _ c.channel_protocol.ensures c.if-channel_protocol-ne-FLUSH_PROTOCOL.false _ c.after-payload.ensures.0 _ _ c.clear_meant.ensures _ c.in-Count.is
+    λ o. flushed_out a.s p a.v c.requires.1.0 a.table.now o _ c.after-c.ensures.0 c.if-c-lt-CHANNEL_BYTES.false _ c.channel_good.ensures c.if-not-channel_good.false _ c.channel_protocol.ensures c.if-channel_protocol-ne-FLUSH_PROTOCOL.false _ c.after-payload.ensures.0 _ _ c.in_ok-n.ensures

@@ -9,6 +9,6 @@ use Rattle.shinglebar.proofs.shinglebar_compact.Goals as goal
 pub returns : goal.returns
 returns c =
     let a = c.args in
-    rw c.convert_word.ensures
+    rw c.written_word.ensures.convert
     (ap (area_as convert_word) c.compact.ensures
     ∙ ap (λ (s : Settings). area_as convert_word (compacted s a.frame.now a.out.now)) c.settings-s.ensures)

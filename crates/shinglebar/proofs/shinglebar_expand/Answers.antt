@@ -10,6 +10,6 @@ use Rattle.shinglebar.proofs.shinglebar_expand.Goals as goal
 pub returns : goal.returns
 returns c =
     let a = c.args in
-    rw c.convert_word.ensures
+    rw c.written_word.ensures.convert
     (ap (area_as convert_word) c.expand.ensures
     ∙ ap (λ (s : Settings). area_as convert_word (expanded s (outer_of a.source a.tagged a.tag) a.frame.now a.out.now)) c.settings-s.ensures)

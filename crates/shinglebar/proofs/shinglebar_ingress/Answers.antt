@@ -10,6 +10,6 @@ use Rattle.shinglebar.proofs.shinglebar_ingress.Goals as goal
 pub returns : goal.returns
 returns c =
     let a = c.args in
-    rw c.convert_word.ensures
+    rw c.written_word.ensures.convert
     (ap (area_as convert_word) c.ingress.ensures
     ∙ ap (λ (s : Settings). area_as convert_word (ingressed s a.map.now (given_of a.destination a.source a.m a.hops a.egress a.ingress) a.frame.now a.out.now)) c.settings-s.ensures)

@@ -4,4 +4,4 @@ use Rattle.table.specs.Words.{lookup_word}
 use Rattle.shinglebar.proofs.shinglebar_lookup.Goals as goal
 
 pub returns : goal.returns
-returns c = c.lookup_word.ensures ∙ ap lookup_word c.lookup.ensures
+returns c = c.found_word.ensures.lookup ∙ ap lookup_word c.lookup.ensures

@@ -7,10 +7,11 @@ use Rattle.receive.specs.Words.{read_word, LabelFits}
 use Rattle.numbers.specs.After.{OnBoth, both_as}
 use mathlib.Core.Path.{sym, ap, subst, ◌∙◌}
 use Rattle.shinglebar.proofs.shinglebar_receive.Goals as goal
+use Rattle.numbers.specs.Result.{Outcome}
 
 pub read_word-requires : goal.read_word-requires
 unfolding received
-read_word-requires c = subst LabelFits (sym (ap (λ (x : OnBoth ReadAnswer). x.answer) c.receive.ensures)) (read_fits _ _ _ _ _)
+read_word-requires c = subst LabelFits (sym (ap (λ (x : OnBoth (Outcome ReadAnswer)). x.answer) c.receive.ensures)) (read_fits _ _ _ _ _)
 
 pub returns : goal.returns
 returns c =

@@ -5,4 +5,4 @@ use Rattle.report.specs.Report.{report_word}
 use Rattle.shinglebar.proofs.shinglebar_report.Goals as goal
 
 pub returns : goal.returns
-returns c = rw c.report_word.ensures (ap (area_as report_word) c.write_report.ensures)
+returns c = rw c.written_word.ensures.report (ap (area_as report_word) c.write_report.ensures)

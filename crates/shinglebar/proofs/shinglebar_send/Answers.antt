@@ -9,6 +9,6 @@ use Rattle.shinglebar.proofs.shinglebar_send.Goals as goal
 pub returns : goal.returns
 returns c =
     let a = c.args in
-    rw c.send_word.ensures
+    rw c.found_word.ensures.send
     (ap (area_as send_word) c.send.ensures
     ∙ ap (λ (s : Settings). area_as send_word (sent s a.frame.now a.work.now)) c.settings-s.ensures)

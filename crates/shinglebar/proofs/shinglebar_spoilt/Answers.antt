@@ -4,4 +4,4 @@ use Rattle.table.specs.Words.{spoilt_word}
 use Rattle.shinglebar.proofs.shinglebar_spoilt.Goals as goal
 
 pub returns : goal.returns
-returns c = c.spoilt_word.ensures ∙ ap spoilt_word c.lowest_spoilt.ensures
+returns c = c.found_word.ensures.spoilt ∙ ap spoilt_word c.lowest_spoilt.ensures

@@ -5,4 +5,4 @@ use Rattle.flush_write.specs.Words.{write_word}
 use Rattle.shinglebar.proofs.shinglebar_write_flush.Goals as goal
 
 pub returns : goal.returns
-returns c = rw c.write_word.ensures (ap (area_as write_word) c.write_flush.ensures)
+returns c = rw c.written_word.ensures.write (ap (area_as write_word) c.write_flush.ensures)

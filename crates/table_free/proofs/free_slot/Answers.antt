@@ -8,18 +8,18 @@ returns-then-not-table_good c = search free_refused
 
 pub overflow_cast-result : goal.overflow_cast-result
 overflow_cast-result c =
-    omega (arith, slot_fits c.args.table.now _ c.table_good.ensures c.if-not-table_good.false _ c.find_free-search.ensures _ c.in-At.is)
+    omega (arith, slot_fits c.args.table.now _ c.table_good.ensures c.if-not-table_good.false _ c.find_free-search.ensures _ c.in-Some.is)
 
-pub overflow_cast-result-in-At : goal.overflow_cast-result-in-At
-overflow_cast-result-in-At c =
+pub overflow_cast-result-in-Some : goal.overflow_cast-result-in-Some
+overflow_cast-result-in-Some c =
     omega (arith, unpacked_fits c.args.table.now _ c.table_good.ensures c.if-not-table_good.false _ c.find_free-search.ensures)
 
-pub overflow_cast-result-in-Nowhere : goal.overflow_cast-result-in-Nowhere
-overflow_cast-result-in-Nowhere c =
+pub overflow_cast-result-in-None : goal.overflow_cast-result-in-None
+overflow_cast-result-in-None c =
     omega (arith, unpacked_fits c.args.table.now _ c.table_good.ensures c.if-not-table_good.false _ c.find_free-search.ensures)
 
-pub returns-in-At : goal.returns-in-At
-returns-in-At c = search free_found_lem
+pub returns-in-Some : goal.returns-in-Some
+returns-in-Some c = search free_found_lem
 
-pub returns-in-Nowhere : goal.returns-in-Nowhere
-returns-in-Nowhere c = search free_full
+pub returns-in-None : goal.returns-in-None
+returns-in-None c = search free_full

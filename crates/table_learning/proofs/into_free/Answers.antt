@@ -6,8 +6,8 @@ use Rattle.table_learning.proofs.into_free.Goals as goal
 pub put-requires : goal.put-requires
 put-requires c = (search free_within, search rules)
 
-pub returns-in-At : goal.returns-in-At
-returns-in-At c = search free_filled
+pub returns-in-Some : goal.returns-in-Some
+returns-in-Some c = search free_filled
 
-pub returns-in-Nowhere : goal.returns-in-Nowhere
-returns-in-Nowhere c = search free_full
+pub returns-in-None : goal.returns-in-None
+returns-in-None c = search free_full

@@ -10,14 +10,14 @@ returns-then-h c =
 pub judge-requires : goal.judge-requires
 judge-requires c =
     let a = c.args in
-    (c.requires, learn_judges a.e a.table.now _ c.homes_of-h.ensures _ c.rival-p.ensures _ c.in-At.is)
+    (c.requires, learn_judges a.e a.table.now _ c.homes_of-h.ensures _ c.rival-p.ensures _ c.in-Some.is)
 
-pub returns-in-At : goal.returns-in-At
-returns-in-At c =
+pub returns-in-Some : goal.returns-in-Some
+returns-in-Some c =
     let a = c.args in
-    learn_judged a.e a.table.now _ c.homes_of-h.ensures c.if-h.false _ c.rival-p.ensures _ _ _ c.in-At.is c.judge.ensures
+    learn_judged a.e a.table.now _ c.homes_of-h.ensures c.if-h.false _ c.rival-p.ensures _ _ _ c.in-Some.is c.judge.ensures
 
-pub returns-in-Nowhere : goal.returns-in-Nowhere
-returns-in-Nowhere c =
+pub returns-in-None : goal.returns-in-None
+returns-in-None c =
     let a = c.args in
-    learn_free a.e a.table.now _ c.homes_of-h.ensures c.if-h.false _ c.rival-p.ensures _ _ c.in-Nowhere.is c.into_free.ensures
+    learn_free a.e a.table.now _ c.homes_of-h.ensures c.if-h.false _ c.rival-p.ensures _ _ c.in-None.is c.into_free.ensures

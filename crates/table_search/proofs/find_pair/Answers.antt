@@ -7,20 +7,20 @@ use native.Mathlib.Omega.{arith}
 use Rattle.table.specs.Slots.{first_slot}
 use Rattle.table.specs.Record.{label_from}
 use Rattle.table.specs.Table.{holds}
-use Rattle.table.specs.declared.Place.TheVariants.{Nowhere}
 use Rattle.table.proofs.Slots.{search_next, search_hit, search_end}
 use Rattle.table_pairs.specs.Pairs.{Pair, pair_good}
 use Rattle.table.proofs.Contents.{holds_near}
 use Rattle.table_search.proofs.Laws.{pair_nowhere}
 use borrow.Author.Rules.{rules}
 use Rattle.table_search.proofs.find_pair.Goals as goal
+use Rattle.std.specs.Prelude.{None}
 
 -- a good record can hold them
 pair : (kind label mac : ℕ) → (kind ≤ 1) × ((label < 2 ^ 24) × (mac < 2 ^ 48)) → (good : Bool) → good ≡ pair_good (label_from kind label) mac → good ≡ true → Pair kind label mac
 pair kind label mac small good e h = record { kind_small = small.0; label_small = small.1.0; mac_small = small.1.1; good = sym e ∙ h }
 
 -- there is none before slot 0
-none : (p : List ℕ → Bool) (t : List ℕ) → first_slot p 0 t ≡ Nowhere
+none : (p : List ℕ → Bool) (t : List ℕ) → first_slot p 0 t ≡ None
 unfolding first_slot
 none p t = refl
 

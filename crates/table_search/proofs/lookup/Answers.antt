@@ -8,13 +8,13 @@ pub returns-then-not-table_good : goal.returns-then-not-table_good
 returns-then-not-table_good c = search lookup_refused
 
 pub overflow_mul-k : goal.overflow_mul-k
-overflow_mul-k c = omega (arith, place_within c.args.kind c.args.label c.args.mac c.args.table.now c.in-At.k (sym c.in-At.ensures))
+overflow_mul-k c = omega (arith, place_within c.args.kind c.args.label c.args.mac c.args.table.now c.in-Some.k (sym c.in-Some.ensures))
 
-pub nickname_at-requires : goal.nickname_at-requires
-nickname_at-requires c = omega (arith, place_within c.args.kind c.args.label c.args.mac c.args.table.now c.in-At.k (sym c.in-At.ensures))
+pub nickname_at-nickname-requires : goal.nickname_at-nickname-requires
+nickname_at-nickname-requires c = omega (arith, place_within c.args.kind c.args.label c.args.mac c.args.table.now c.in-Some.k (sym c.in-Some.ensures))
 
-pub returns-in-At : goal.returns-in-At
-returns-in-At c = search lookup_found
+pub returns-in-Some : goal.returns-in-Some
+returns-in-Some c = search lookup_found
 
-pub returns-in-Nowhere : goal.returns-in-Nowhere
-returns-in-Nowhere c = search lookup_none
+pub returns-in-None : goal.returns-in-None
+returns-in-None c = search lookup_none

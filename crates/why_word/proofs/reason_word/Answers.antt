@@ -2,8 +2,8 @@
 use mathlib.Core.Path.{sym, ap, ◌∙◌}
 use Rattle.why.specs.Words.{why_word}
 use Rattle.why.specs.declared.Reason.{Reason}
-use Rattle.why.specs.declared.WhyAnswer.TheVariants.{Because}
 use Rattle.why_word.proofs.reason_word.Goals as goal
+use Rattle.std.specs.Prelude.{Ok}
 
 pub returns-in-Free : goal.returns-in-Free
 returns-in-Free c = rw c.in-Free.is
@@ -24,4 +24,4 @@ pub returns-in-MacNotMeant : goal.returns-in-MacNotMeant
 returns-in-MacNotMeant c = rw c.in-MacNotMeant.is
 
 pub returns-in-Cleared : goal.returns-in-Cleared
-returns-in-Cleared c = c.places_word.ensures ∙ ap (λ (q : Reason). why_word (Because q)) (sym c.in-Cleared.is)
+returns-in-Cleared c = c.places_word.ensures ∙ ap (λ (q : Reason). why_word (Ok q)) (sym c.in-Cleared.is)

@@ -9,6 +9,6 @@ use Rattle.shinglebar.proofs.watched.send.Goals as goal
 pub returns : goal.returns
 returns c =
     let a = c.args in
-    rw c.send_word.ensures
+    rw c.found_word.ensures.send
     (ap (watched_as send_word) c.send-k.ensures
     ∙ ap (λ (s : Settings). watched_as send_word (sent_watched s a.clock (watch_of a.left a.reading) a.frame.now a.work.now)) c.settings-s.ensures)
