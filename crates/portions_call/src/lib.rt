@@ -14,11 +14,7 @@ fn steps(slot: usize, k: usize, n: usize) -> usize
     requires { slot ≤ n }
     ensures { result ≡ portion_steps slot k n }
 {
-    let left = n - slot;
-    if k <= left {
-        return k;
-    }
-    left
+    k.min(n - slot)
 }
 
 // One portion of a flush: 2, then 24, then 15 for the whole payload.
