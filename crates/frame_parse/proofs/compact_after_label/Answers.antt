@@ -1,6 +1,5 @@
 -- `frame_parse::compact_after_label` meets its contract: each way out is an outcome of the definition.
 use native.Mathlib.Omega.{arith}
-use Rattle.std.proofs.lemmas.Result.{err_from_is_err_and}
 use Rattle.frame_parse.proofs.Outcomes.{reads_refused}
 use Rattle.frame_parse.proofs.Located.{compact_reads}
 use Rattle.frame_parse.proofs.General.{header_room}
@@ -20,23 +19,22 @@ pub returns-then-not-has_ethertype : goal.returns-then-not-has_ethertype
 returns-then-not-has_ethertype c = reads_refused _ _ _ (search type_bad)
 
 pub after-requires : goal.after-requires
-after-requires c = header_room _ _ _ c.in_ok-h.ensures
+after-requires c = header_room _ _ _ c.in-Ok.ensures
 
 pub returns-then-after-lt-LEAST_CONTENT : goal.returns-then-after-lt-LEAST_CONTENT
 returns-then-after-lt-LEAST_CONTENT c =
     let r = c.requires in
     reads_refused _ _ _
-    (content_cut _ r.0 _ r.1.0 _ c.after-l.ensures.0 c.if-l-lt-ETHERTYPE_BYTES.false _ c.has_ethertype.ensures c.if-not-has_ethertype.false _ c.after-g.ensures.0 _ _ c.in_ok-h.ensures c.after.ensures.0 c.if-after-lt-LEAST_CONTENT.true)
+    (content_cut _ r.0 _ r.1.0 _ c.after-l.ensures.0 c.if-l-lt-ETHERTYPE_BYTES.false _ c.has_ethertype.ensures c.if-not-has_ethertype.false _ c.after-g.ensures.0 _ _ c.in-Ok.ensures c.after.ensures.0 c.if-after-lt-LEAST_CONTENT.true)
 
-pub returns-in_err-h : goal.returns-in_err-h
-returns-in_err-h c =
+pub returns-in-Err : goal.returns-in-Err
+returns-in-Err c =
     let r = c.requires in
-    let q = err_from_is_err_and c.from_residual.result c.from_residual.ensures.1 in
-    rw (q.1, q.2) (reads_refused _ _ _
-    (header_refused _ r.0 _ r.1.0 _ c.after-l.ensures.0 c.if-l-lt-ETHERTYPE_BYTES.false _ c.has_ethertype.ensures c.if-not-has_ethertype.false _ c.after-g.ensures.0 _ c.in_err-h.ensures))
+    reads_refused _ _ _
+    (header_refused _ r.0 _ r.1.0 _ c.after-l.ensures.0 c.if-l-lt-ETHERTYPE_BYTES.false _ c.has_ethertype.ensures c.if-not-has_ethertype.false _ c.after-g.ensures.0 _ c.in-Err.ensures)
 
-pub returns : goal.returns
-returns c =
+pub returns-else-after-lt-LEAST_CONTENT : goal.returns-else-after-lt-LEAST_CONTENT
+returns-else-after-lt-LEAST_CONTENT c =
     let r = c.requires in
     compact_reads _ _ (omega arith) (omega arith) (omega arith)
-    (compact_whole _ r.0 _ r.1.0 _ c.after-l.ensures.0 c.if-l-lt-ETHERTYPE_BYTES.false _ c.has_ethertype.ensures c.if-not-has_ethertype.false _ c.after-g.ensures.0 _ _ c.in_ok-h.ensures c.after.ensures.0 c.if-after-lt-LEAST_CONTENT.false)
+    (compact_whole _ r.0 _ r.1.0 _ c.after-l.ensures.0 c.if-l-lt-ETHERTYPE_BYTES.false _ c.has_ethertype.ensures c.if-not-has_ethertype.false _ c.after-g.ensures.0 _ _ c.in-Ok.ensures c.after.ensures.0 c.if-after-lt-LEAST_CONTENT.false)

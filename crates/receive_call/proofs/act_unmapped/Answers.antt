@@ -1,33 +1,31 @@
 -- `receive_call::act_unmapped` meets its contract: each step of the decision, with the empty map.
 use mathlib.Core.List.{[]}
 use mathlib.Core.Path.{refl}
-use Rattle.std.proofs.lemmas.Result.{err_from_is_err_and}
 use Rattle.frame_parse.specs.Meaning.{fields_in}
 use Rattle.receive_deliver.specs.declared.Tag.TheVariants as tag
 use Rattle.receive_call.proofs.Laws.{act_refused, act_onward, act_channel, act_native, tag_empty}
 use Rattle.receive_call.proofs.act_unmapped.Goals as goal
 
-pub returns-in_err-decide : goal.returns-in_err-decide
-returns-in_err-decide c =
+pub returns-in-Err : goal.returns-in-Err
+returns-in-Err c =
     let a = c.args in
     let p = fields_in a.f.now a.p in
-    let q = err_from_is_err_and c.from_residual.result c.from_residual.ensures.1 in
-    rw (q.1, q.2) (act_refused [] a.s p a.table.now a.out.now _ (c.in_err-decide.ensures p c.read_values-v.ensures c.has_ethertype-is_channel.ensures))
+    act_refused [] a.s p a.table.now a.out.now _ (c.in-Err.ensures p c.read_values-v.ensures c.has_ethertype-is_channel.ensures)
 
 pub returns-in-Onward : goal.returns-in-Onward
 returns-in-Onward c =
     let a = c.args in
     let p = fields_in a.f.now a.p in
-    act_onward [] a.s p a.table.now a.out.now _ (c.in_ok-decide.ensures p c.read_values-v.ensures c.has_ethertype-is_channel.ensures) c.in-Onward.is
+    act_onward [] a.s p a.table.now a.out.now _ (c.in-Ok.ensures p c.read_values-v.ensures c.has_ethertype-is_channel.ensures) c.in-Onward.is
 
 pub returns-in-Channel : goal.returns-in-Channel
 returns-in-Channel c =
     let a = c.args in
     let p = fields_in a.f.now a.p in
-    act_channel [] a.s p a.table.now a.out.now _ (c.in_ok-decide.ensures p c.read_values-v.ensures c.has_ethertype-is_channel.ensures) c.in-Channel.is _ (c.handle.ensures a.out.now)
+    act_channel [] a.s p a.table.now a.out.now _ (c.in-Ok.ensures p c.read_values-v.ensures c.has_ethertype-is_channel.ensures) c.in-Channel.is _ (c.handle.ensures a.out.now)
 
 pub returns-in-Native : goal.returns-in-Native
 returns-in-Native c =
     let a = c.args in
     let p = fields_in a.f.now a.p in
-    act_native [] a.s p a.table.now a.out.now _ (c.in_ok-decide.ensures p c.read_values-v.ensures c.has_ethertype-is_channel.ensures) c.in-Native.is tag.Untagged (tag_empty [] refl p) _ c.deliver.ensures
+    act_native [] a.s p a.table.now a.out.now _ (c.in-Ok.ensures p c.read_values-v.ensures c.has_ethertype-is_channel.ensures) c.in-Native.is tag.Untagged (tag_empty [] refl p) _ c.deliver.ensures

@@ -1,14 +1,11 @@
 -- `receive_call::compact_mapped` meets its contract: the label after the addresses, then what is after it.
 use borrow.Author.Rules.{rules}
-use Rattle.std.proofs.lemmas.Result.{err_from_is_err_and}
 use Rattle.frame_parse.proofs.Outcomes.{reads_refused}
 use Rattle.frame_parse.proofs.Compact.{label_refused, label_got}
 use Rattle.receive_call.proofs.compact_mapped.Goals as goal
 
 pub compact_after_label-requires : goal.compact_after_label-requires
-compact_after_label-requires c = (search rules, (label_got _ c.requires.0 _ c.after.ensures.0 _ c.in_ok-k.ensures, search rules))
+compact_after_label-requires c = (search rules, (label_got _ c.requires.0 _ c.after.ensures.0 _ c.in-Ok.ensures, search rules))
 
-pub returns-in_err-k : goal.returns-in_err-k
-returns-in_err-k c =
-    let q = err_from_is_err_and c.from_residual.result c.from_residual.ensures.1 in
-    rw (q.1, q.2) (reads_refused _ _ _ (label_refused _ c.requires.0 _ c.after.ensures.0 _ c.in_err-k.ensures))
+pub returns-in-Err : goal.returns-in-Err
+returns-in-Err c = reads_refused _ _ _ (label_refused _ c.requires.0 _ c.after.ensures.0 _ c.in-Err.ensures)

@@ -2,7 +2,6 @@
 use mathlib.Core.List.{[]}
 use mathlib.Core.Bool.{true}
 use mathlib.Core.Path.{refl, sym}
-use Rattle.std.proofs.lemmas.Result.{err_from_is_err_and}
 use Rattle.receive_call.proofs.Laws.{settings_out, table_out, parse_out, holds, acted_out, none_out}
 use Rattle.receive.proofs.NoMap.{empty_good}
 use Rattle.receive_call.proofs.receive.Goals as goal
@@ -17,14 +16,13 @@ returns-then-not-table_good c = let a = c.args in
 
 pub act_unmapped-requires : goal.act_unmapped-requires
 act_unmapped-requires c =
-    (holds _ _ c.settings_good.ensures c.if-not-settings_good.false, (holds _ _ c.table_good.ensures c.if-not-table_good.false, c.in_ok-p.ensures.parts))
+    (holds _ _ c.settings_good.ensures c.if-not-settings_good.false, (holds _ _ c.table_good.ensures c.if-not-table_good.false, c.in-Ok.ensures.parts))
 
-pub returns-in_err-p : goal.returns-in_err-p
-returns-in_err-p c =
+pub returns-in-Err : goal.returns-in-Err
+returns-in-Err c =
     let a = c.args in
-    let q = err_from_is_err_and c.from_residual.result c.from_residual.ensures.1 in
-    rw (q.1, q.2) (none_out _ _ _ _ _ (parse_out a.s [] a.f.now a.table.now a.out.now _ c.settings_good.ensures c.if-not-settings_good.false _ c.table_good.ensures c.if-not-table_good.false true (sym empty_good) refl _ c.in_err-p.ensures))
+    none_out _ _ _ _ _ (parse_out a.s [] a.f.now a.table.now a.out.now _ c.settings_good.ensures c.if-not-settings_good.false _ c.table_good.ensures c.if-not-table_good.false true (sym empty_good) refl _ c.in-Err.ensures)
 
-pub returns : goal.returns
-returns c = let a = c.args in
-    none_out _ _ _ _ _ (acted_out a.s [] a.f.now a.table.now a.out.now _ c.settings_good.ensures c.if-not-settings_good.false _ c.table_good.ensures c.if-not-table_good.false true (sym empty_good) refl _ c.in_ok-p.ensures _ c.act_unmapped.ensures)
+pub returns-in-Ok : goal.returns-in-Ok
+returns-in-Ok c = let a = c.args in
+    none_out _ _ _ _ _ (acted_out a.s [] a.f.now a.table.now a.out.now _ c.settings_good.ensures c.if-not-settings_good.false _ c.table_good.ensures c.if-not-table_good.false true (sym empty_good) refl _ c.in-Ok.ensures _ c.act_unmapped.ensures)

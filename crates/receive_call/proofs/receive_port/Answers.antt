@@ -1,5 +1,4 @@
 -- `receive_call::receive_port` meets its contract: 1, 2, 21, what parsing refuses, or what the fields lead to.
-use Rattle.std.proofs.lemmas.Result.{err_from_is_err_and}
 use Rattle.receive_call.proofs.Laws.{settings_out, table_out, map_out, parse_out, holds, acted_out}
 use Rattle.receive_call.proofs.receive_port.Goals as goal
 
@@ -17,14 +16,13 @@ returns-then-not-map_good_for_reading c = let a = c.args in
 
 pub act-requires : goal.act-requires
 act-requires c =
-    (holds _ _ c.settings_good.ensures c.if-not-settings_good.false, (holds _ _ c.table_good.ensures c.if-not-table_good.false, c.in_ok-p.ensures.parts))
+    (holds _ _ c.settings_good.ensures c.if-not-settings_good.false, (holds _ _ c.table_good.ensures c.if-not-table_good.false, c.in-Ok.ensures.parts))
 
-pub returns-in_err-p : goal.returns-in_err-p
-returns-in_err-p c =
+pub returns-in-Err : goal.returns-in-Err
+returns-in-Err c =
     let a = c.args in
-    let q = err_from_is_err_and c.from_residual.result c.from_residual.ensures.1 in
-    rw (q.1, q.2) (parse_out a.s a.map.now a.f.now a.table.now a.out.now _ c.settings_good.ensures c.if-not-settings_good.false _ c.table_good.ensures c.if-not-table_good.false _ c.map_good_for_reading.ensures c.if-not-map_good_for_reading.false _ c.in_err-p.ensures)
+    parse_out a.s a.map.now a.f.now a.table.now a.out.now _ c.settings_good.ensures c.if-not-settings_good.false _ c.table_good.ensures c.if-not-table_good.false _ c.map_good_for_reading.ensures c.if-not-map_good_for_reading.false _ c.in-Err.ensures
 
-pub returns : goal.returns
-returns c = let a = c.args in
-    acted_out a.s a.map.now a.f.now a.table.now a.out.now _ c.settings_good.ensures c.if-not-settings_good.false _ c.table_good.ensures c.if-not-table_good.false _ c.map_good_for_reading.ensures c.if-not-map_good_for_reading.false _ c.in_ok-p.ensures _ c.act.ensures
+pub returns-in-Ok : goal.returns-in-Ok
+returns-in-Ok c = let a = c.args in
+    acted_out a.s a.map.now a.f.now a.table.now a.out.now _ c.settings_good.ensures c.if-not-settings_good.false _ c.table_good.ensures c.if-not-table_good.false _ c.map_good_for_reading.ensures c.if-not-map_good_for_reading.false _ c.in-Ok.ensures _ c.act.ensures
