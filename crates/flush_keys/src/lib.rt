@@ -40,13 +40,14 @@ fn applies_at(t: &[u8], at: usize, field: Field) -> bool
     }
 }
 
-// Makes the keys of slots. Each is stored, and counted where it applies and its number may be named: there is no branch on what is read.
+// Makes the keys of slots. By index, for one edit stores a key at its slot's place. Each is stored, and counted where it applies and its number may be named: there is no branch on what is read.
 pub fn keys_of(table: &[u8], field: Field, slots: &[u64], named: &[u8], keys: &mut [u64]) -> usize
     requires { InTable table.now slots.now × ((length slots.now ≤ length keys.old) × (length named.now ≡ bucket_bytes)) }
     ensures { (result ≤ length slots.now) × KeysOf (λ j. applies_to field (slot_at j table.now)) (λ j. number_in field (slot_at j table.now)) slots.now named.now (take result keys.new) }
 {
     let mut n = 0;
-    for &j in slots {
+    for i in 0..slots.len() {
+        let j = slots[i];
         let at = SLOT_BYTES * j as usize;
         let x = number_at(table, at, field);
         keys[n] = x * KEY_SLOTS + j;
