@@ -1,7 +1,7 @@
 // Filter bits of what a message names: made once for a message, before a number of a record is tested exactly.
 #![tactic(auto)]
 
-ghost use Rattle.std.specs.Prelude.{true, false, ◌≡◌, length};
+ghost use Rattle.std.specs.Prelude.{true, false, ◌/◌, ◌<◌, ◌≡◌, length};
 ghost use Rattle.numbers.specs.Numberings.{in_map};
 ghost use Rattle.flush.specs.Payload.{tlv, tlvs};
 ghost use Rattle.flush_parts.specs.Parts.{Narrow, parts_hit};
@@ -11,13 +11,27 @@ ghost use Rattle.flush_buckets.specs.Buckets.{bucket_bytes, HasBits, Names};
 use flush_parts::Naming;
 use numbers::Numbering;
 
+// How many parts of k bytes a value has: none and one without a division, which takes longer than to add a part.
+fn parts_of(v: &[u8], k: usize) -> usize
+    requires { 0 < k }
+    ensures { result ≡ length v.now / k }
+{
+    if v.len() < k {
+        return 0;
+    }
+    if v.len() - k < k {
+        return 1;
+    }
+    v.len() / k
+}
+
 // Adds the blocks of a value. Where the bits are full it answers true.
 fn add_blocks(v: &[u8], w: Numbering, bits: &mut [u8]) -> bool
     requires { Narrow w × (length bits.old ≡ bucket_bytes) }
     ensures { Names (parts_hit true w v.now) bits.old bits.new result }
 {
     let k = flush_parts::span_for(true, w);
-    for i in 0..v.len() / k {
+    for i in 0..parts_of(v, k) {
         let s = flush_parts::low_at(v, i * k, true, w);
         let e = flush_parts::past_at(v, i * k, true, w);
         if flush_buckets::add(s, e, bits) {
@@ -33,7 +47,7 @@ fn add_singles(v: &[u8], w: Numbering, bits: &mut [u8])
     ensures { Names (parts_hit false w v.now) bits.old bits.new false }
 {
     let k = flush_parts::span_for(false, w);
-    for i in 0..v.len() / k {
+    for i in 0..parts_of(v, k) {
         let x = flush_parts::low_at(v, i * k, false, w);
         flush_buckets::add_single(x, bits);
     }

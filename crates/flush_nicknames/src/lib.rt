@@ -315,8 +315,9 @@ fn add_fine(rest: &[u8], count: usize, near: &mut [u8])
     flush_named::add_where(rest, flush_parts::fine_naming(), FEW_SLOTS < count, near);
 }
 
-// The pass from slot k on, which may be the first that has a nickname that is meant. Where no slot is left nothing is prepared.
-fn mark_found<N: NameTest>(
+// The pass from slot k on, which may be the first that has a nickname that is meant. Where no slot is left nothing is prepared. ALONE says
+// whether fine-grained labels alone take a form of their own: with a list of nicknames the form for both kinds, without a branch, is faster.
+fn mark_found<N: NameTest, const ALONE: bool>(
     n: N,
     rest: &[u8],
     f: Kinds,
@@ -337,7 +338,7 @@ fn mark_found<N: NameTest>(
     if !f.every & (f.lists | f.maps) {
         let mut near = [0u8; BUCKET_BYTES];
         add_fine(rest, count, &mut near);
-        if (f.blocks == 0) & !f.vlans {
+        if ALONE & ((f.blocks == 0) & !f.vlans) {
             return mark_from(table, k, e, n, FinesAlone { near: &near }, marks);
         }
         let l = AnyKind {
@@ -370,7 +371,7 @@ fn mark_one(
     let e = from + count;
     let n = Single { one };
     let k = first_named(table, from, e, n);
-    mark_found(n, rest, f, table, k, e, count, marks)
+    mark_found::<Single, true>(n, rest, f, table, k, e, count, marks)
 }
 
 // The same, by a list of nicknames.
@@ -391,7 +392,7 @@ fn mark_several(
     let e = from + count;
     let n = Listed { names: &names };
     let k = first_by_rounds(table, from, e, n);
-    mark_found(n, rest, f, table, k, e, count, marks)
+    mark_found::<Listed, false>(n, rest, f, table, k, e, count, marks)
 }
 
 // Marks the slots of a range by nickname, state and kind of label, and answers how many it examined. A set of nicknames is made only where there is not one alone.

@@ -2,6 +2,7 @@
 use Prim.Native.Nat.{ℕ}
 use native.Mathlib.Omega.{arith}
 use lib.ListN.{length-replicate}
+use Rattle.numbers.proofs.Truth.{and_true}
 use Rattle.flush_marks.proofs.Bits.{zeros_none}
 use Rattle.flush_vlans.specs.Vlans.{vlan_bytes}
 use Rattle.flush_nicknames.proofs.First.{none_first, near_first, fine_first, plain_first, every_passes}
@@ -20,7 +21,7 @@ pub invariant_of-l-2 : goal.invariant_of-l-2
 invariant_of-l-2 g c = record { meant = every_passes _ c.args.f c.requires.1.1 _ c.vlan_set.ensures }
 
 pub returns-then-f-2 : goal.returns-then-f-2
-returns-then-f-2 g c = (c.mark_from.ensures.0, fine_first _ _ c.args.f c.requires.1.1 _ _ _ _ _ c.if-f.true c.if-f-2.true _ c.add_fine.ensures c.mark_from.ensures.1)
+returns-then-f-2 g c = (c.mark_from.ensures.0, fine_first _ _ c.args.f c.requires.1.1 _ _ _ _ _ c.if-f.true (and_true _ _ c.if-f-2.true).1 _ c.add_fine.ensures c.mark_from.ensures.1)
 
 pub returns-then-f : goal.returns-then-f
 returns-then-f g c = (c.mark_from-then-f.ensures.0, near_first _ _ c.args.f c.requires.1.1 _ _ _ _ _ c.vlan_set.ensures _ c.if-f.true _ c.add_fine.ensures c.mark_from-then-f.ensures.1)
