@@ -1,16 +1,6 @@
--- `port_map_pairs::label_for` meets its contract: `find` stops at the first pair that is the one sought.
-use Rattle.std.proofs.Common.{rules, tests, eqb}
-use Rattle.std.proofs.lemmas.Iterator.{YieldsList-from_slice}
-use Rattle.std.proofs.lemmas.Iterator.Search.{find_from_yields_List}
-use Rattle.port_map_pairs.proofs.Laws.{label_of_first}
+-- `port_map_pairs::label_for` meets its contract: of what the three calls say.
+use Rattle.port_map_pairs.proofs.Laws.{label_from_lem}
 use Rattle.port_map_pairs.proofs.label_for.Goals as goal
 
-pub returns-in-Some : goal.returns-in-Some
-returns-in-Some c =
-    let f = find_from_yields_List (λ p. eqb p.vlan.0 c.args.v.0) _ _ c.find.result c.find.ensures.ran (YieldsList-from_slice c.args.map.now c.iter.ensures.rest) (λ x b q k. search (rules, tests)) in
-    label_of_first c.args.v c.args.map.now _ (rw c.in-Some.is at f)
-
-pub returns-in-None : goal.returns-in-None
-returns-in-None c =
-    let f = find_from_yields_List (λ p. eqb p.vlan.0 c.args.v.0) _ _ c.find.result c.find.ensures.ran (YieldsList-from_slice c.args.map.now c.iter.ensures.rest) (λ x b q k. search (rules, tests)) in
-    label_of_first c.args.v c.args.map.now _ (rw c.in-None.is at f)
+pub returns : goal.returns
+returns c = label_from_lem _ _ _ _ _ c.of_vlan-q.ensures c.scan-f.ensures c.label_in.ensures
