@@ -34,7 +34,11 @@ pub fn send_where(
     if work.len() < COMPACT_ROOM {
         return Err(Refusal::AreaShort);
     }
-    let p = convert_compact::general_fields(s.port, frame)?;
+    // No `?`: the edit compact_in_front changes an arm.
+    let p = match convert_compact::general_fields(s.port, frame) {
+        Ok(p) => p,
+        Err(r) => return Err(r),
+    };
     if !may_compact(on, s, numbers::be6(frame, p.dst_offset)) {
         return Ok(None);
     }

@@ -147,7 +147,11 @@ pub fn clear_meant(ingress: u32, payload: &[u8], table: &mut [u8]) -> Result<usi
     ensures { on_table result table.new ≡ cleared_on table.old (clearing every_type ingress payload.now table.old) }
 {
     let n = table.len() / SLOT_BYTES;
-    let s = clear_portion(ingress, payload, 0, n, table)?;
+    // No `?`: the edit corrupt_cleared changes an arm.
+    let s = match clear_portion(ingress, payload, 0, n, table) {
+        Ok(s) => s,
+        Err(r) => return Err(r),
+    };
     Ok(s.cleared)
 }
 

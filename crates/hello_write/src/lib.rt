@@ -240,7 +240,11 @@ fn put_payload(area: &[u8], out: &mut [u8])
 pub fn hello_write(contents: &[u8], out: &mut [u8]) -> Result<usize, Refusal>
     ensures { on_area result out.new ≡ write_call contents.now out.old }
 {
-    let n = judge(contents)?;
+    // No `?`: the edit missing_first changes an arm.
+    let n = match judge(contents) {
+        Ok(n) => n,
+        Err(r) => return Err(r),
+    };
     if out.len() < n {
         return Err(Refusal::AreaShort);
     }

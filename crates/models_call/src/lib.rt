@@ -38,7 +38,11 @@ pub fn flush_vlan_only(ingress: u32, payload: &[u8], table: &mut [u8]) -> Result
     if !table_records::table_good(table) {
         return Err(Refusal::TableLengthBad);
     }
-    let f = flush_payload::judge(Model::VlanOnly, payload)?;
+    // No `?`: the edit corrupt_cleared changes an arm.
+    let f = match flush_payload::judge(Model::VlanOnly, payload) {
+        Ok(f) => f,
+        Err(r) => return Err(r),
+    };
     let k = flush_payload::nick_bytes(payload);
     let a = 1 + k;
     let s = 2 + k;

@@ -111,6 +111,10 @@ pub fn explain(ingress: u32, payload: &[u8], slot: usize, table: &[u8]) -> Resul
         return Err(Refusal::PortionBad);
     }
     let at = SLOT_BYTES * slot;
-    let f = judge(payload)?;
+    // No `?`: the edit corrupt_24 changes an arm.
+    let f = match judge(payload) {
+        Ok(f) => f,
+        Err(r) => return Err(r),
+    };
     Ok(slot_reason(ingress, payload, f, table, at))
 }

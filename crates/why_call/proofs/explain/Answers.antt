@@ -2,7 +2,6 @@
 use Rattle.why_call.proofs.Laws.{why_table, why_past, why_corrupt, good_parts, why_because}
 use mathlib.Core.Path.{refl}
 use borrow.Author.Rules.{rules}
-use Rattle.std.proofs.lemmas.Result.{err_from_is_err_and}
 use Rattle.why_call.proofs.explain.Goals as goal
 
 pub returns-then-not-table_good : goal.returns-then-not-table_good
@@ -12,10 +11,10 @@ pub returns-then-table-slot : goal.returns-then-table-slot
 returns-then-table-slot c = search why_past
 
 pub slot_reason-requires : goal.slot_reason-requires
-slot_reason-requires c = (search (good_parts, c.in_ok-f.ensures), search rules)
+slot_reason-requires c = (search (good_parts, c.in-Ok.ensures), search rules)
 
-pub returns-in_err-f : goal.returns-in_err-f
-returns-in_err-f c = let q = err_from_is_err_and c.from_residual.result c.from_residual.ensures.1 in rw (q.1, q.2) (search (why_corrupt, c.in_err-f.ensures))
+pub returns-in-Err : goal.returns-in-Err
+returns-in-Err c = search (why_corrupt, c.in-Err.ensures)
 
 pub returns : goal.returns
-returns c = why_because _ _ _ _ _ c.table_good.ensures c.if-not-table_good.false c.if-table-slot.false _ c.in_ok-f.ensures _ refl _ c.slot_reason.ensures
+returns c = why_because _ _ _ _ _ c.table_good.ensures c.if-not-table_good.false c.if-table-slot.false _ c.in-Ok.ensures _ refl _ c.slot_reason.ensures
