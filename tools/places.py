@@ -113,7 +113,7 @@ def count(commit):
                 put("1 constants that number a refusal", at, line)
             if re.search(r"\bfn .*\b(kind|state): (u8|u32|u64)", line) or re.match(r"    (kind|state): (u8|u32|u64),", line):
                 put("1 parameters that number a kind or a state", at, line)
-            if re.search(r"(Refused|Err)\((\w)\) => ([\w:]+::)?(Refused|Err)\(\2\)", line):
+            if re.search(r"(Refused|Err)\((\w)\) => (?:return )?([\w:]+::)?(Refused|Err)\(\2\)", line):
                 put("1 arms that hand a refusal on", at, line)
             if re.match(r"\s*while ", line):
                 put("3 while loops", at, line)
