@@ -17,7 +17,7 @@ use Rattle.ingress.proofs.ReadBack.{read_back_lem}
 
 pub map_cases : MapCases
 unfolding pick both either any_of between num bytes_of starts_with parts parts_from individual nickname_good vlan_good check and_then addresses_good seconds_good numbers_good later_good settings_good frame_length_good general_tail pair_of pairs_in good_once pairs_good map_good label_for given_good hops_good nicks_good native_parsed destination_agrees header_of fine_label fields_for general_for judged ingressing
-map_cases = record { plain = refl; dei = refl; content_cut = refl; tag_cut = refl; no_tag = refl; no_map = refl; answer = read_back_lem.0; native = read_back_lem.1 }
+map_cases = record { plain = refl; dei = refl; content_cut = refl; tag_cut = refl; no_tag = refl; no_map = refl; cut_number = refl; label_number = refl; pair_number = refl; answer = read_back_lem.0; native = read_back_lem.1 }
 
 pub ingress_refusal : IngressRefusal
 unfolding ingressed

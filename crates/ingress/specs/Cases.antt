@@ -10,6 +10,7 @@ use Rattle.receive.specs.declared.ReadAnswer.{ReadAnswer}
 use Rattle.ingress.specs.Ingress.{ingressing}
 use Rattle.ingress.specs.declared.Given.{Given}
 use Rattle.numbers.specs.Result.{Outcome}
+use Rattle.numbers.specs.Refusals.{number_of}
 use Rattle.numbers.specs.declared.refusals.Refusal.TheVariants.{CutShort, LabelBad, NoPair}
 
 abbrev pub near_port : Settings
@@ -73,6 +74,10 @@ pub record MapCases : Type 0 where
   pub tag_cut : ingressing near_port map_bytes given (take 15 (native_with 0x60)) ≡ Err CutShort
   pub no_tag : ingressing near_port map_bytes given untagged ≡ Err LabelBad
   pub no_map : ingressing near_port [] given (native_with 0x60) ≡ Err NoPair
+  -- the numbers of these refusals: 6, 10 and 22
+  pub cut_number : number_of CutShort ≡ 6
+  pub label_number : number_of LabelBad ≡ 10
+  pub pair_number : number_of NoPair ≡ 22
   -- "the native bytes, answer 0xABCDEF0100001441"
   pub answer : read_word read_back.answer ≡ 0xABCD_EF01_0000_1441
   pub native : read_back.out ≡ native_with 0x60

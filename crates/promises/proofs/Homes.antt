@@ -34,4 +34,4 @@ none_as_before life s p t none unique = learnt_before_lem (learned_entry life s 
 
 pub marked_read : MarkedRead
 unfolding pick both either any_of between check and_then settled num bytes_of starts_with laid individual nickname_good vlan_good label_from entry_of entry_good held slot_of marked_slot unpacked record_number packed entry_matches table_good on_slots first_slot lowest holds holds_configured holds_learned holds_unmarked holds_marked rival_of cleared_pair room_for judged_at free_slot into_free judged learnt is_marked addresses_good seconds_good numbers_good later_good settings_good trill_group control_address reserved_group front_refused front_of header_length label_length label_read native_bytes compact_after compact frame_length_good by_front parsed ingress_allowed nicknames_good is_onward learned_entry taught parts parts_from pairs_in good_once pairs_good map_good stays native_out delivery acted reading received_with port_received received
-marked_read = record { first = refl; second = refl; not_first = refl; not_second = refl; none = refl; beyond = refl }
+marked_read = record { first = refl; second = refl; not_first = refl; not_second = refl; none = refl; beyond = refl; beyond_number = refl }

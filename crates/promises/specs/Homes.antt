@@ -10,6 +10,7 @@ use Rattle.frame.specs.declared.Settings.{Settings}
 use Rattle.receive.specs.Receive.{learned_entry, received}
 use Rattle.promises.specs.Cases.{far_port, p1}
 use Rattle.promises.specs.Example.{out_before}
+use Rattle.numbers.specs.Refusals.{number_of}
 use Rattle.numbers.specs.declared.refusals.Refusal.TheVariants.{SettingsBad}
 
 -- with the setting none, where no pair stands twice, a frame is learned as document 01 says: answer and bytes
@@ -51,3 +52,5 @@ pub record MarkedRead : Type 0 where
   pub not_second : learned_of 2 0x20 ≡ p1
   pub none : learned_of 0 0x30 ≡ p1
   pub beyond : (received (port_with 3) (frame_with 0x20) freed out_before).answer ≡ Err SettingsBad
+  -- which is 1
+  pub beyond_number : number_of SettingsBad ≡ 1
